@@ -7,7 +7,7 @@ use Rattle.sample_core.specs.ValueView.{datum_of}
 use Rattle.cell_core.specs.Entries.{entries_of}
 use Rattle.cell_core.specs.declared.entry.Entry.{Entry}
 use Rattle.cell_core.specs.Cell.{Cell, queue, due, enqueue, count_down}
-use Rattle.cell_core.specs.Queue.{behind, place, fronted, IsPassed, IsFront, then_found, Gathers}
+use Rattle.cell_core.specs.Queue.{times_behind, place, fronted, IsPassed, IsFront, then_found, Gathers}
 
 -- one that is due is out
 pub due-passes : (d : ℕ) (out : Datum) (left : ℕ) (v : Datum) (es : List (ℕ × Datum)) → left ≤ d → due d out ((left, v) ∷ es) ≡ due d v es
@@ -31,24 +31,24 @@ count_down-fronted d es now (suc n) =
     ∙ ap (λ xs. ((place es n).0 - (now + d), (place es n).1) ∷ xs) (count_down-fronted d es now n)
 
 -- time goes on for those behind
-count_down-behind : (d t : ℕ) (es : List (ℕ × Datum)) → count_down d (behind t es) ≡ behind (t - d) es
+count_down-behind : (d t : ℕ) (es : List (ℕ × Datum)) → count_down d (times_behind t es) ≡ times_behind (t - d) es
 count_down-behind d t [] = refl
 count_down-behind d t (e ∷ es) =
     let swapped : t - e.0 - d ≡ t - d - e.0 = omega arith in
-    count_down-append d (behind (t - e.0) es) ((t, e.1) ∷ [])
-    ∙ ap (λ xs. xs ++ (t - d, e.1) ∷ []) (count_down-behind d (t - e.0) es ∙ ap (λ u. behind u es) swapped)
+    count_down-append d (times_behind (t - e.0) es) ((t, e.1) ∷ [])
+    ∙ ap (λ xs. xs ++ (t - d, e.1) ∷ []) (count_down-behind d (t - e.0) es ∙ ap (λ u. times_behind u es) swapped)
 
 -- where one that is due comes last, all pass
 all_pass : (d t : ℕ) (es : List (ℕ × Datum)) (out : Datum) (u : ℕ) (v : Datum) (more : List (ℕ × Datum)) → t ≤ d → u ≤ d
-    → due d out (behind t es ++ (u, v) ∷ more) ≡ due d v more
+    → due d out (times_behind t es ++ (u, v) ∷ more) ≡ due d v more
 all_pass d t [] out u v more h k = due-passes d out u v more k
 all_pass d t (e ∷ es) out u v more h k =
-    ap (due d out) (append_assoc (behind (t - e.0) es) ((t, e.1) ∷ []) ((u, v) ∷ more))
+    ap (due d out) (append_assoc (times_behind (t - e.0) es) ((t, e.1) ∷ []) ((u, v) ∷ more))
     ∙ all_pass d (t - e.0) es out t e.1 ((u, v) ∷ more) (omega arith) h
     ∙ due-passes d e.1 u v more k
 
 -- the newest of those behind is due
-pub behind-passes : (d t : ℕ) (out : Datum) (e : ℕ × Datum) (es : List (ℕ × Datum)) → t ≤ d → due d out (behind t (e ∷ es)) ≡ (e.1, [])
+pub behind-passes : (d t : ℕ) (out : Datum) (e : ℕ × Datum) (es : List (ℕ × Datum)) → t ≤ d → due d out (times_behind t (e ∷ es)) ≡ (e.1, [])
 behind-passes d t out e es h = all_pass d (t - e.0) es out t e.1 [] (omega arith) h
 
 last-by : (b : Bool) (d : ℕ) (out : Datum) (e : ℕ × Datum) (es : List (ℕ × Datum)) (t : ℕ) (v : Datum)
@@ -74,26 +74,26 @@ waits_on d es now (suc n) out more h k =
 
 -- a step where some in front still wait
 pub moved_on : (q d now from to : ℕ) (es back : List (ℕ × Datum)) (x : Datum) (r : Cell × Datum) → IsPassed es now d from to → 0 < to
-    → (queue q (place es to).1 (fronted es (now + d) to ++ behind q ((d, x) ∷ back)), (place es to).1) ≡ r
-    → enqueue q x (due d (place es from).1 (fronted es now from ++ behind q back)) ≡ r
+    → (queue q (place es to).1 (fronted es (now + d) to ++ times_behind q ((d, x) ∷ back)), (place es to).1) ≡ r
+    → enqueue q x (due d (place es from).1 (fronted es now from ++ times_behind q back)) ≡ r
 moved_on q d now from to es back x r p h is =
-    ap (enqueue q x) (p.1 (behind q back) ∙ waits_on d es now to (place es to).1 (behind q back) h (p.2 h)
-    ∙ ap (λ xs. ((place es to).1, xs)) (count_down-append d (fronted es now to) (behind q back)
+    ap (enqueue q x) (p.1 (times_behind q back) ∙ waits_on d es now to (place es to).1 (times_behind q back) h (p.2 h)
+    ∙ ap (λ xs. ((place es to).1, xs)) (count_down-append d (fronted es now to) (times_behind q back)
     ∙ ap₂ (λ f b. f ++ b) (count_down-fronted d es now to) (count_down-behind d q back)))
-    ∙ ap (λ xs. (queue q (place es to).1 xs, (place es to).1)) (append_assoc (fronted es (now + d) to) (behind (q - d) back) ((q, x) ∷ []))
+    ∙ ap (λ xs. (queue q (place es to).1 xs, (place es to).1)) (append_assoc (fronted es (now + d) to) (times_behind (q - d) back) ((q, x) ∷ []))
     ∙ is
 
 -- the newest of those behind waits
 pub one_found : (d t left s : ℕ) (out v : Datum) (back next es found : List (ℕ × Datum)) (all : Datum × List (ℕ × Datum)) → d < t
-    → then_found (due d out (behind t ((s, v) ∷ back))) es ≡ all → found ≡ es ++ (t - d, v) ∷ [] → left ≡ t - s → back ≡ next
-    → then_found (due d out (behind left next)) found ≡ all
+    → then_found (due d out (times_behind t ((s, v) ∷ back))) es ≡ all → found ≡ es ++ (t - d, v) ∷ [] → left ≡ t - s → back ≡ next
+    → then_found (due d out (times_behind left next)) found ≡ all
 one_found d t left s out v back next es found all h is more later same =
-    let r : Datum × List (ℕ × Datum) = due d out (behind (t - s) back) in
-    ap (λ u. then_found (due d out (behind u next)) found) later
-    ∙ ap (λ b. then_found (due d out (behind (t - s) b)) found) (sym same)
+    let r : Datum × List (ℕ × Datum) = due d out (times_behind (t - s) back) in
+    ap (λ u. then_found (due d out (times_behind u next)) found) later
+    ∙ ap (λ b. then_found (due d out (times_behind (t - s) b)) found) (sym same)
     ∙ ap (λ xs. (r.0, r.1 ++ xs)) (ap reverse more ∙ reverse-append es ((t - d, v) ∷ []))
     ∙ ap (λ xs. (r.0, xs)) (sym (append_assoc r.1 ((t - d, v) ∷ []) (reverse es)))
-    ∙ ap (λ u. then_found u es) (sym (due-last d out (behind (t - s) back) t v h))
+    ∙ ap (λ u. then_found u es) (sym (due-last d out (times_behind (t - s) back) t v h))
     ∙ is
 
 -- those in front but the first, by one more before them
@@ -138,27 +138,27 @@ pub one_due : (d t : ℕ) (e : ℕ × Datum) (all back es front : List (ℕ × D
     → Gathers d t all es None front
 one_due d t e all back es front is h more = λ out older.
     all_found es front e.1 _
-    (ap (λ r. then_found r es) (sym (behind-passes d t out e (back ++ older) h)) ∙ ap (λ xs. then_found (due d out (behind t (xs ++ older))) es) (sym is)) more
+    (ap (λ r. then_found r es) (sym (behind-passes d t out e (back ++ older) h)) ∙ ap (λ xs. then_found (due d out (times_behind t (xs ++ older))) es) (sym is)) more
 
 -- the newest of those behind waits, and those before it are found
 pub gathers_on : (d t left : ℕ) (e : ℕ × Datum) (all back es found fs : List (ℕ × Datum)) (r : Option ℕ) → all ≡ e ∷ back → d < t
     → found ≡ es ++ (t - d, e.1) ∷ [] → left ≡ t - e.0 → Gathers d left back found r fs → Gathers d t all es r fs
 gathers_on d t left e all back es found fs (Some rest) is h more later g = λ out older.
-    ap (λ xs. then_found (due d out (behind t (xs ++ older))) es) is
+    ap (λ xs. then_found (due d out (times_behind t (xs ++ older))) es) is
     ∙ sym (one_found d t left e.0 out e.1 (back ++ older) (back ++ older) es found _ h refl more later refl)
     ∙ g out older
 gathers_on d t left e all back es found fs None is h more later g = λ out older.
     subst (IsFront fs)
     (one_found d t left e.0 out e.1 (back ++ older) (back ++ older) es found _ h refl more later refl
-    ∙ ap (λ xs. then_found (due d out (behind t (xs ++ older))) es) (sym is))
+    ∙ ap (λ xs. then_found (due d out (times_behind t (xs ++ older))) es) (sym is))
     (g out older)
 
 -- all behind are found, and what was out in front comes last
 pub gathered : (d t left : ℕ) (out v : Datum) (back older es found front : List (ℕ × Datum)) (all : Datum × List (ℕ × Datum)) (r : Option ℕ)
-    → then_found (due d out (behind t (back ++ older))) es ≡ all → Gathers d t back es r found → r ≡ Some left → older ≡ [] → out ≡ v
+    → then_found (due d out (times_behind t (back ++ older))) es ≡ all → Gathers d t back es r found → r ≡ Some left → older ≡ [] → out ≡ v
     → front ≡ found ++ (0, v) ∷ [] → IsFront front all
 gathered d t left out v back older es found front all r is g rest none same more =
     let through : Gathers d t back es (Some left) found = subst (λ o. Gathers d t back es o found) rest g in
     all_found found front v all
-    (ap (λ o. then_found (o, []) found) (sym same) ∙ ap (λ xs. then_found (due d out (behind left xs)) found) (sym none) ∙ sym (through out older) ∙ is)
+    (ap (λ o. then_found (o, []) found) (sym same) ∙ ap (λ xs. then_found (due d out (times_behind left xs)) found) (sym none) ∙ sym (through out older) ∙ is)
     more

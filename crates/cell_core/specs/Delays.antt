@@ -2,7 +2,7 @@
 use Rattle.std.specs.Prelude.{◌≡◌, ℕ, List, ◌∷◌, ◌++◌, length}
 use Rattle.sample_core.specs.Datum.{Datum}
 use Rattle.cell_core.specs.Cell.{Cell, queue, due, enqueue}
-use Rattle.cell_core.specs.Queue.{behind, place, within, fronted, IsFront}
+use Rattle.cell_core.specs.Queue.{times_behind, place, place_within, fronted, IsFront}
 use Rattle.cell_core.specs.Earlier.{back_of}
 use Rattle.cell_core.specs.declared.behind.Behind.{Behind}
 use Rattle.cell_core.specs.declared.front.Front.{Front}
@@ -14,11 +14,11 @@ front_of f = f.entries
 -- the queue at that age of the front, from the place of what is out and those behind
 abbrev pub queue_of : Front → ℕ → ℕ → List (ℕ × Datum) → Cell
 queue_of f age at back =
-    queue f.q (place (front_of f) at).1 (fronted (front_of f) age at ++ behind f.q back)
+    queue f.q (place (front_of f) at).1 (fronted (front_of f) age at ++ times_behind f.q back)
 
 -- where in front what is out stands
 abbrev pub out_in : Front → Behind → ℕ
-out_in f n = within (length f.entries) n.at
+out_in f n = place_within (length f.entries) n.at
 
 -- the cell that these are
 abbrev pub delay_of : Front → Behind → Cell
@@ -34,7 +34,7 @@ IsJoined f age at back r = (queue_of f age at back, (place (front_of f) at).1) �
 
 -- what is out and what waits dt later, where all in front has passed
 abbrev pub through : Front → Behind → ℕ → Datum × List (ℕ × Datum)
-through f n dt = due dt (place (front_of f) 0).1 (behind f.q (back_of n))
+through f n dt = due dt (place (front_of f) 0).1 (times_behind f.q (back_of n))
 
 -- the queue and the answer after dt more, where all in front has passed, with v in it
 abbrev pub IsTurnedOver : Front → Behind → ℕ → Datum → Cell × Datum → Type 0

@@ -5,17 +5,17 @@ use Rattle.cell_core.specs.Cell.{Cell, queue, due}
 
 -- the time that is left to each of those behind, the oldest first, where t is left to the newest;
 -- in the list each has its step since the one before it
-abbrev pub behind : ℕ → List (ℕ × Datum) → List (ℕ × Datum)
-behind t [] = []
-behind t (e ∷ es) = behind (t - e.0) es ++ (t, e.1) ∷ []
+abbrev pub times_behind : ℕ → List (ℕ × Datum) → List (ℕ × Datum)
+times_behind t [] = []
+times_behind t (e ∷ es) = times_behind (t - e.0) es ++ (t, e.1) ∷ []
 
 -- the time at which the one at a place in front is due, and its value
 abbrev pub place : List (ℕ × Datum) → ℕ → ℕ × Datum
 place es n = get_or es n (0, unit)
 
 -- a place in front, or the last where there are only n
-abbrev pub within : ℕ → ℕ → ℕ
-within n at = if nat_lt at n then at else n - 1
+abbrev pub place_within : ℕ → ℕ → ℕ
+place_within n at = if nat_lt at n then at else n - 1
 
 -- the time that is left at now to each of the first n in front, the oldest first
 abbrev pub fronted : List (ℕ × Datum) → ℕ → ℕ → List (ℕ × Datum)
@@ -57,7 +57,7 @@ IsFront es r = (0 < length es)
 abbrev pub Gathers : ℕ → ℕ → List (ℕ × Datum) → List (ℕ × Datum) → Option ℕ → List (ℕ × Datum)
     → Type 0
 Gathers d t back es (Some left) fs = (out : Datum) (older : List (ℕ × Datum))
-    → then_found (due d out (behind t (back ++ older))) es
-    ≡ then_found (due d out (behind left older)) fs
+    → then_found (due d out (times_behind t (back ++ older))) es
+    ≡ then_found (due d out (times_behind left older)) fs
 Gathers d t back es None fs = (out : Datum) (older : List (ℕ × Datum))
-    → IsFront fs (then_found (due d out (behind t (back ++ older))) es)
+    → IsFront fs (then_found (due d out (times_behind t (back ++ older))) es)

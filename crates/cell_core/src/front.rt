@@ -1,7 +1,7 @@
 // What waits in front in a `delay`.
 
 ghost use Rattle.std.specs.Prelude.{◌≡◌, ◌<◌, length};
-ghost use Rattle.cell_core.specs.{Queue.IsPassed, Queue.within as placed};
+ghost use Rattle.cell_core.specs.{Queue.IsPassed, Queue.place_within as placed};
 
 use crate::entry::Entries;
 

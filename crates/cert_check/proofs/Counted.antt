@@ -7,7 +7,7 @@ use Rattle.net_meaning.specs.Typing.{Arrow, arrow, copies, members}
 use Rattle.net_tree.specs.Place as P
 use Rattle.net_tree.specs.Place.{Tree, a_network, a_leaf, p_switch_child, member_child, event_child, continuation_child}
 use Rattle.net_syntax.specs.Placed.{Bound, bound_in, bound_behind, bound_started, placed, placed_at}
-use Rattle.net_syntax.specs.Standing.{Standing, ChildStands, continuation_in_switch, continuation_in_d_switch, continuation_in_r_switch, continuation_in_k_switch, member_in_p_switch, event_in_p_switch, continuation_in_p_switch, continuation_in_dr_switch, member_in_rp_switch, choice_in_rp_switch, continuation_in_rp_switch, StandsAt, at_network, inside_network, inside_expression}
+use Rattle.net_syntax.specs.Standing.{Standing, ChildStands, continuation_in_switch, continuation_in_r_switch, continuation_in_k_switch, member_in_p_switch, event_in_p_switch, continuation_in_p_switch, member_in_rp_switch, choice_in_rp_switch, continuation_in_rp_switch, StandsAt, at_network, inside_network, inside_expression}
 use Rattle.net_syntax.proofs.Children.{event_is, continuation_is}
 
 -- R has as much more in scope than the types Ps and Os as b says
@@ -28,8 +28,6 @@ child_counts : (Ps : List TypeTree) (Os : List Arrow) (A : TypeTree) (net : Netw
     → Counts Ps Os (bound_in net k) R
 child_counts Ps Os A net k R (continuation_in_switch {C = C} d) =
     record { params_are = omega (arith, length-append Ps (C ∷ [])); olds_are = omega arith }
-child_counts Ps Os A net k R (continuation_in_d_switch {C = C} d) =
-    record { params_are = omega (arith, length-append Ps (C ∷ [])); olds_are = omega arith }
 child_counts Ps Os A net k R (continuation_in_r_switch {C = C}) =
     record { params_are = omega (arith, length-append Ps (C ∷ [])); olds_are = omega arith }
 child_counts Ps Os A net k R (continuation_in_k_switch {B = B} {C = C} d e) =
@@ -43,8 +41,6 @@ child_counts Ps Os A net k R (continuation_in_p_switch {B = B} {C = C} {D = D} {
       params_are = omega (arith, length-append Ps (C ∷ []));
       olds_are = omega (arith, length-append Os (copies (members fs) (arrow D B)), length-copies (members fs) (arrow D B));
     })
-child_counts Ps Os A net k R (continuation_in_dr_switch {C = C}) =
-    record { params_are = omega (arith, length-append Ps (C ∷ [])); olds_are = omega arith }
 child_counts Ps Os A net k R (member_in_rp_switch {fs = fs} {k = j} l) =
     subst (λ c. Counts Ps Os (bound_started c) R) (sym (member_below fs j l)) (record { params_are = omega arith; olds_are = omega arith })
 child_counts Ps Os A net k R (choice_in_rp_switch {fs = fs}) =

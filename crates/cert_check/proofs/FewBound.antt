@@ -3,11 +3,12 @@ use Rattle.std.proofs.Common.{◌≡◌, ℕ, zero, suc, ◌+◌, ◌^◌, ◌�
 use Rattle.std.specs.Prelude.{IfSome}
 use Rattle.std.proofs.lemmas.Option.{none-some, same_Some}
 use Rattle.leaf_core.specs.Expression.{Expression}
-use Rattle.net_tree.specs.Network.{Network, Networks, network_size, networks_size, arr, seq, first, par, loop_pre, i_pre, delay, hold, accum_by, after, repeatedly, time, integral, switch, d_switch, r_switch, k_switch, p_switch, old, initial_out, initial_in, dr_switch, rp_switch, no_members, and_member}
+use Rattle.net_tree.specs.Network.{Network, Networks, network_size, networks_size, arr, seq, first, par, loop_pre, i_pre, delay, hold, accum_by, after, repeatedly, time, integral, switch, r_switch, k_switch, p_switch, old, initial_out, initial_in, rp_switch, no_members, and_member}
 use Rattle.net_meaning.specs.Typing.{members}
 use Rattle.net_meaning.specs.NetworkLimits.{WithinLimits}
 use Rattle.net_meaning.specs.TypedNetwork.{TypedNetwork}
 use Rattle.net_tree.specs.Place.{Tree, a_network, a_leaf, member, child, child_network, collection_child, PSwitchChild, p_switch_child, member_child, event_child, continuation_child, no_child}
+use Rattle.net_tree.specs.declared.measure.TheConstants.{MOST_SIZE}
 use Rattle.net_syntax.specs.Placed.{Bound, bound, bound_in, bound_behind, bound_started, FewBound}
 use Rattle.net_syntax.proofs.Children.{members_few}
 use Rattle.net_types.proofs.Sizes.{few_inside}
@@ -81,15 +82,12 @@ smaller (repeatedly q x) zero c e = at_child (network_size (repeatedly q x)) (bo
 smaller (repeatedly q x) (suc k) c e = at_none (network_size (repeatedly q x)) (bound 0 0) c e
 smaller time k c e = at_none 0 (bound 0 0) c e
 smaller integral k c e = at_none 0 (bound 0 0) c e
-smaller (switch f t) zero c e = at_child (network_size (switch f t)) (bound 0 0) (a_network f) c e (record { params_fit = omega arith; olds_fit = omega arith })
-smaller (switch f t) (suc zero) c e = at_child (network_size (switch f t)) (bound 1 0) (a_network t) c e (record { params_fit = omega arith; olds_fit = omega arith })
-smaller (switch f t) (suc (suc k)) c e = at_none (network_size (switch f t)) (bound 0 0) c e
-smaller (d_switch f t) zero c e = at_child (network_size (d_switch f t)) (bound 0 0) (a_network f) c e (record { params_fit = omega arith; olds_fit = omega arith })
-smaller (d_switch f t) (suc zero) c e = at_child (network_size (d_switch f t)) (bound 1 0) (a_network t) c e (record { params_fit = omega arith; olds_fit = omega arith })
-smaller (d_switch f t) (suc (suc k)) c e = at_none (network_size (d_switch f t)) (bound 0 0) c e
-smaller (r_switch f t) zero c e = at_child (network_size (r_switch f t)) (bound 0 0) (a_network f) c e (record { params_fit = omega arith; olds_fit = omega arith })
-smaller (r_switch f t) (suc zero) c e = at_child (network_size (r_switch f t)) (bound 1 0) (a_network t) c e (record { params_fit = omega arith; olds_fit = omega arith })
-smaller (r_switch f t) (suc (suc k)) c e = at_none (network_size (r_switch f t)) (bound 0 0) c e
+smaller (switch tm f t) zero c e = at_child (network_size (switch tm f t)) (bound 0 0) (a_network f) c e (record { params_fit = omega arith; olds_fit = omega arith })
+smaller (switch tm f t) (suc zero) c e = at_child (network_size (switch tm f t)) (bound 1 0) (a_network t) c e (record { params_fit = omega arith; olds_fit = omega arith })
+smaller (switch tm f t) (suc (suc k)) c e = at_none (network_size (switch tm f t)) (bound 0 0) c e
+smaller (r_switch tm f t) zero c e = at_child (network_size (r_switch tm f t)) (bound 0 0) (a_network f) c e (record { params_fit = omega arith; olds_fit = omega arith })
+smaller (r_switch tm f t) (suc zero) c e = at_child (network_size (r_switch tm f t)) (bound 1 0) (a_network t) c e (record { params_fit = omega arith; olds_fit = omega arith })
+smaller (r_switch tm f t) (suc (suc k)) c e = at_none (network_size (r_switch tm f t)) (bound 0 0) c e
 smaller (k_switch f e' t) zero c e = at_child (network_size (k_switch f e' t)) (bound 0 0) (a_network f) c e (record { params_fit = omega arith; olds_fit = omega arith })
 smaller (k_switch f e' t) (suc zero) c e = at_child (network_size (k_switch f e' t)) (bound 0 0) (a_network e') c e (record { params_fit = omega arith; olds_fit = omega arith })
 smaller (k_switch f e' t) (suc (suc zero)) c e = at_child (network_size (k_switch f e' t)) (bound 1 1) (a_network t) c e (record { params_fit = omega arith; olds_fit = omega arith })
@@ -103,9 +101,6 @@ smaller (initial_out x f) (suc (suc k)) c e = at_none (network_size (initial_out
 smaller (initial_in x f) zero c e = at_child (network_size (initial_in x f)) (bound 0 0) (a_leaf x) c e (record { params_fit = omega arith; olds_fit = omega arith })
 smaller (initial_in x f) (suc zero) c e = at_child (network_size (initial_in x f)) (bound 0 0) (a_network f) c e (record { params_fit = omega arith; olds_fit = omega arith })
 smaller (initial_in x f) (suc (suc k)) c e = at_none (network_size (initial_in x f)) (bound 0 0) c e
-smaller (dr_switch f t) zero c e = at_child (network_size (dr_switch f t)) (bound 0 0) (a_network f) c e (record { params_fit = omega arith; olds_fit = omega arith })
-smaller (dr_switch f t) (suc zero) c e = at_child (network_size (dr_switch f t)) (bound 1 0) (a_network t) c e (record { params_fit = omega arith; olds_fit = omega arith })
-smaller (dr_switch f t) (suc (suc k)) c e = at_none (network_size (dr_switch f t)) (bound 0 0) c e
 smaller (rp_switch fs m t) k c e = collection_smaller fs m t k c (p_switch_child fs k) e
 
 few_behind : (f : Network Expression) (k m n : ℕ) (p : List ℕ) (o : Option (Tree Expression)) → child f k ≡ o → m + network_size f < 2 ^ 32
@@ -127,5 +122,5 @@ few (k ∷ p) m n (a_network f) hm hn = (omega arith, omega arith, few_behind f 
 -- a network within the limits
 pub few_bound : (t : TypedNetwork) (p : List ℕ) → WithinLimits t → FewBound 0 0 (a_network t.net) p
 few_bound t p h =
-    let l : network_size t.net ≤ 5000000 = few_inside h.fits.typed h.fits.light in
+    let l : network_size t.net ≤ MOST_SIZE = few_inside h.fits.typed h.fits.light in
     few p 0 0 (a_network t.net) (omega arith) (omega arith)

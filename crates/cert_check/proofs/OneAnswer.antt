@@ -25,6 +25,7 @@ use Rattle.cert_check.specs.declared.answer.CheckFault.{CheckFault}
 use Rattle.cert_check.specs.declared.answer.CheckFault.TheVariants.{InputsDiffer, TooManySteps, NoPosition, NoMatch, IllTyped, EndsElsewhere, Memory}
 use Rattle.cert_check.specs.CheckAnswer.{NowhereIn, Unmatched, Untyped, FirstFails, LeadsElsewhere, CheckAnswer}
 use Rattle.cert_check.specs.Laws.{OneNextLaw, OneCheckAnswerLaw}
+use Rattle.cert_check.specs.declared.derivation.TheConstants.{MOST_STEPS}
 
 one_expression : (law : Law) (direction : Direction) (e : Expression) (given : Option Expression) (r s : Expression)
     → ExpressionAnswer law direction e given r → ExpressionAnswer law direction e given s → r ≡ s
@@ -169,7 +170,7 @@ module _ (source target : TypedNetwork) (steps : List Step) where
   no_end : (F : TypedNetwork → Step → Type 0) → Stops F → (n : ℕ) (v : TypedNetwork) → FirstFails F source steps n → Steps source steps v → ⊥
   no_end F sf n v a h = passes F sf source a.reached v a.before a.step a.behind steps a.leads a.fails h a.steps_are
 
-  too_many : length steps ≤ 10000 → 10000 < length steps → ⊥
+  too_many : length steps ≤ MOST_STEPS → MOST_STEPS < length steps → ⊥
   too_many h k = omega arith
 
   abbrev Same : Result Accepted CheckFault → Result Accepted CheckFault → Type 0

@@ -13,7 +13,7 @@ use Rattle.net_tree.specs.Place.{Tree, a_network, a_leaf}
 use Rattle.net_syntax.specs.Placed.{placed}
 use Rattle.net_syntax.specs.Standing.{Standing, alone, TreeTyped}
 use Rattle.net_syntax.specs.Rewriting.{Rewrites, KeepsType}
-use Rattle.net_syntax.specs.SamePlace.{SameThere}
+use Rattle.net_syntax.specs.SamePlace.{SameInPlace}
 use Rattle.net_tree.specs.LawStep.{Step}
 use Rattle.net_tree.specs.declared.law_step.Law.{Law}
 use Rattle.net_tree.specs.declared.law_step.Direction.{Direction}
@@ -47,7 +47,7 @@ network_same Q C olds law direction f given r (N.backward_answer {n = n} row) l 
 
 answer_same : (Q : Standing) (C : TypeTree) (olds : ℕ) (law : Law) (direction : Direction) (tree : Tree Expression) (given : Option (Tree Expression))
     (new : Tree Expression) → TreeAnswer olds law direction tree given new → length Q.olds ≡ olds → TreeTyped Q tree C → TreeTyped Q new C
-    → SameThere Q tree new
+    → SameInPlace Q tree new
 answer_same Q C olds law direction (a_leaf e) None (a_leaf r) x l d k = expression_same Q C law direction e None r x d k
 answer_same Q C olds law direction (a_leaf e) (Some (a_leaf g)) (a_leaf r) x l d k = expression_same Q C law direction e (Some g) r x d k
 answer_same Q C olds law direction (a_network f) None (a_network r) x l d k = network_same Q C olds law direction f None r x l d k
@@ -71,7 +71,7 @@ next_same t s u d x =
     (sym a.found ∙ placed-stands (alone t.input) (a_network t.net) s.position h.there Q 0 0 refl refl h.stands) in
     let here : TreeAnswer (length Q.olds) s.law s.direction h.there s.given x.new =
     subst (λ q. TreeAnswer q.olds s.law s.direction q.tree s.given x.new) found a.answered in
-    let same : SameThere Q h.there x.new = answer_same Q h.output (length Q.olds) s.law s.direction h.there s.given x.new here refl h.before h.now in
+    let same : SameInPlace Q h.there x.new = answer_same Q h.output (length Q.olds) s.law s.direction h.there s.given x.new here refl h.before h.now in
     let r = same_place (alone t.input) Q t.output h.output s.position (a_network t.net) h.there x.new (a_network u.net) d h.stands h.before h.now same w.result in
     record { kin_input = w.same_input; kin_typed = r.0; kin_same = r.1 }
 

@@ -13,7 +13,7 @@ use Rattle.net_syntax.specs.StandingWalk.{inside}
 use Rattle.net_tree.specs.LawStep.{Step}
 use Rattle.net_meaning.specs.TypedNetwork.{TypedNetwork}
 use Rattle.net_types.proofs.ChangedPlaces.{kept}
-use Rattle.cert_check.specs.Derives.{Next, tree_at}
+use Rattle.cert_check.specs.Derives.{Next, standing_tree}
 
 -- the tree of a place
 abbrev tree_in : Option Placed → Option (Tree Expression)
@@ -61,7 +61,7 @@ stands_now R Q tree there p s w m n (inside_network {R = P} {f = f} {c = c} {k =
     go below (Some d) j q = child_now R f k p' s d w m n (λ a b. below d a b j) q
 
 -- so where a step led
-pub next_there : (t u : TypedNetwork) (s : Step) (x : Next t s u) → tree_at u s.position ≡ Some x.new
+pub next_there : (t u : TypedNetwork) (s : Step) (x : Next t s u) → standing_tree u s.position ≡ Some x.new
 next_there t u s x =
     let h = x.rewritten.keeps_type in
     stands_now (alone t.input) h.standing (a_network t.net) h.there s.position x.new (a_network u.net) 0 0 h.stands x.rewritten.result

@@ -13,7 +13,7 @@ use Rattle.net_tree.specs.declared.law_step.Tree as C
 use Rattle.cert_check.specs.declared.answer.CheckFault.{CheckFault}
 use Rattle.cert_check.specs.declared.answer.CheckFault.TheVariants.{InputsDiffer, TooManySteps, NoPosition, NoMatch, IllTyped, EndsElsewhere, Memory}
 use Rattle.cert_check.specs.Derives.{Answered, Next, Steps, no_step, step_then}
-use Rattle.cert_check.specs.CheckAnswer.{NowhereIn, Unmatched, Untyped, FirstFails, BeginsCheck, CheckAnswer}
+use Rattle.cert_check.specs.CheckAnswer.{NowhereIn, Unmatched, Untyped, FirstFails, CheckAnswer}
 use Rattle.cert_check.specs.Laws.{AppliedLaw}
 use Rattle.cert_check.specs.StepAnswers.{IsTreeAnswer, StepAnswer, StepsAnswer}
 use Rattle.std.specs.Prelude.{OnOk}
@@ -69,17 +69,6 @@ fault_first A t u v w xs i x n Memory h e s hn a = tt
 fault_first A t u v w xs i x n InputsDiffer h e s hn a = absurd a.0
 fault_first A t u v w xs i x n TooManySteps h e s hn a = absurd a.0
 fault_first A t u v w xs i x n EndsElsewhere h e s hn a = absurd a.0
-
--- a fault of the steps is one of the whole
-pub fault_of_all : (t target u : TypedNetwork) (ss : List Step) (fault : CheckFault) → BeginsCheck t target ss → StepsAnswer t ss u (Err fault)
-    → CheckAnswer t target ss (Err fault)
-fault_of_all t target u ss (NoPosition k) b a = (b, a)
-fault_of_all t target u ss (NoMatch k) b a = (b, a)
-fault_of_all t target u ss (IllTyped k) b a = (b, a)
-fault_of_all t target u ss Memory b a = b
-fault_of_all t target u ss InputsDiffer b a = absurd a
-fault_of_all t target u ss TooManySteps b a = absurd a
-fault_of_all t target u ss EndsElsewhere b a = absurd a
 
 -- what the law answers at a place that was found
 pub answered_there : (t : TypedNetwork) (s : Step) (p : Placed) (new : C.Tree) → placed_at 0 0 (a_network t.net) s.position ≡ Some p

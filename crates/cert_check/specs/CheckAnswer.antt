@@ -12,6 +12,7 @@ use Rattle.cert_check.specs.declared.answer.CheckFault.{CheckFault}
 use Rattle.cert_check.specs.declared.answer.CheckFault.TheVariants.{InputsDiffer, TooManySteps, NoPosition, NoMatch, IllTyped, EndsElsewhere, Memory}
 use Rattle.cert_check.specs.TreeAnswer.{TreeAnswer}
 use Rattle.cert_check.specs.Derives.{Answered, Steps, Derives}
+use Rattle.cert_check.specs.declared.derivation.TheConstants.{MOST_STEPS}
 
 -- the step's position isn't there
 abbrev pub NowhereIn : TypedNetwork → Step → Type 0
@@ -46,7 +47,7 @@ pub record FirstFails (Fails : TypedNetwork → Step → Type 0) (source : Typed
 -- source and target have the same input type, and there are at most 10,000 steps
 pub record BeginsCheck (source target : TypedNetwork) (steps : List Step) : Type 0 where
   pub same_input : source.input ≡ target.input
-  pub few : length steps ≤ 10000
+  pub few : length steps ≤ MOST_STEPS
 
 -- all steps lead to a network, which isn't the target's
 pub record LeadsElsewhere (source target : TypedNetwork) (steps : List Step) : Type 0 where
@@ -62,7 +63,7 @@ CheckAnswer source target steps (Ok accepted) =
     Derives source target steps × (accepted.steps ≡ length steps)
 CheckAnswer source target steps (Err InputsDiffer) = source.input ≡ target.input → ⊥
 CheckAnswer source target steps (Err TooManySteps) =
-    (source.input ≡ target.input) × (10000 < length steps)
+    (source.input ≡ target.input) × (MOST_STEPS < length steps)
 CheckAnswer source target steps (Err (NoPosition n)) =
     BeginsCheck source target steps × FirstFails NowhereIn source steps n
 CheckAnswer source target steps (Err (NoMatch n)) =

@@ -7,10 +7,11 @@ use Rattle.net_syntax.specs.Rewriting.{Rewrites}
 use Rattle.net_tree.specs.LawStep.{Step}
 use Rattle.net_meaning.specs.TypedNetwork.{TypedNetwork}
 use Rattle.cert_check.specs.TreeAnswer.{TreeAnswer}
+use Rattle.cert_check.specs.declared.derivation.TheConstants.{MOST_STEPS}
 
 -- what stands at a position of a typed network, if the position is there
-abbrev pub tree_at : TypedNetwork → List ℕ → Option (Tree Expression)
-tree_at t p = option_map (λ c. c.tree) (placed_at 0 0 (a_network t.net) p)
+abbrev pub standing_tree : TypedNetwork → List ℕ → Option (Tree Expression)
+standing_tree t p = option_map (λ c. c.tree) (placed_at 0 0 (a_network t.net) p)
 
 -- the step's law answers `new` at the step's position in t
 pub record Answered (t : TypedNetwork) (s : Step) (new : Tree Expression) : Type 0 where
@@ -34,7 +35,7 @@ pub data Steps : TypedNetwork → List Step → TypedNetwork → Type 0 where
 -- at most 10,000 steps lead from the source to exactly the target's network, of the same input type
 pub record Derives (source target : TypedNetwork) (steps : List Step) : Type 0 where
   pub same_input : source.input ≡ target.input
-  pub few : length steps ≤ 10000
+  pub few : length steps ≤ MOST_STEPS
   pub last : TypedNetwork
   pub leads : Steps source steps last
   pub ends : last.net ≡ target.net

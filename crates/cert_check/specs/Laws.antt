@@ -9,7 +9,7 @@ use Rattle.net_tree.specs.LawStep.{Step}
 use Rattle.cert_check.specs.declared.answer.Accepted.{Accepted}
 use Rattle.cert_check.specs.declared.answer.CheckFault.{CheckFault}
 use Rattle.cert_check.specs.declared.answer.CheckFault.TheVariants.{Memory}
-use Rattle.cert_check.specs.Derives.{Next, Derives, tree_at}
+use Rattle.cert_check.specs.Derives.{Next, Derives, standing_tree}
 use Rattle.cert_check.specs.CheckAnswer.{CheckAnswer}
 use Rattle.cert_check.specs.StepAnswers.{ApplyAnswer}
 
@@ -40,7 +40,7 @@ AppliedLaw = (source last : TypedNetwork) (steps : List Step) → ApplyAnswer so
 -- where a step led, its law's answer stands at the step's position
 abbrev pub AnswerStandsLaw : Type 0
 AnswerStandsLaw = (t u : TypedNetwork) (s : Step) (x : Next t s u)
-    → tree_at u s.position ≡ Some x.new
+    → standing_tree u s.position ≡ Some x.new
 
 -- a step leads from a network to at most one other
 abbrev pub OneNextLaw : Type 0

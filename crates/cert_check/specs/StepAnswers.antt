@@ -13,6 +13,7 @@ use Rattle.cert_check.specs.declared.answer.CheckFault.TheVariants.{TooManySteps
 use Rattle.cert_check.specs.TreeAnswer.{TreeAnswer}
 use Rattle.cert_check.specs.Derives.{Answered, Next, Steps}
 use Rattle.cert_check.specs.CheckAnswer.{NowhereIn, Unmatched, Untyped, FirstFails}
+use Rattle.cert_check.specs.declared.derivation.TheConstants.{MOST_STEPS}
 
 -- the tree that is given, if one is
 abbrev pub given_tree : Option (Bor C.Tree) → Option (Tree Expression)
@@ -66,6 +67,6 @@ StepsAnswer t ss t' (Err fault) = FirstStepFault t ss fault
 
 -- at most 10,000 steps lead from the network to the answer; else there are more, or the first fault
 abbrev pub ApplyAnswer : TypedNetwork → List Step → Result TypedNetwork CheckFault → Type 0
-ApplyAnswer t ss (Ok last) = (length ss ≤ 10000) × Steps t ss last
-ApplyAnswer t ss (Err TooManySteps) = 10000 < length ss
-ApplyAnswer t ss (Err fault) = (length ss ≤ 10000) × FirstStepFault t ss fault
+ApplyAnswer t ss (Ok last) = (length ss ≤ MOST_STEPS) × Steps t ss last
+ApplyAnswer t ss (Err TooManySteps) = MOST_STEPS < length ss
+ApplyAnswer t ss (Err fault) = (length ss ≤ MOST_STEPS) × FirstStepFault t ss fault

@@ -86,7 +86,7 @@ fn derive(
 
 /// Takes the steps in their order, and answers how many there are; else the first fault.
 fn take_steps(alloc: Global, net: &mut TypedNet, steps: &[LawStep]) -> Result<u32, CheckFault>
-    requires { length steps.now ≤ 10000 }
+    requires { length steps.now ≤ MOST_STEPS }
     ensures { StepsAnswer net.old (map step_of steps.now) net.new result }
 {
     let mut number = 0;

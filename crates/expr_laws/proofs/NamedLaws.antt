@@ -2,7 +2,7 @@
 use Rattle.std.proofs.Common.{◌≡◌, ℕ, ℤ, true, Option, Some, None, refl}
 use Rattle.sample_core.specs.TypeTree.{TypeTree}
 use Rattle.leaf_core.specs.Expression.{Expression, Expressions, param, unit_expr, bool_expr, int_expr, pair_expr, fst, snd, then_expr, neg, add, sub, mul, less, equal, not_expr, and_expr, or_expr, if_expr, no_event_expr, event_expr, list_expr, nth, len, no_more, and_then}
-use Rattle.expr_laws.specs.Rows.{Spread, pair_spread, fst_spread, snd_spread, neg_spread, add_spread, sub_spread, mul_spread, less_spread, equal_spread, not_spread, and_spread, or_spread, if_spread, event_spread, nth_spread, len_spread, list_spread, IsConstant, param_constant, unit_constant, bool_constant, int_constant, no_event_constant, list_constant, OnLiterals, neg_literal, add_literals, sub_literals, mul_literals, less_literals, equal_units, equal_bools, equal_ints, not_literal, and_literals, or_literals, ExpressionRow, row_e4, row_e6, row_e15, row_e18}
+use Rattle.expr_laws.specs.Rows.{Spread, pair_spread, fst_spread, snd_spread, neg_spread, add_spread, sub_spread, mul_spread, less_spread, equal_spread, not_spread, and_spread, or_spread, if_spread, event_spread, nth_spread, len_spread, list_spread, HasNoPart, param_constant, unit_constant, bool_constant, int_constant, no_event_constant, list_constant, OnLiterals, neg_literal, add_literals, sub_literals, mul_literals, less_literals, equal_units, equal_bools, equal_ints, not_literal, and_literals, or_literals, ExpressionRow, row_e4, row_e6, row_e15, row_e18}
 use Rattle.expr_laws.specs.Direct.{spread, law4, is_constant, law6, on_literals, law15, picked_in, law18}
 
 -- an answer, if there is one, is a right side
@@ -73,7 +73,7 @@ pub spread-is : {f o r : Expression} → Spread f o r → spread f o ≡ Some r
 spread-is pair_spread = refl
 spread-is _ = refl
 
-pub constant-is : {k : Expression} → IsConstant k → is_constant k ≡ true
+pub constant-is : {k : Expression} → HasNoPart k → is_constant k ≡ true
 constant-is param_constant = refl
 constant-is _ = refl
 

@@ -7,7 +7,7 @@ use Rattle.leaf_core.specs.Expression.{Expression, Expressions}
 use Rattle.leaf_core.specs.ExpressionValue.{value_of}
 use Rattle.leaf_core.specs.ExpressionTyping.{ExpressionTyped, ExpressionsTyped, input_typed, param_typed, unit_typed, bool_typed, int_typed, pair_typed, fst_typed, snd_typed, then_typed, neg_typed, add_typed, sub_typed, mul_typed, less_typed, equal_typed, not_typed, and_typed, or_typed, if_typed, no_event_typed, event_typed, on_typed, list_typed, nth_typed, len_typed, no_more_typed, and_then_typed}
 use Rattle.leaf_core.proofs.Uniqueness.{one_type}
-use Rattle.expr_laws.specs.Rows.{each_then, literal_for, element_or, picked, Spread, pair_spread, fst_spread, snd_spread, neg_spread, add_spread, sub_spread, mul_spread, less_spread, equal_spread, not_spread, and_spread, or_spread, if_spread, event_spread, nth_spread, len_spread, list_spread, IsConstant, param_constant, unit_constant, bool_constant, int_constant, no_event_constant, list_constant, OnLiterals, neg_literal, add_literals, sub_literals, mul_literals, less_literals, equal_units, equal_bools, equal_ints, not_literal, and_literals, or_literals, ExpressionRow, row_e1, row_e2, row_e3, row_e4, row_e5, row_e6, row_e7, row_e8, row_e9, row_e10, row_e11, row_e12, row_e13, row_e14, row_e15, row_e16, row_e17, row_e18}
+use Rattle.expr_laws.specs.Rows.{each_then, literal_for, element_or, picked, Spread, pair_spread, fst_spread, snd_spread, neg_spread, add_spread, sub_spread, mul_spread, less_spread, equal_spread, not_spread, and_spread, or_spread, if_spread, event_spread, nth_spread, len_spread, list_spread, HasNoPart, param_constant, unit_constant, bool_constant, int_constant, no_event_constant, list_constant, OnLiterals, neg_literal, add_literals, sub_literals, mul_literals, less_literals, equal_units, equal_bools, equal_ints, not_literal, and_literals, or_literals, ExpressionRow, row_e1, row_e2, row_e3, row_e4, row_e5, row_e6, row_e7, row_e8, row_e9, row_e10, row_e11, row_e12, row_e13, row_e14, row_e15, row_e16, row_e17, row_e18}
 
 each_typed : {f : Expression} {es : Expressions} {Ps : List TypeTree} {A C T : TypeTree} → ExpressionTyped f Ps A C → ExpressionsTyped es Ps C T → ExpressionsTyped (each_then f es) Ps A T
 each_typed f no_more_typed = no_more_typed
@@ -32,7 +32,7 @@ spread_typed nth_spread f (nth_typed h k l) = nth_typed (then_typed f h) (then_t
 spread_typed len_spread f (len_typed h) = len_typed (then_typed f h)
 spread_typed list_spread f (list_typed hs) = list_typed (each_typed f hs)
 
-constant_typed : {k : Expression} {Ps : List TypeTree} {A C B : TypeTree} → IsConstant k → ExpressionTyped k Ps C B → ExpressionTyped k Ps A B
+constant_typed : {k : Expression} {Ps : List TypeTree} {A C B : TypeTree} → HasNoPart k → ExpressionTyped k Ps C B → ExpressionTyped k Ps A B
 constant_typed param_constant (param_typed i) = param_typed i
 constant_typed unit_constant unit_typed = unit_typed
 constant_typed bool_constant bool_typed = bool_typed

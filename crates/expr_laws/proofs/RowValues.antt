@@ -10,7 +10,7 @@ use Rattle.leaf_core.specs.Expression.{Expression, Expressions, pair_expr, fst, 
 use Rattle.leaf_core.specs.ExpressionValue.{value_of, values_of, choose, is_true, wrap, nth_of}
 use Rattle.leaf_core.specs.ExpressionTyping.{ExpressionTyped, pair_typed, fst_typed}
 use Rattle.leaf_core.proofs.Soundness.{typed_value}
-use Rattle.expr_laws.specs.Rows.{each_then, literal_for, element_or, Spread, list_spread, IsConstant, param_constant, OnLiterals, neg_literal, ExpressionRow, row_e4, row_e6, row_e9, row_e12, row_e15, row_e16, row_e17, row_e18}
+use Rattle.expr_laws.specs.Rows.{each_then, literal_for, element_or, Spread, list_spread, HasNoPart, param_constant, OnLiterals, neg_literal, ExpressionRow, row_e4, row_e6, row_e9, row_e12, row_e15, row_e16, row_e17, row_e18}
 
 values_of_each : (f : Expression) (es : Expressions) (ps : List Datum) (x : Datum) → values_of es ps (value_of f ps x) ≡ values_of (each_then f es) ps x
 values_of_each f no_more ps x = refl
@@ -20,7 +20,7 @@ spread_value : {f o r : Expression} → Spread f o r → (ps : List Datum) (x : 
 spread_value {f = f} (list_spread {e = e} {es = es}) ps x = ap (λ vs. list (list_of vs)) (values_of_each f (and_then e es) ps x)
 spread_value _ ps x = refl
 
-constant_value : {k : Expression} → IsConstant k → (ps : List Datum) (x y : Datum) → value_of k ps x ≡ value_of k ps y
+constant_value : {k : Expression} → HasNoPart k → (ps : List Datum) (x y : Datum) → value_of k ps x ≡ value_of k ps y
 constant_value param_constant ps x y = refl
 constant_value _ ps x y = refl
 

@@ -7,7 +7,7 @@ use Rattle.leaf_core.specs.ExpressionCode.{expression_code}
 use Rattle.leaf_core.specs.ExpressionValue.{value_of}
 use Rattle.leaf_core.specs.EqualityByCode.{same_by, same_by_decides}
 use Rattle.law_patterns.specs.declared.sym.Sym.{Sym}
-use Rattle.law_patterns.specs.Matching.{Found, going, ended, built, rewritten}
+use Rattle.law_patterns.specs.Matching.{FoundLetters, going, ended, built, rewritten}
 use Rattle.law_patterns.specs.Pattern.{Assignment, filled}
 use Rattle.law_patterns.specs.Rule.{Related, RuleInstance}
 use Rattle.law_patterns.proofs.Rows.{rewritten-some}
@@ -29,7 +29,7 @@ made R.Compute left right e = law15 e
 made R.Pick left right e = law18 e
 
 -- at the second place of a letter the same expression stands
-again : (n : ℕ) (s : Found) (e : Expression) → built (right_at n) (ended (going (same_by expression_code e e) [] s)) ≡ built (right_at n) (Some s)
+again : (n : ℕ) (s : FoundLetters) (e : Expression) → built (right_at n) (ended (going (same_by expression_code e e) [] s)) ≡ built (right_at n) (Some s)
 again n s e = ap (λ b. built (right_at n) (ended (going b [] s))) ((same_by_decides expression_code e e).1 refl)
 
 -- a right side is what the law of its number makes of the left one

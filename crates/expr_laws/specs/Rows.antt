@@ -37,13 +37,13 @@ pub data Spread (f : Expression) : Expression → Expression → Type 0 where
       → Spread f (list_expr T (and_then e es)) (list_expr T (each_then f (and_then e es)))
 
 -- a literal, a parameter, no event or the empty list: what has no part and isn't the input
-pub data IsConstant : Expression → Type 0 where
-  param_constant : {k : ℕ} → IsConstant (param k)
-  unit_constant : IsConstant unit_expr
-  bool_constant : {b : Bool} → IsConstant (bool_expr b)
-  int_constant : {n : ℤ} → IsConstant (int_expr n)
-  no_event_constant : {T : TypeTree} → IsConstant (no_event_expr T)
-  list_constant : {T : TypeTree} → IsConstant (list_expr T no_more)
+pub data HasNoPart : Expression → Type 0 where
+  param_constant : {k : ℕ} → HasNoPart (param k)
+  unit_constant : HasNoPart unit_expr
+  bool_constant : {b : Bool} → HasNoPart (bool_expr b)
+  int_constant : {n : ℤ} → HasNoPart (int_expr n)
+  no_event_constant : {T : TypeTree} → HasNoPart (no_event_expr T)
+  list_constant : {T : TypeTree} → HasNoPart (list_expr T no_more)
 
 -- an operator on literals of the types that it takes
 pub data OnLiterals : Expression → Type 0 where
@@ -88,7 +88,7 @@ pub data ExpressionRow : ℕ → Expression → Expression → Type 0 where
       → ExpressionRow 5 (then_expr f (on g d b))
       (on (then_expr f g) (then_expr f d)
       (then_expr (pair_expr (then_expr (fst input) f) (snd input)) b))
-  row_e6 : {f k : Expression} → IsConstant k → ExpressionRow 6 (then_expr f k) k
+  row_e6 : {f k : Expression} → HasNoPart k → ExpressionRow 6 (then_expr f k) k
   row_e7 : {e f : Expression} → ExpressionRow 7 (fst (pair_expr e f)) e
   row_e8 : {e f : Expression} → ExpressionRow 8 (snd (pair_expr e f)) f
   row_e9 : {e : Expression} → ExpressionRow 9 (pair_expr (fst e) (snd e)) e

@@ -4,7 +4,7 @@ use Rattle.std.proofs.lemmas.Bool.Decides.{Decides-eqb}
 use Rattle.leaf_core.specs.Expression.{Expression}
 use Rattle.leaf_core.specs.ExpressionCode.{expression_code}
 use Rattle.leaf_core.specs.EqualityByCode.{same_by, same_by_decides}
-use Rattle.net_tree.specs.Network.{Network, arr, seq, first, loop_pre, initial_out, initial_in, i_pre, delay, hold, accum_by, after, repeatedly, switch, d_switch, r_switch, dr_switch, k_switch}
+use Rattle.net_tree.specs.Network.{Network, arr, seq, first, loop_pre, initial_out, initial_in, i_pre, delay, hold, accum_by, after, repeatedly, at_once, delayed, switch, r_switch, k_switch}
 use Rattle.net_tree.specs.NetworkCode.{network_code}
 use Rattle.law_patterns.specs.declared.sym.Sym.{Sym}
 use Rattle.law_patterns.specs.declared.net_sym.NetLetter.{NetLetter}
@@ -12,7 +12,7 @@ use Rattle.law_patterns.specs.declared.net_sym.NetLetter.TheVariants as L
 use Rattle.law_patterns.specs.declared.net_sym.NetSym.{NetSym}
 use Rattle.law_patterns.specs.declared.net_sym.NetSym.TheVariants as S
 use Rattle.law_patterns.specs.Pattern.{only, filled}
-use Rattle.law_patterns.specs.Matching.{Found, fitted}
+use Rattle.law_patterns.specs.Matching.{FoundLetters, fitted}
 use Rattle.law_patterns.specs.NetPattern.{NetAssignment, net_chosen, leaf_before, leaves_before, leaf_around, net_put_before, net_put_before_some, net_written}
 use Rattle.law_patterns.specs.NetMatching.{NetFound, net_found_at, net_found_with, NetMatching, net_failed, net_matching, net_going, net_bound, number_bound, leaf_found, leaf_step, net_met, net_step, net_matched, net_ended, net_fitted}
 use Rattle.law_patterns.proofs.Fits.{AgreesAt, Agrees, agrees-none, fits-written, written-fitted}
@@ -196,7 +196,7 @@ number-sound (Some n) a q fs gs s r p m c =
 abbrev LeafWrites : List Sym → Expression → NetAssignment → NetMatching → List (Network Expression) → Type 0
 LeafWrites p e a m gs = (t : NetFound) × (m ≡ net_matching gs t) × (filled a.exprs p ≡ Some e) × NetAgrees a t
 
-leaf_found-sound : (p : List Sym) (e : Expression) (a : NetAssignment) (fs gs : List (Network Expression)) (s r : NetFound) (o : Option Found) → fitted p (e ∷ []) s.exprs ≡ o
+leaf_found-sound : (p : List Sym) (e : Expression) (a : NetAssignment) (fs gs : List (Network Expression)) (s r : NetFound) (o : Option FoundLetters) → fitted p (e ∷ []) s.exprs ≡ o
     → leaf_found o fs s ≡ net_matching gs r → NetAgrees a r → LeafWrites p e a (net_matching fs s) gs
 leaf_found-sound p e a fs gs s r None q m c = never-failed gs r m
 leaf_found-sound p e a fs gs s r (Some es) q m c =
@@ -253,10 +253,10 @@ met-sound (S.InitialOut p) (initial_out e f) a fs gs s r q c = fed-writes initia
 met-sound (S.InitialIn p) (initial_in e f) a fs gs s r q c = fed-writes initial_in (S.InitialIn p) p.now e f a fs gs s r (λ hs. refl) q c
 met-sound S.First (first f) a fs gs s r q c = form-sound S.First a (f ∷ fs) (first f ∷ fs) gs s r refl q c
 met-sound S.Seq (seq f g) a fs gs s r q c = form-sound S.Seq a (f ∷ g ∷ fs) (seq f g ∷ fs) gs s r refl q c
-met-sound S.Switch (switch f g) a fs gs s r q c = form-sound S.Switch a (f ∷ g ∷ fs) (switch f g ∷ fs) gs s r refl q c
-met-sound S.DSwitch (d_switch f g) a fs gs s r q c = form-sound S.DSwitch a (f ∷ g ∷ fs) (d_switch f g ∷ fs) gs s r refl q c
-met-sound S.RSwitch (r_switch f g) a fs gs s r q c = form-sound S.RSwitch a (f ∷ g ∷ fs) (r_switch f g ∷ fs) gs s r refl q c
-met-sound S.DrSwitch (dr_switch f g) a fs gs s r q c = form-sound S.DrSwitch a (f ∷ g ∷ fs) (dr_switch f g ∷ fs) gs s r refl q c
+met-sound S.Switch (switch at_once f g) a fs gs s r q c = form-sound S.Switch a (f ∷ g ∷ fs) (switch at_once f g ∷ fs) gs s r refl q c
+met-sound S.DSwitch (switch delayed f g) a fs gs s r q c = form-sound S.DSwitch a (f ∷ g ∷ fs) (switch delayed f g ∷ fs) gs s r refl q c
+met-sound S.RSwitch (r_switch at_once f g) a fs gs s r q c = form-sound S.RSwitch a (f ∷ g ∷ fs) (r_switch at_once f g ∷ fs) gs s r refl q c
+met-sound S.DrSwitch (r_switch delayed f g) a fs gs s r q c = form-sound S.DrSwitch a (f ∷ g ∷ fs) (r_switch delayed f g ∷ fs) gs s r refl q c
 met-sound S.KSwitch (k_switch f g h) a fs gs s r q c = form-sound S.KSwitch a (f ∷ g ∷ h ∷ fs) (k_switch f g h ∷ fs) gs s r refl q c
 met-sound _ _ a fs gs s r q c = never-failed gs r q
 

@@ -9,7 +9,7 @@ use Rattle.law_patterns.specs.declared.sym.Sym.{Sym}
 use Rattle.law_patterns.specs.declared.net_sym.NetSym.{NetSym}
 use Rattle.law_patterns.specs.declared.net_sym.NetSym.TheVariants as S
 use Rattle.law_patterns.specs.Pattern.{Assignment, only, filled}
-use Rattle.law_patterns.specs.NetPattern.{NetAssignment, leaf_before, leaves_before, leaf_around, net_put_before, net_put_before_some, net_written, net_filled, NetRow}
+use Rattle.law_patterns.specs.NetPattern.{NetAssignment, leaf_before, leaves_before, leaf_around, net_put_before, net_put_before_some, net_written, net_filled, NetPatternRow}
 use Rattle.law_patterns.specs.NetMatching.{NetFound, no_nets_found, net_fitted, or_time, or_zero, net_completed, net_built, net_rewritten}
 use Rattle.law_patterns.proofs.Fits.{AgreesAt}
 use Rattle.law_patterns.proofs.Rows.{SameLength, SameLengths, only-alike, only-is, filled-alike, completed-agrees, nothing-agrees}
@@ -111,7 +111,7 @@ net_completed-agrees s = record {
 no_nets-agree : (a : NetAssignment) → NetAgrees a no_nets_found
 no_nets-agree a = record { f = tt; g = tt; h = tt; q = tt; exprs = nothing-agrees a.exprs }
 
-some-row : (left right : List NetSym) (n r : Network Expression) (o : Option NetFound) → net_fitted left (n ∷ []) no_nets_found ≡ o → net_built right o ≡ Some r → NetRow left right n r
+some-row : (left right : List NetSym) (n r : Network Expression) (o : Option NetFound) → net_fitted left (n ∷ []) no_nets_found ≡ o → net_built right o ≡ Some r → NetPatternRow left right n r
 some-row left right n r None q p = absurd (cc)
 some-row left right n r (Some s) q p = record {
   letters = net_completed s;
@@ -120,11 +120,11 @@ some-row left right n r (Some s) q p = record {
 }
 
 -- what is built is what the row makes
-pub net_rewritten-some : (left right : List NetSym) (n r : Network Expression) → net_rewritten left right n ≡ Some r → NetRow left right n r
+pub net_rewritten-some : (left right : List NetSym) (n r : Network Expression) → net_rewritten left right n ≡ Some r → NetPatternRow left right n r
 net_rewritten-some left right n r p = some-row left right n r (net_fitted left (n ∷ []) no_nets_found) refl p
 
 -- where nothing is built, the row makes nothing
-pub net_rewritten-none : (left right : List NetSym) (n r : Network Expression) → net_rewritten left right n ≡ None → NetRow left right n r → ⊥
+pub net_rewritten-none : (left right : List NetSym) (n r : Network Expression) → net_rewritten left right n ≡ None → NetPatternRow left right n r → ⊥
 net_rewritten-none left right n r p row =
     let f = net_fits-written left row.letters (n ∷ []) no_nets_found (only-is (net_written row.letters left) n row.left_is) (no_nets-agree row.letters) in
     let e = net_filled-alike right (net_completed f.0) row.letters (sym (ap (net_built right) f.1) ∙ p) in
@@ -133,7 +133,7 @@ net_rewritten-none left right n r p row =
 -- what is built, or not, by the row
 pub net_rewritten-answers : {E : Type 0} (left right : List NetSym) (n : Network Expression) (x : Result (Option (Net Expr)) E)
     → IfOk x (λ o. MatchOption o (net_rewritten left right n ≡ None) (λ r. net_rewritten left right n ≡ Some (tree_of r)))
-    → IfOk x (λ o. MatchOption o ((r : Network Expression) → NetRow left right n r → ⊥) (λ r. NetRow left right n (tree_of r)))
+    → IfOk x (λ o. MatchOption o ((r : Network Expression) → NetPatternRow left right n r → ⊥) (λ r. NetPatternRow left right n (tree_of r)))
 net_rewritten-answers left right n (Ok None) h = λ r row. net_rewritten-none left right n r h row
 net_rewritten-answers left right n (Ok (Some r)) h = net_rewritten-some left right n (tree_of r) h
 net_rewritten-answers left right n (Err m) h = tt

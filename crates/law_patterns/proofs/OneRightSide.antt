@@ -8,9 +8,9 @@ use Rattle.law_patterns.specs.declared.sym.Sym.{Sym}
 use Rattle.law_patterns.specs.declared.sym.Sym.TheVariants as S
 use Rattle.law_patterns.specs.declared.net_sym.NetSym.{NetSym}
 use Rattle.law_patterns.specs.declared.net_sym.NetSym.TheVariants as N
-use Rattle.law_patterns.specs.Pattern.{Assignment, chosen, put_before, put_before_some, written, only, filled}
+use Rattle.law_patterns.specs.Pattern.{Assignment, letter_choice, put_before, put_before_some, written, only, filled}
 use Rattle.law_patterns.specs.NetPattern.{NetAssignment, net_chosen, leaf_before, leaves_before, leaf_around, net_put_before, net_put_before_some, net_written, net_filled}
-use Rattle.law_patterns.specs.PatternLaws.{AnyLetter, of_expression, of_type, of_network, of_number, letters_in, letters_of, net_letters_in, net_letters_of, OneRightSideLaw, NetOneRightSideLaw}
+use Rattle.law_patterns.specs.PatternLaws.{AnyLetter, of_expression, of_type, of_network, of_number, letters_in, letters_of, net_letters_in, net_letters_of, PatternOneRightSideLaw, NetOneRightSideLaw}
 use Rattle.law_patterns.proofs.Rows.{only-is}
 
 -- what holds of each
@@ -48,7 +48,7 @@ some-same x y p = cc
 module _ (a b : Assignment) where
   -- both choices give the letter one tree
   abbrev pub Same : AnyLetter → Type 0
-  Same (of_expression k) = chosen a k ≡ chosen b k
+  Same (of_expression k) = letter_choice a k ≡ letter_choice b k
   Same of_type = a.t ≡ b.t
   Same _ = Unit {0}
 
@@ -106,7 +106,7 @@ module _ (a b : Assignment) where
   pub filled-equal : (ss : List Sym) → Every Same (letters_of ss) → filled a ss ≡ filled b ss
   filled-equal ss h = ap only (written-equal ss h)
 
-pub one_right_side : OneRightSideLaw
+pub one_right_side : PatternOneRightSideLaw
 one_right_side left right l r s c x y =
     let h = filled-same x.letters y.letters left l x.left_is y.left_is in
     let e = filled-equal x.letters y.letters right (among (Same x.letters y.letters) (letters_of left) (letters_of right) c h) in
@@ -129,7 +129,7 @@ fed-some form (Some e) (f ∷ ys) fs p = (e, f, ys, refl, refl, cc)
 module _ (a b : NetAssignment) where
   -- both choices give the letter one tree
   abbrev pub NetSame : AnyLetter → Type 0
-  NetSame (of_expression k) = chosen a.exprs k ≡ chosen b.exprs k
+  NetSame (of_expression k) = letter_choice a.exprs k ≡ letter_choice b.exprs k
   NetSame of_type = a.exprs.t ≡ b.exprs.t
   NetSame (of_network k) = net_chosen a k ≡ net_chosen b k
   NetSame of_number = a.q ≡ b.q

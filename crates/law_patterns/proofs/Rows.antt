@@ -6,8 +6,8 @@ use Rattle.leaf_core.specs.ExpressionView.{expression_of}
 use Rattle.leaf_core.specs.declared.expr.Expr.{Expr}
 use Rattle.law_patterns.specs.declared.sym.Sym.{Sym}
 use Rattle.law_patterns.specs.declared.sym.Sym.TheVariants as S
-use Rattle.law_patterns.specs.Pattern.{Assignment, put_before, put_before_some, written, only, filled, Row}
-use Rattle.law_patterns.specs.Matching.{Found, nothing_found, fitted, or_input, or_unit, completed, built, rewritten}
+use Rattle.law_patterns.specs.Pattern.{Assignment, put_before, put_before_some, written, only, filled, PatternRow}
+use Rattle.law_patterns.specs.Matching.{FoundLetters, nothing_found, fitted, or_input, or_unit, completed, built, rewritten}
 use Rattle.law_patterns.proofs.Fits.{AgreesAt, Agrees, fits-written, written-fitted}
 
 -- lists of one length
@@ -75,7 +75,7 @@ or_unit-agrees : (o : Option TypeTree) → AgreesAt o (or_unit o)
 or_unit-agrees None = tt
 or_unit-agrees (Some t) = refl
 
-pub completed-agrees : (s : Found) → Agrees (completed s) s
+pub completed-agrees : (s : FoundLetters) → Agrees (completed s) s
 completed-agrees s = record {
   f = or_input-agrees s.f;
   g = or_input-agrees s.g;
@@ -87,7 +87,7 @@ completed-agrees s = record {
 pub nothing-agrees : (a : Assignment) → Agrees a nothing_found
 nothing-agrees a = record { f = tt; g = tt; h = tt; i = tt; t = tt }
 
-some-row : (left right : List Sym) (e r : Expression) (o : Option Found) → fitted left (e ∷ []) nothing_found ≡ o → built right o ≡ Some r → Row left right e r
+some-row : (left right : List Sym) (e r : Expression) (o : Option FoundLetters) → fitted left (e ∷ []) nothing_found ≡ o → built right o ≡ Some r → PatternRow left right e r
 some-row left right e r None q p = absurd (cc)
 some-row left right e r (Some s) q p = record {
   letters = completed s;
@@ -96,18 +96,18 @@ some-row left right e r (Some s) q p = record {
 }
 
 -- what is built is what the row makes
-pub rewritten-some : (left right : List Sym) (e r : Expression) → rewritten left right e ≡ Some r → Row left right e r
+pub rewritten-some : (left right : List Sym) (e r : Expression) → rewritten left right e ≡ Some r → PatternRow left right e r
 rewritten-some left right e r p = some-row left right e r (fitted left (e ∷ []) nothing_found) refl p
 
 -- where nothing is built, the row makes nothing
-pub rewritten-none : (left right : List Sym) (e r : Expression) → rewritten left right e ≡ None → Row left right e r → ⊥
+pub rewritten-none : (left right : List Sym) (e r : Expression) → rewritten left right e ≡ None → PatternRow left right e r → ⊥
 rewritten-none left right e r p row =
     let f = fits-written left row.letters (e ∷ []) nothing_found (only-is (written row.letters left) e row.left_is) (nothing-agrees row.letters) in
     let n = filled-alike right (completed f.0) row.letters (sym (ap (built right) f.1) ∙ p) in
     absurd (cc (n, row.right_is))
 
 -- what is built, or not, by the row
-pub rewritten-answers : {E : Type 0} (left right : List Sym) (e : Expression) (x : Result (Option Expr) E) → IfOk x (λ o. MatchOption o (rewritten left right e ≡ None) (λ r. rewritten left right e ≡ Some (expression_of r))) → IfOk x (λ o. MatchOption o ((r : Expression) → Row left right e r → ⊥) (λ r. Row left right e (expression_of r)))
+pub rewritten-answers : {E : Type 0} (left right : List Sym) (e : Expression) (x : Result (Option Expr) E) → IfOk x (λ o. MatchOption o (rewritten left right e ≡ None) (λ r. rewritten left right e ≡ Some (expression_of r))) → IfOk x (λ o. MatchOption o ((r : Expression) → PatternRow left right e r → ⊥) (λ r. PatternRow left right e (expression_of r)))
 rewritten-answers left right e (Ok None) h = λ r row. rewritten-none left right e r h row
 rewritten-answers left right e (Ok (Some r)) h = rewritten-some left right e (expression_of r) h
 rewritten-answers left right e (Err m) h = tt

@@ -1,21 +1,21 @@
 -- What a rewriting by the two patterns of a row answers, by the row.
-use Rattle.std.proofs.Common.{◌≡◌, List, Option, Some, None, option_map, Result, Ok, Err, IfOk, MatchOption, refl, sym, subst}
+use Rattle.std.proofs.Common.{List, Option, Some, None, Result, Ok, Err, IfOk, MatchOption, subst}
 use Rattle.leaf_core.specs.Expression.{Expression}
 use Rattle.leaf_core.specs.ExpressionView.{expression_of}
 use Rattle.leaf_core.specs.declared.expr.Expr.{Expr}
 use Rattle.law_patterns.specs.declared.sym.Sym.{Sym}
-use Rattle.law_patterns.specs.Pattern.{filled, Row}
+use Rattle.law_patterns.specs.Pattern.{filled, PatternRow}
 use Rattle.law_patterns.specs.Rule.{Related, RuleInstance}
 
 -- the sides of a row of the patterns are related
-pub row-related : (P : Expression → Expression → Type 0) (left right : List Sym) (l r : Expression) → RuleInstance P left right → Row left right l r → P l r
+pub row-related : (P : Expression → Expression → Type 0) (left right : List Sym) (l r : Expression) → RuleInstance P left right → PatternRow left right l r → P l r
 row-related P left right l r rule row =
     let at_left : Related P (Some l) (filled row.letters right) = subst (λ o. Related P o (filled row.letters right)) row.left_is (rule.gives row.letters) in
     subst (Related P (Some l)) row.right_is at_left
 
 -- what is answered, by the patterns
 abbrev pub ByPatterns : {E : Type 0} → List Sym → List Sym → Expression → Result (Option Expr) E → Type 0
-ByPatterns left right e x = IfOk x (λ o. MatchOption o ((r : Expression) → Row left right e r → ⊥) (λ r. Row left right e (expression_of r)))
+ByPatterns left right e x = IfOk x (λ o. MatchOption o ((r : Expression) → PatternRow left right e r → ⊥) (λ r. PatternRow left right e (expression_of r)))
 
 -- what is answered, by the relation
 abbrev pub ByRow : {E : Type 0} → (Expression → Expression → Type 0) → Expression → Result (Option Expr) E → Type 0
@@ -25,17 +25,3 @@ pub by-rule : {E : Type 0} (P : Expression → Expression → Type 0) (left righ
 by-rule P left right e (Ok None) rule h = λ r p. h r (rule.comes e r p)
 by-rule P left right e (Ok (Some r)) rule h = row-related P left right e (expression_of r) rule h
 by-rule P left right e (Err m) rule h = tt
-
--- a law as a function: the right side of a left side, else nothing
-abbrev pub Leads : (Expression → Option Expression) → Expression → Expression → Type 0
-Leads law l r = law l ≡ Some r
-
-leads-nowhere : (law : Expression → Option Expression) (e : Expression) (o : Option Expression) → law e ≡ o → ((r : Expression) → law e ≡ Some r → ⊥) → None ≡ law e
-leads-nowhere law e None q h = sym q
-leads-nowhere law e (Some r) q h = absurd (h r q)
-
--- what a rewriting by the two patterns of a law answers is what the law, as a function, gives
-pub by-law : {E : Type 0} (law : Expression → Option Expression) (left right : List Sym) (e : Expression) (x : Result (Option Expr) E) → RuleInstance (Leads law) left right → ByPatterns left right e x → IfOk x (λ o. option_map expression_of o ≡ law e)
-by-law law left right e (Ok None) rule h = leads-nowhere law e (law e) refl (λ r p. h r (rule.comes e r p))
-by-law law left right e (Ok (Some r)) rule h = sym (row-related (Leads law) left right e (expression_of r) rule h)
-by-law law left right e (Err m) rule h = tt

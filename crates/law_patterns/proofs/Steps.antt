@@ -9,15 +9,15 @@ use Rattle.leaf_core.specs.EqualityByCode.{same_by_is}
 use Rattle.law_patterns.specs.declared.sym.Letter.{Letter}
 use Rattle.law_patterns.specs.declared.sym.Sym.{Sym}
 use Rattle.law_patterns.specs.Pattern.{Assignment, put_before, put_before_some, written, only, filled}
-use Rattle.law_patterns.specs.Matching.{Found, Matching, failed, going, bound, bound_type, step, matched, ended}
+use Rattle.law_patterns.specs.Matching.{FoundLetters, Matching, failed, going, letter_bound, bound_type, step, matched, ended}
 
 -- a letter that has an expression already
-pub bound-again : (o : Option Expression) (d e : Expression) (k : Letter) (es : List Expression) (s : Found) (r : Bool) → Some d ≡ o → IsTrue r ↔ (d ≡ e) → going r es s ≡ bound o k e es s
+pub bound-again : (o : Option Expression) (d e : Expression) (k : Letter) (es : List Expression) (s : FoundLetters) (r : Bool) → Some d ≡ o → IsTrue r ↔ (d ≡ e) → going r es s ≡ letter_bound o k e es s
 bound-again o d e k es s r p h =
-    ap (λ b. going b es s) (same_by_is expression_code d e r h) ∙ ap (λ o. bound o k e es s) p
+    ap (λ b. going b es s) (same_by_is expression_code d e r h) ∙ ap (λ o. letter_bound o k e es s) p
 
 -- the type letter that has a type already
-pub bound_type-again : (o : Option TypeTree) (u t : TypeTree) (es : List Expression) (s : Found) (r : Bool) → Some u ≡ o → IsTrue r ↔ (u ≡ t) → going r es s ≡ bound_type o t es s
+pub bound_type-again : (o : Option TypeTree) (u t : TypeTree) (es : List Expression) (s : FoundLetters) (r : Bool) → Some u ≡ o → IsTrue r ↔ (u ≡ t) → going r es s ≡ bound_type o t es s
 bound_type-again o u t es s r p h =
     ap (λ b. going b es s) (same_by_is type_code u t r h) ∙ ap (λ o. bound_type o t es s) p
 

@@ -18,7 +18,7 @@ use Rattle.law_patterns.specs.declared.letters.Letters.{Letters}
 use Rattle.law_patterns.specs.Pattern.{Assignment, filled}
 
 -- the trees that letters have by now
-pub record Found : Type 0 where
+pub record FoundLetters : Type 0 where
   pub f : Option Expression
   pub g : Option Expression
   pub h : Option Expression
@@ -26,38 +26,38 @@ pub record Found : Type 0 where
   pub t : Option TypeTree
 
 -- no letter has a tree
-abbrev pub nothing_found : Found
+abbrev pub nothing_found : FoundLetters
 nothing_found = record { f = None; g = None; h = None; i = None; t = None }
 
 -- the expression that the code holds, if there is one
-abbrev pub expression_in : Option (Bor Expr) → Option Expression
-expression_in None = None
-expression_in (Some e) = Some (expression_of e.now)
+abbrev pub held_expression : Option (Bor Expr) → Option Expression
+held_expression None = None
+held_expression (Some e) = Some (expression_of e.now)
 
 -- the type that the code holds, if there is one
-abbrev pub type_in : Option (Bor Ty) → Option TypeTree
-type_in None = None
-type_in (Some t) = Some (type_of t.now)
+abbrev pub held_type : Option (Bor Ty) → Option TypeTree
+held_type None = None
+held_type (Some t) = Some (type_of t.now)
 
 -- what the code's `Letters` hold
-abbrev pub found_of : Letters → Found
+abbrev pub found_of : Letters → FoundLetters
 found_of s = record {
-  f = expression_in s.f;
-  g = expression_in s.g;
-  h = expression_in s.h;
-  i = expression_in s.i;
-  t = type_in s.t;
+  f = held_expression s.f;
+  g = held_expression s.g;
+  h = held_expression s.h;
+  i = held_expression s.i;
+  t = held_type s.t;
 }
 
 -- the expression of a letter, if it has one
-abbrev pub found_at : Found → Letter → Option Expression
+abbrev pub found_at : FoundLetters → Letter → Option Expression
 found_at s L.F = s.f
 found_at s L.G = s.g
 found_at s L.H = s.h
 found_at s L.I = s.i
 
 -- with this expression for a letter
-abbrev pub found_with : Found → Letter → Expression → Found
+abbrev pub found_with : FoundLetters → Letter → Expression → FoundLetters
 found_with s L.F e = record s { f = Some e }
 found_with s L.G e = record s { g = Some e }
 found_with s L.H e = record s { h = Some e }
@@ -67,20 +67,20 @@ found_with s L.I e = record s { i = Some e }
 -- letters
 pub data Matching : Type 0 where
   failed : Matching
-  matching : List Expression → Found → Matching
+  matching : List Expression → FoundLetters → Matching
 
 -- a match that goes on, or has failed
-abbrev pub going : Bool → List Expression → Found → Matching
+abbrev pub going : Bool → List Expression → FoundLetters → Matching
 going true es s = matching es s
 going false es s = failed
 
 -- a letter that had that expression, if any, at this one
-abbrev pub bound : Option Expression → Letter → Expression → List Expression → Found → Matching
-bound None k e es s = matching es (found_with s k e)
-bound (Some d) k e es s = going (same_by expression_code d e) es s
+abbrev pub letter_bound : Option Expression → Letter → Expression → List Expression → FoundLetters → Matching
+letter_bound None k e es s = matching es (found_with s k e)
+letter_bound (Some d) k e es s = going (same_by expression_code d e) es s
 
 -- the type letter, which had that type, if any, at this one
-abbrev pub bound_type : Option TypeTree → TypeTree → List Expression → Found → Matching
+abbrev pub bound_type : Option TypeTree → TypeTree → List Expression → FoundLetters → Matching
 bound_type None t es s = matching es (record s { t = Some t })
 bound_type (Some u) t es s = going (same_by type_code u t) es s
 
@@ -90,8 +90,8 @@ same_truth true b = b
 same_truth false b = not b
 
 -- a symbol at an expression: the parts of a form are to be matched next
-abbrev pub met : Sym → Expression → List Expression → Found → Matching
-met (S.Letter k) e es s = bound (found_at s k) k e es s
+abbrev pub met : Sym → Expression → List Expression → FoundLetters → Matching
+met (S.Letter k) e es s = letter_bound (found_at s k) k e es s
 met S.Input input es s = matching es s
 met S.Unit unit_expr es s = matching es s
 met (S.Truth b) (bool_expr c) es s = going (same_truth b c) es s
@@ -118,12 +118,12 @@ matched [] m = m
 matched (y ∷ ys) m = matched ys (step y m)
 
 -- the trees of the letters at the end, where nothing is left to match
-abbrev pub ended : Matching → Option Found
+abbrev pub ended : Matching → Option FoundLetters
 ended (matching [] s) = Some s
 ended _ = None
 
 -- the trees of the letters where the pattern fits the expressions
-abbrev pub fitted : List Sym → List Expression → Found → Option Found
+abbrev pub fitted : List Sym → List Expression → FoundLetters → Option FoundLetters
 fitted pattern es s = ended (matched pattern (matching es s))
 
 -- the expression, or `x`
@@ -137,7 +137,7 @@ or_unit (Some t) = t
 or_unit None = unit_ty
 
 -- trees for all letters: a letter that has none stands for `x`, or for `Unit`
-abbrev pub completed : Found → Assignment
+abbrev pub completed : FoundLetters → Assignment
 completed s = record {
   f = or_input s.f;
   g = or_input s.g;
@@ -147,7 +147,7 @@ completed s = record {
 }
 
 -- the right side, with the trees that were found
-abbrev pub built : List Sym → Option Found → Option Expression
+abbrev pub built : List Sym → Option FoundLetters → Option Expression
 built right None = None
 built right (Some s) = filled (completed s) right
 

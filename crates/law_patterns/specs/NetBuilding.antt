@@ -1,7 +1,7 @@
 -- Building networks symbol by symbol.
 use Rattle.std.specs.Prelude.{ℕ}
 use Rattle.leaf_core.specs.Expression.{Expression}
-use Rattle.net_tree.specs.Network.{Network, arr, seq, i_pre, delay, hold, after, repeatedly, switch, d_switch, r_switch, dr_switch}
+use Rattle.net_tree.specs.Network.{Network, arr, seq, i_pre, delay, hold, after, repeatedly, at_once, delayed, switch, r_switch}
 use Rattle.law_patterns.specs.declared.net_sym.NetSym.{NetSym}
 use Rattle.law_patterns.specs.declared.net_sym.NetSym.TheVariants as S
 
@@ -16,8 +16,8 @@ leaf_form _ q e = arr e
 
 -- the form of two networks
 abbrev pub pair_form : NetSym → Network Expression → Network Expression → Network Expression
-pair_form S.Switch f g = switch f g
-pair_form S.DSwitch f g = d_switch f g
-pair_form S.RSwitch f g = r_switch f g
-pair_form S.DrSwitch f g = dr_switch f g
+pair_form S.Switch f g = switch at_once f g
+pair_form S.DSwitch f g = switch delayed f g
+pair_form S.RSwitch f g = r_switch at_once f g
+pair_form S.DrSwitch f g = r_switch delayed f g
 pair_form _ f g = seq f g

@@ -5,7 +5,7 @@ use Rattle.leaf_core.specs.Expression.{Expression}
 use Rattle.leaf_core.specs.ExpressionCode.{expression_code}
 use Rattle.leaf_core.specs.EqualityByCode.{same_by}
 use Rattle.leaf_core.specs.declared.expr.Expr.{Expr}
-use Rattle.net_tree.specs.Network.{Network, arr, seq, first, loop_pre, initial_out, initial_in, i_pre, delay, hold, accum_by, after, repeatedly, time, switch, d_switch, r_switch, dr_switch, k_switch}
+use Rattle.net_tree.specs.Network.{Network, arr, seq, first, loop_pre, initial_out, initial_in, i_pre, delay, hold, accum_by, after, repeatedly, time, at_once, delayed, switch, r_switch, k_switch}
 use Rattle.net_tree.specs.NetworkCode.{network_code}
 use Rattle.net_tree.specs.NetworkView.{tree_of}
 use Rattle.net_tree.specs.declared.net.Net.{Net}
@@ -15,7 +15,7 @@ use Rattle.law_patterns.specs.declared.net_sym.NetLetter.TheVariants as L
 use Rattle.law_patterns.specs.declared.net_sym.NetSym.{NetSym}
 use Rattle.law_patterns.specs.declared.net_sym.NetSym.TheVariants as S
 use Rattle.law_patterns.specs.declared.net_letters.NetLetters.{NetLetters}
-use Rattle.law_patterns.specs.Matching.{Found, nothing_found, found_of, fitted, completed}
+use Rattle.law_patterns.specs.Matching.{FoundLetters, nothing_found, found_of, fitted, completed}
 use Rattle.law_patterns.specs.NetPattern.{NetAssignment, net_filled}
 
 -- the trees that letters have by now
@@ -24,23 +24,23 @@ pub record NetFound : Type 0 where
   pub g : Option (Network Expression)
   pub h : Option (Network Expression)
   pub q : Option ℕ
-  pub exprs : Found
+  pub exprs : FoundLetters
 
 -- no letter has a tree
 abbrev pub no_nets_found : NetFound
 no_nets_found = record { f = None; g = None; h = None; q = None; exprs = nothing_found }
 
 -- the network that the code holds, if there is one
-abbrev pub network_in : Option (Bor (Net Expr)) → Option (Network Expression)
-network_in None = None
-network_in (Some n) = Some (tree_of n.now)
+abbrev pub held_network : Option (Bor (Net Expr)) → Option (Network Expression)
+held_network None = None
+held_network (Some n) = Some (tree_of n.now)
 
 -- what the code's `NetLetters` hold
 abbrev pub nets_found_of : NetLetters → NetFound
 nets_found_of s = record {
-  f = network_in s.f;
-  g = network_in s.g;
-  h = network_in s.h;
+  f = held_network s.f;
+  g = held_network s.g;
+  h = held_network s.h;
   q = s.q;
   exprs = found_of s.exprs;
 }
@@ -79,7 +79,7 @@ number_bound None q fs s = net_matching fs (record s { q = Some q })
 number_bound (Some r) q fs s = net_going (nat_eq r q) fs s
 
 -- with these trees for the letters of expressions, if they were found
-abbrev pub leaf_found : Option Found → List (Network Expression) → NetFound → NetMatching
+abbrev pub leaf_found : Option FoundLetters → List (Network Expression) → NetFound → NetMatching
 leaf_found None fs s = net_failed
 leaf_found (Some es) fs s = net_matching fs (record s { exprs = es })
 
@@ -105,10 +105,10 @@ net_met (S.InitialOut p) (initial_out c f) fs s = leaf_step p.now c (net_matchin
 net_met (S.InitialIn p) (initial_in c f) fs s = leaf_step p.now c (net_matching (f ∷ fs) s)
 net_met S.First (first f) fs s = net_matching (f ∷ fs) s
 net_met S.Seq (seq f g) fs s = net_matching (f ∷ g ∷ fs) s
-net_met S.Switch (switch f g) fs s = net_matching (f ∷ g ∷ fs) s
-net_met S.DSwitch (d_switch f g) fs s = net_matching (f ∷ g ∷ fs) s
-net_met S.RSwitch (r_switch f g) fs s = net_matching (f ∷ g ∷ fs) s
-net_met S.DrSwitch (dr_switch f g) fs s = net_matching (f ∷ g ∷ fs) s
+net_met S.Switch (switch at_once f g) fs s = net_matching (f ∷ g ∷ fs) s
+net_met S.DSwitch (switch delayed f g) fs s = net_matching (f ∷ g ∷ fs) s
+net_met S.RSwitch (r_switch at_once f g) fs s = net_matching (f ∷ g ∷ fs) s
+net_met S.DrSwitch (r_switch delayed f g) fs s = net_matching (f ∷ g ∷ fs) s
 net_met S.KSwitch (k_switch f g h) fs s = net_matching (f ∷ g ∷ h ∷ fs) s
 net_met _ _ fs s = net_failed
 

@@ -1,7 +1,7 @@
 -- Patterns of networks: what they stand for, and the rows of laws that pairs of them make.
 use Rattle.std.specs.Prelude.{◌≡◌, ℕ, List, [], ◌∷◌, Option, Some, None}
 use Rattle.leaf_core.specs.Expression.{Expression}
-use Rattle.net_tree.specs.Network.{Network, arr, seq, first, loop_pre, initial_out, initial_in, i_pre, delay, hold, accum_by, after, repeatedly, switch, d_switch, r_switch, dr_switch, k_switch}
+use Rattle.net_tree.specs.Network.{Network, arr, seq, first, loop_pre, initial_out, initial_in, i_pre, delay, hold, accum_by, after, repeatedly, at_once, delayed, switch, r_switch, k_switch}
 use Rattle.law_patterns.specs.declared.net_sym.NetLetter.{NetLetter}
 use Rattle.law_patterns.specs.declared.net_sym.NetLetter.TheVariants as L
 use Rattle.law_patterns.specs.declared.net_sym.NetSym.{NetSym}
@@ -59,10 +59,10 @@ net_put_before a (S.InitialOut p) fs = leaf_around initial_out (filled a.exprs p
 net_put_before a (S.InitialIn p) fs = leaf_around initial_in (filled a.exprs p.now) fs
 net_put_before a S.First fs = around_one first fs
 net_put_before a S.Seq fs = around_two seq fs
-net_put_before a S.Switch fs = around_two switch fs
-net_put_before a S.DSwitch fs = around_two d_switch fs
-net_put_before a S.RSwitch fs = around_two r_switch fs
-net_put_before a S.DrSwitch fs = around_two dr_switch fs
+net_put_before a S.Switch fs = around_two (switch at_once) fs
+net_put_before a S.DSwitch fs = around_two (switch delayed) fs
+net_put_before a S.RSwitch fs = around_two (r_switch at_once) fs
+net_put_before a S.DrSwitch fs = around_two (r_switch delayed) fs
 net_put_before a S.KSwitch fs = around_three k_switch fs
 
 -- a symbol before networks, if there are any
@@ -82,7 +82,7 @@ net_filled a pattern = only (net_written a pattern)
 
 -- what a law whose sides are these patterns makes of l is r: one choice of trees for the letters
 -- fills the left side to l and the right side to r
-pub record NetRow (left right : List NetSym) (l r : Network Expression) : Type 0 where
+pub record NetPatternRow (left right : List NetSym) (l r : Network Expression) : Type 0 where
   pub letters : NetAssignment
   pub left_is : net_filled letters left ≡ Some l
   pub right_is : net_filled letters right ≡ Some r

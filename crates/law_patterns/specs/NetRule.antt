@@ -4,11 +4,11 @@ use Rattle.std.specs.Prelude.{List}
 use Rattle.leaf_core.specs.Expression.{Expression}
 use Rattle.net_tree.specs.Network.{Network}
 use Rattle.law_patterns.specs.declared.net_sym.NetSym.{NetSym}
-use Rattle.law_patterns.specs.NetPattern.{NetAssignment, net_filled, NetRow}
+use Rattle.law_patterns.specs.NetPattern.{NetAssignment, net_filled, NetPatternRow}
 use Rattle.law_patterns.specs.Rule.{Related}
 
 -- the relation P has these patterns: whatever trees stand for the letters, P relates the left side
 -- to the right side, and it relates nothing else
 pub record NetRuleInstance (P : Network Expression → Network Expression → Type 0) (left right : List NetSym) : Type 0 where
   pub gives : (a : NetAssignment) → Related P (net_filled a left) (net_filled a right)
-  pub comes : (l r : Network Expression) → P l r → NetRow left right l r
+  pub comes : (l r : Network Expression) → P l r → NetPatternRow left right l r

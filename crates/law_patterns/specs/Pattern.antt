@@ -16,11 +16,11 @@ pub record Assignment : Type 0 where
   pub t : TypeTree
 
 -- the expression that a letter stands for
-abbrev pub chosen : Assignment → Letter → Expression
-chosen a L.F = a.f
-chosen a L.G = a.g
-chosen a L.H = a.h
-chosen a L.I = a.i
+abbrev pub letter_choice : Assignment → Letter → Expression
+letter_choice a L.F = a.f
+letter_choice a L.G = a.g
+letter_choice a L.H = a.h
+letter_choice a L.I = a.i
 
 -- a form of one part, around the first of some trees; None where there is none
 abbrev pub around_one : {A : Type 0} → (A → A) → List A → Option (List A)
@@ -40,7 +40,7 @@ around_three form _ = None
 -- a symbol before expressions, of which a form takes the first ones as its parts; None where there
 -- are too few
 abbrev pub put_before : Assignment → Sym → List Expression → Option (List Expression)
-put_before a (S.Letter k) es = Some (chosen a k ∷ es)
+put_before a (S.Letter k) es = Some (letter_choice a k ∷ es)
 put_before a S.Input es = Some (input ∷ es)
 put_before a S.Unit es = Some (unit_expr ∷ es)
 put_before a (S.Truth b) es = Some (bool_expr b ∷ es)
@@ -75,7 +75,7 @@ filled a pattern = only (written a pattern)
 
 -- what a law whose sides are these patterns makes of l is r: one choice of trees for the letters
 -- fills the left side to l and the right side to r
-pub record Row (left right : List Sym) (l r : Expression) : Type 0 where
+pub record PatternRow (left right : List Sym) (l r : Expression) : Type 0 where
   pub letters : Assignment
   pub left_is : filled letters left ≡ Some l
   pub right_is : filled letters right ≡ Some r

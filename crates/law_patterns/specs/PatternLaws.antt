@@ -9,8 +9,8 @@ use Rattle.law_patterns.specs.declared.sym.Sym.TheVariants as S
 use Rattle.law_patterns.specs.declared.net_sym.NetLetter.{NetLetter}
 use Rattle.law_patterns.specs.declared.net_sym.NetSym.{NetSym}
 use Rattle.law_patterns.specs.declared.net_sym.NetSym.TheVariants as N
-use Rattle.law_patterns.specs.Pattern.{Row}
-use Rattle.law_patterns.specs.NetPattern.{NetRow}
+use Rattle.law_patterns.specs.Pattern.{PatternRow}
+use Rattle.law_patterns.specs.NetPattern.{NetPatternRow}
 
 -- a letter of any kind
 pub data AnyLetter : Type 0 where
@@ -51,13 +51,13 @@ net_letters_of [] = []
 net_letters_of (s ∷ ss) = net_letters_in s ++ net_letters_of ss
 
 -- where each letter of the right side stands in the left one, a law has one right side
-abbrev pub OneRightSideLaw : Type 0
-OneRightSideLaw = (left right : List Sym) (l r s : Expression)
+abbrev pub PatternOneRightSideLaw : Type 0
+PatternOneRightSideLaw = (left right : List Sym) (l r s : Expression)
     → All (Contains (letters_of left)) (letters_of right)
-    → Row left right l r → Row left right l s → r ≡ s
+    → PatternRow left right l r → PatternRow left right l s → r ≡ s
 
 -- the same of networks
 abbrev pub NetOneRightSideLaw : Type 0
 NetOneRightSideLaw = (left right : List NetSym) (l r s : Network Expression)
     → All (Contains (net_letters_of left)) (net_letters_of right)
-    → NetRow left right l r → NetRow left right l s → r ≡ s
+    → NetPatternRow left right l r → NetPatternRow left right l s → r ≡ s

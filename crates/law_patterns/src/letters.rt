@@ -3,8 +3,8 @@
 ghost use Rattle.std.specs.Prelude.{◌≡◌, IfOk};
 ghost use Rattle.leaf_core.specs.ExpressionView.{expression_of};
 ghost use Rattle.sample_core.specs.TypeView.{type_of};
-ghost use Rattle.law_patterns.specs.Matching.{nothing_found, found_of, found_at, found_with, expression_in, going, bound, bound_type, completed, or_input};
-ghost use Rattle.law_patterns.specs.Pattern.{chosen};
+ghost use Rattle.law_patterns.specs.Matching.{nothing_found, found_of, found_at, found_with, held_expression, going, letter_bound, bound_type, completed, or_input};
+ghost use Rattle.law_patterns.specs.Pattern.{letter_choice};
 
 use crate::sym::Letter;
 use leaf_core::{Expr, same_expr};
@@ -37,7 +37,7 @@ impl<'t> Letters<'t> {
 
     /// The expression of the letter, if it has one.
     pub(crate) fn get(&self, letter: Letter) -> Option<&'t Expr>
-        ensures { expression_in result ≡ found_at (found_of self.now) letter }
+        ensures { held_expression result ≡ found_at (found_of self.now) letter }
     {
         match letter {
             Letter::F => self.f,
@@ -61,7 +61,7 @@ impl<'t> Letters<'t> {
 
     /// Lets the letter stand for the expression, where it stands for no other: whether it does.
     pub(crate) fn bind(&mut self, letter: Letter, expr: &'t Expr) -> bool
-        ensures { (es : _) → going result es (found_of self.new) ≡ bound (found_at (found_of self.old) letter) letter (expression_of expr.now) es (found_of self.old) }
+        ensures { (es : _) → going result es (found_of self.new) ≡ letter_bound (found_at (found_of self.old) letter) letter (expression_of expr.now) es (found_of self.old) }
     {
         match self.get(letter) {
             Some(earlier) => same_expr(earlier, expr),
@@ -88,7 +88,7 @@ impl<'t> Letters<'t> {
     /// A copy of what the letter stands for; `x` where it stands for nothing. `Memory` where a count
     /// of references is full.
     pub(crate) fn copy_of(&self, alloc: Global, letter: Letter) -> Result<Expr, Memory>
-        ensures { IfOk result (λ e. expression_of e ≡ chosen (completed (found_of self.now)) letter) }
+        ensures { IfOk result (λ e. expression_of e ≡ letter_choice (completed (found_of self.now)) letter) }
     {
         match letter {
             Letter::F => copy_or_input(alloc, self.f),
@@ -112,7 +112,7 @@ impl<'t> Letters<'t> {
 
 /// A copy of the expression; `x` where there is none.
 fn copy_or_input(alloc: Global, expr: Option<&Expr>) -> Result<Expr, Memory>
-    ensures { IfOk result (λ e. expression_of e ≡ or_input (expression_in expr.entry)) }
+    ensures { IfOk result (λ e. expression_of e ≡ or_input (held_expression expr.entry)) }
 {
     match expr {
         Some(expr) => expr.try_copy(alloc),

@@ -4,7 +4,7 @@ ghost use Rattle.std.specs.Prelude.{◌≡◌, IfOk};
 ghost use Rattle.leaf_core.specs.ExpressionView.{expression_of};
 ghost use Rattle.net_tree.specs.NetworkView.{tree_of};
 ghost use Rattle.law_patterns.specs.NetPattern.{net_chosen};
-ghost use Rattle.law_patterns.specs.NetMatching.{no_nets_found, nets_found_of, net_found_at, net_found_with, network_in, net_going, net_matching, net_bound, number_bound, leaf_step, net_completed, or_time, or_zero};
+ghost use Rattle.law_patterns.specs.NetMatching.{no_nets_found, nets_found_of, net_found_at, net_found_with, held_network, net_going, net_matching, net_bound, number_bound, leaf_step, net_completed, or_time, or_zero};
 
 use crate::letters::Letters;
 use crate::matching::fit;
@@ -41,7 +41,7 @@ impl<'t> NetLetters<'t> {
 
     /// The network of the letter, if it has one.
     pub(crate) fn get(&self, letter: NetLetter) -> Option<&'t Net<Expr>>
-        ensures { network_in result ≡ net_found_at (nets_found_of self.now) letter }
+        ensures { held_network result ≡ net_found_at (nets_found_of self.now) letter }
     {
         match letter {
             NetLetter::F => self.f,
@@ -178,7 +178,7 @@ impl<'t> NetLetters<'t> {
 
 /// A copy of the network; `time` where there is none.
 fn copy_or_time(alloc: Global, net: Option<&Net<Expr>>) -> Result<Net<Expr>, Memory>
-    ensures { IfOk result (λ n. tree_of n ≡ or_time (network_in net.entry)) }
+    ensures { IfOk result (λ n. tree_of n ≡ or_time (held_network net.entry)) }
 {
     match net {
         Some(net) => net.try_copy(alloc),

@@ -4,7 +4,7 @@ use Rattle.law_rules.specs.NetworkRow.{SeesSteps, after_sees, assoc, behind_rout
 use Rattle.leaf_core.specs.Expression.{Expression, Expressions, event_expr, fst, input, int_expr, list_expr, no_event_expr, nth, pair_expr, then_expr, unit_expr}
 use Rattle.leaf_core.specs.ExpressionValue.{value_of}
 use Rattle.net_meaning.specs.Meaning.{Context, meaning, meanings, with_olds, with_param}
-use Rattle.net_tree.specs.Network.{Network, Networks, accum_by, after, and_member, arr, d_switch, delay, first, hold, i_pre, initial_in, initial_out, k_switch, loop_pre, no_members, p_switch, par, r_switch, repeatedly, rp_switch, seq, switch}
+use Rattle.net_tree.specs.Network.{Timing, at_once, Network, Networks, accum_by, after, and_member, arr, delay, first, hold, i_pre, initial_in, initial_out, k_switch, loop_pre, no_members, p_switch, par, r_switch, repeatedly, rp_switch, seq, switch}
 use Rattle.net_meaning.specs.Typing.{members}
 use Rattle.net_tree.specs.Place.{member}
 use Rattle.net_meaning.specs.SignalFunction.{IsSignalFunction, SignalFunction, TimedList, par_function, route_each}
@@ -15,7 +15,7 @@ use Rattle.law_rules.proofs.CellLaws
 use Rattle.law_rules.proofs.LoopLaws
 use Rattle.law_rules.proofs.ParallelLaws
 use Rattle.law_rules.proofs.SomeLaws.{seq_function_assoc, sequence-feedback}
-use Rattle.law_rules.proofs.SwitchLaws.{choosing-quiet, on_left-switching, on_left-switching_late, pointwise-before, restarting-quiet, switching-quiet, switching_all-quiet, switching_late-quiet, switching_on-quiet}
+use Rattle.law_rules.proofs.SwitchLaws.{choosing-quiet, on_left-switching, pointwise-before, restarting-quiet, switching-quiet, switching_all-quiet, switching_on-quiet}
 use Rattle.net_meaning.proofs.Meanings.{IsSignal-meaning}
 use Rattle.net_meaning.proofs.Plain.{AllSignals, IsSignal-on_left}
 
@@ -111,20 +111,14 @@ law_25 e f E s xs = ArrowLaws.sequence-constant (value_of e E.params unit) (mean
 pub law_26 : (q : ℕ) (c f : Expression) → AlikeNets (seq (delay q c) (arr f)) (seq (arr f) (delay q (then_expr c f)))
 law_26 q c f E s xs = CellLaws.delayed-applied (value_of f E.params) q (value_of c E.params unit) xs
 
-pub law_31 : (C : TypeTree) (f t : Network Expression) → AlikeNets (switch (seq f (arr (pair_expr input (no_event_expr C)))) t) f
-law_31 C f t E s xs = at xs (switching-quiet (meaning value_of f E) (into t E) (signal f E s))
+pub laws_31_32 : (tm : Timing) (C : TypeTree) (f t : Network Expression) → AlikeNets (switch tm (seq f (arr (pair_expr input (no_event_expr C)))) t) f
+laws_31_32 tm C f t E s xs = at xs (switching-quiet tm (meaning value_of f E) (into t E) (signal f E s))
 
-pub law_32 : (C : TypeTree) (f t : Network Expression) → AlikeNets (d_switch (seq f (arr (pair_expr input (no_event_expr C)))) t) f
-law_32 C f t E s xs = at xs (switching_late-quiet (meaning value_of f E) (into t E) (signal f E s))
+pub laws_33_34 : (tm : Timing) (f t : Network Expression) → AlikeNets (first (switch tm f t)) (switch tm (seq (first f) (arr event_last)) (first t))
+laws_33_34 tm f t E s xs = at xs (on_left-switching tm (meaning value_of f E) (into t E) (signal f E s))
 
-pub law_33 : (f t : Network Expression) → AlikeNets (first (switch f t)) (switch (seq (first f) (arr event_last)) (first t))
-law_33 f t E s xs = at xs (on_left-switching (meaning value_of f E) (into t E) (signal f E s))
-
-pub law_34 : (f t : Network Expression) → AlikeNets (first (d_switch f t)) (d_switch (seq (first f) (arr event_last)) (first t))
-law_34 f t E s xs = at xs (on_left-switching_late (meaning value_of f E) (into t E) (signal f E s))
-
-pub law_35 : (C : TypeTree) (e : Expression) (f t : Network Expression) → AlikeNets (seq (arr (pair_expr e (no_event_expr C))) (r_switch f t)) (seq (arr e) f)
-law_35 C e f t E s xs = at xs (restarting-quiet (value_of e E.params) (meaning value_of f E) (into t E))
+pub law_35 : (C : TypeTree) (e : Expression) (f t : Network Expression) → AlikeNets (seq (arr (pair_expr e (no_event_expr C))) (r_switch at_once f t)) (seq (arr e) f)
+law_35 C e f t E s xs = at xs (restarting-quiet at_once (value_of e E.params) (meaning value_of f E) (into t E))
 
 pub law_37 : (C : TypeTree) (f t : Network Expression) → AlikeNets (k_switch f (arr (no_event_expr C)) t) f
 law_37 C f t E s xs = at xs (switching_on-quiet (meaning value_of f E) (λ c o. meaning value_of t (with_olds (with_param E c) (o ∷ []))))

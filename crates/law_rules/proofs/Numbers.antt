@@ -26,11 +26,3 @@ module _ (olds : ℕ) where
   pub row-numbers : (n : ℕ) → SomeRow olds n ↔ ((1 ≤ n) × (n ≤ 46))
   row-numbers zero = (λ s. numbered s.2, λ h. absurd (omega (arith, h.0)))
   row-numbers (suc n) = (λ s. numbered s.2, λ h. subst (SomeRow olds) (shifted-is 1 n ∙ omega arith) (row-from olds 1 46 n (all-rows olds) (omega (arith, h.1))))
-
--- numbers from 47 on have no row
-pub no-row : (n olds : ℕ) (l r : Network Expression) → 47 ≤ n → NetworkRow n olds l r → ⊥
-no-row n olds l r h row = let k : (1 ≤ n) × (n ≤ 46) = numbered row in absurd (omega (arith, h, k.1))
-
--- nor has 0
-pub no-row_0 : (n olds : ℕ) (l r : Network Expression) → n ≡ 0 → NetworkRow n olds l r → ⊥
-no-row_0 n olds l r q row = let k : (1 ≤ n) × (n ≤ 46) = numbered row in absurd (omega (arith, q, k.0))

@@ -8,8 +8,8 @@ use Rattle.leaf_core.specs.Expression.{Expression, pair_expr}
 use Rattle.leaf_core.specs.ExpressionValue.{value_of}
 use Rattle.leaf_core.specs.ExpressionTyping.{ExpressionTyped, pair_typed}
 use Rattle.leaf_core.proofs.Soundness.{typed_value}
-use Rattle.net_meaning.specs.SignalFunction.{SignalFunction, TimedList, IsSignalFunction, seq_function, switch_function, d_switch_function, r_switch_function, dr_switch_function}
-use Rattle.net_tree.specs.Network.{Network, arr, seq, first, i_pre, switch, d_switch, r_switch, dr_switch, k_switch, old}
+use Rattle.net_meaning.specs.SignalFunction.{SignalFunction, TimedList, IsSignalFunction, seq_function, switch_function, r_switch_function}
+use Rattle.net_tree.specs.Network.{Timing, Network, arr, seq, first, i_pre, at_once, delayed, switch, r_switch, k_switch, old}
 use Rattle.net_meaning.specs.Meaning.{Context, meaning, with_param}
 use Rattle.net_meaning.specs.Typing.{Arrow, TypedSamples, arr_typed, seq_typed, i_pre_typed}
 use Rattle.net_meaning.specs.TypedNetwork.{NetTyped}
@@ -24,8 +24,8 @@ use Rattle.law_rules.specs.NetworkRow.{NetworkRow, swap, left_by, row_l1, row_l2
 use Rattle.law_rules.proofs.Scopes.{value-stays}
 use Rattle.law_rules.proofs.SomeLaws.{switching_on-old}
 use Rattle.law_rules.proofs.CellLaws.{previous_of-pair}
-use Rattle.law_rules.proofs.SwitchLaws.{pointwise, sequence-switching, sequence-switching_late, switching-pointwise, switching_late-pointwise, restarting-pointwise, restarting_late-pointwise}
-use Rattle.law_rules.proofs.NetworkLaws.{AlikeNets, at, into, law_1, law_2, law_3, law_4, law_5, law_6, law_7, law_8, law_9, law_10, law_11, law_13, law_14, law_15, law_16, law_17, law_18, law_19, law_20, law_21, law_22, law_23, law_24, law_25, law_26, law_31, law_32, law_33, law_34, law_35, law_37, law_39, law_40, law_41, law_42, law_43, law_44, law_46}
+use Rattle.law_rules.proofs.SwitchLaws.{pointwise, sequence-switching, switching-pointwise, restarting-pointwise}
+use Rattle.law_rules.proofs.NetworkLaws.{AlikeNets, at, into, law_1, law_2, law_3, law_4, law_5, law_6, law_7, law_8, law_9, law_10, law_11, law_13, law_14, law_15, law_16, law_17, law_18, law_19, law_20, law_21, law_22, law_23, law_24, law_25, law_26, laws_31_32, laws_33_34, law_35, law_37, law_39, law_40, law_41, law_42, law_43, law_44, law_46}
 
 -- the two networks mean the same in each scope that these types describe
 abbrev SameIn : List TypeTree → List Arrow → TypeTree → Network Expression → Network Expression → Type 0
@@ -56,31 +56,23 @@ before-into h t E k = fun_ext λ c. ap (λ g. seq_function (pointwise g) (into t
 after-into : (h : Expression) (t : Network Expression) (E : Context) → Steady h E → ◌≡◌ {A = Datum → SignalFunction} (λ c. seq_function (into t E c) (pointwise (value_of h E.params))) (λ c. into (seq t (arr h)) E c)
 after-into h t E k = fun_ext λ c. ap (λ g. seq_function (into t E c) (pointwise g)) (sym (k c))
 
-law_27 : (h : Expression) (f t : Network Expression) (E : Context) → Steady h E → meaning value_of (seq (arr h) (switch f t)) E ≡ meaning value_of (switch (seq (arr h) f) (seq (arr h) t)) E
-law_27 h f t E k = sequence-switching (value_of h E.params) (meaning value_of f E) (into t E) ∙ ap (switch_function (meaning value_of (seq (arr h) f) E)) (before-into h t E k)
+laws_27_28 : (tm : Timing) (h : Expression) (f t : Network Expression) (E : Context) → Steady h E
+    → meaning value_of (seq (arr h) (switch tm f t)) E ≡ meaning value_of (switch tm (seq (arr h) f) (seq (arr h) t)) E
+laws_27_28 tm h f t E k =
+    sequence-switching tm (value_of h E.params) (meaning value_of f E) (into t E)
+    ∙ ap (switch_function tm (meaning value_of (seq (arr h) f) E)) (before-into h t E k)
 
-law_28 : (h : Expression) (f t : Network Expression) (E : Context) → Steady h E → meaning value_of (seq (arr h) (d_switch f t)) E ≡ meaning value_of (d_switch (seq (arr h) f) (seq (arr h) t)) E
-law_28 h f t E k = sequence-switching_late (value_of h E.params) (meaning value_of f E) (into t E) ∙ ap (d_switch_function (meaning value_of (seq (arr h) f) E)) (before-into h t E k)
+laws_29_30 : (tm : Timing) (h : Expression) (f t : Network Expression) (E : Context) → AllSignals E.olds → Steady h E
+    → meaning value_of (seq (switch tm f t) (arr h)) E ≡ meaning value_of (switch tm (seq f (arr (left_by h))) (seq t (arr h))) E
+laws_29_30 tm h f t E s k =
+    switching-pointwise tm (value_of h E.params) (meaning value_of f E) (into t E) (signal f E s) (continues t E s)
+    ∙ ap (switch_function tm (meaning value_of (seq f (arr (left_by h))) E)) (after-into h t E k)
 
-law_29 : (h : Expression) (f t : Network Expression) (E : Context) → AllSignals E.olds → Steady h E → meaning value_of (seq (switch f t) (arr h)) E ≡ meaning value_of (switch (seq f (arr (left_by h))) (seq t (arr h))) E
-law_29 h f t E s k =
-    switching-pointwise (value_of h E.params) (meaning value_of f E) (into t E) (signal f E s) (continues t E s)
-    ∙ ap (switch_function (meaning value_of (seq f (arr (left_by h))) E)) (after-into h t E k)
-
-law_30 : (h : Expression) (f t : Network Expression) (E : Context) → AllSignals E.olds → Steady h E → meaning value_of (seq (d_switch f t) (arr h)) E ≡ meaning value_of (d_switch (seq f (arr (left_by h))) (seq t (arr h))) E
-law_30 h f t E s k =
-    switching_late-pointwise (value_of h E.params) (meaning value_of f E) (into t E) (signal f E s) (continues t E s)
-    ∙ ap (d_switch_function (meaning value_of (seq f (arr (left_by h))) E)) (after-into h t E k)
-
-law_36 : (h : Expression) (f t : Network Expression) (E : Context) → AllSignals E.olds → Steady h E → meaning value_of (seq (r_switch f t) (arr h)) E ≡ meaning value_of (r_switch (seq f (arr h)) (seq t (arr h))) E
-law_36 h f t E s k =
-    restarting-pointwise (value_of h E.params) (meaning value_of f E) (into t E) (signal f E s) (continues t E s)
-    ∙ ap (r_switch_function (meaning value_of (seq f (arr h)) E)) (after-into h t E k)
-
-law_45 : (h : Expression) (f t : Network Expression) (E : Context) → AllSignals E.olds → Steady h E → meaning value_of (seq (dr_switch f t) (arr h)) E ≡ meaning value_of (dr_switch (seq f (arr h)) (seq t (arr h))) E
-law_45 h f t E s k =
-    restarting_late-pointwise (value_of h E.params) (meaning value_of f E) (into t E) (signal f E s) (continues t E s)
-    ∙ ap (dr_switch_function (meaning value_of (seq f (arr h)) E)) (after-into h t E k)
+laws_36_45 : (tm : Timing) (h : Expression) (f t : Network Expression) (E : Context) → AllSignals E.olds → Steady h E
+    → meaning value_of (seq (r_switch tm f t) (arr h)) E ≡ meaning value_of (r_switch tm (seq f (arr h)) (seq t (arr h))) E
+laws_36_45 tm h f t E s k =
+    restarting-pointwise tm (value_of h E.params) (meaning value_of f E) (into t E) (signal f E s) (continues t E s)
+    ∙ ap (r_switch_function tm (meaning value_of (seq f (arr h)) E)) (after-into h t E k)
 
 -- the network that is frozen is the one of number n where n are in scope before
 law_38 : (n : ℕ) (f e : Network Expression) (E : Context) → AllSignals E.olds → length E.olds ≡ n → (xs : TimedList) → meaning value_of (k_switch f e (old n)) E xs ≡ meaning value_of f E xs
@@ -126,16 +118,16 @@ same-in law olds Ps Os A B l r (row_l23 {T = T} {c = c} {g = g}) n d = everywher
 same-in law olds Ps Os A B l r (row_l24 {T = T} {g = g} {h = h} {z = z}) n d = everywhere Ps Os A l r (law_24 T g h z)
 same-in law olds Ps Os A B l r (row_l25 {e = e} {f = f}) n d = everywhere Ps Os A l r (law_25 e f)
 same-in law olds Ps Os A B l r (row_l26 {q = q} {c = c} {f = f}) n d = everywhere Ps Os A l r (law_26 q c f)
-same-in law olds Ps Os A B l r (row_l27 {h = h} {f = f} {t = t}) n (seq_typed (arr_typed {B = C} e) d) = λ ps os k a xs j. at xs (law_27 h f t (context ps os) (steady h Ps A C e ps os k))
-same-in law olds Ps Os A B l r (row_l28 {h = h} {f = f} {t = t}) n (seq_typed (arr_typed {B = C} e) d) = λ ps os k a xs j. at xs (law_28 h f t (context ps os) (steady h Ps A C e ps os k))
-same-in law olds Ps Os A B l r (row_l29 {h = h} {f = f} {t = t}) n (seq_typed d (arr_typed {A = C} e)) = λ ps os k a xs j. at xs (law_29 h f t (context ps os) (signals_right os os a) (steady h Ps C B e ps os k))
-same-in law olds Ps Os A B l r (row_l30 {h = h} {f = f} {t = t}) n (seq_typed d (arr_typed {A = C} e)) = λ ps os k a xs j. at xs (law_30 h f t (context ps os) (signals_right os os a) (steady h Ps C B e ps os k))
-same-in law olds Ps Os A B l r (row_l31 {C = C} {t = t}) n d = everywhere Ps Os A l r (law_31 C r t)
-same-in law olds Ps Os A B l r (row_l32 {C = C} {t = t}) n d = everywhere Ps Os A l r (law_32 C r t)
-same-in law olds Ps Os A B l r (row_l33 {f = f} {t = t}) n d = everywhere Ps Os A l r (law_33 f t)
-same-in law olds Ps Os A B l r (row_l34 {f = f} {t = t}) n d = everywhere Ps Os A l r (law_34 f t)
+same-in law olds Ps Os A B l r (row_l27 {h = h} {f = f} {t = t}) n (seq_typed (arr_typed {B = C} e) d) = λ ps os k a xs j. at xs (laws_27_28 at_once h f t (context ps os) (steady h Ps A C e ps os k))
+same-in law olds Ps Os A B l r (row_l28 {h = h} {f = f} {t = t}) n (seq_typed (arr_typed {B = C} e) d) = λ ps os k a xs j. at xs (laws_27_28 delayed h f t (context ps os) (steady h Ps A C e ps os k))
+same-in law olds Ps Os A B l r (row_l29 {h = h} {f = f} {t = t}) n (seq_typed d (arr_typed {A = C} e)) = λ ps os k a xs j. at xs (laws_29_30 at_once h f t (context ps os) (signals_right os os a) (steady h Ps C B e ps os k))
+same-in law olds Ps Os A B l r (row_l30 {h = h} {f = f} {t = t}) n (seq_typed d (arr_typed {A = C} e)) = λ ps os k a xs j. at xs (laws_29_30 delayed h f t (context ps os) (signals_right os os a) (steady h Ps C B e ps os k))
+same-in law olds Ps Os A B l r (row_l31 {C = C} {t = t}) n d = everywhere Ps Os A l r (laws_31_32 at_once C r t)
+same-in law olds Ps Os A B l r (row_l32 {C = C} {t = t}) n d = everywhere Ps Os A l r (laws_31_32 delayed C r t)
+same-in law olds Ps Os A B l r (row_l33 {f = f} {t = t}) n d = everywhere Ps Os A l r (laws_33_34 at_once f t)
+same-in law olds Ps Os A B l r (row_l34 {f = f} {t = t}) n d = everywhere Ps Os A l r (laws_33_34 delayed f t)
 same-in law olds Ps Os A B l r (row_l35 {C = C} {e = e} {f = f} {t = t}) n d = everywhere Ps Os A l r (law_35 C e f t)
-same-in law olds Ps Os A B l r (row_l36 {h = h} {f = f} {t = t}) n (seq_typed d (arr_typed {A = C} e)) = λ ps os k a xs j. at xs (law_36 h f t (context ps os) (signals_right os os a) (steady h Ps C B e ps os k))
+same-in law olds Ps Os A B l r (row_l36 {h = h} {f = f} {t = t}) n (seq_typed d (arr_typed {A = C} e)) = λ ps os k a xs j. at xs (laws_36_45 at_once h f t (context ps os) (signals_right os os a) (steady h Ps C B e ps os k))
 same-in law olds Ps Os A B l r (row_l37 {C = C} {t = t}) n d = everywhere Ps Os A l r (law_37 C r t)
 same-in law olds Ps Os A B l r (row_l38 {e = e}) n d = λ ps os k a xs j. law_38 olds r e (context ps os) (signals_right os os a) (how-many os os a ∙ n) xs
 same-in law olds Ps Os A B l r (row_l39 {C = C} {r = c} {fs = fs} {t = t} some few) n d = everywhere Ps Os A l r (law_39 C c fs t)
@@ -144,7 +136,7 @@ same-in law olds Ps Os A B l r (row_l41 {h = h} {fs = fs} some few) n d = everyw
 same-in law olds Ps Os A B l r (row_l42 {T = T} {es = es} some few) n d = everywhere Ps Os A l r (law_42 T es)
 same-in law olds Ps Os A B l r (row_l43 {c = c} {d = e} {f = f}) n d = everywhere Ps Os A l r (law_43 c e f)
 same-in law olds Ps Os A B l r (row_l44 {c = c} {f = f}) n d = everywhere Ps Os A l r (law_44 c f)
-same-in law olds Ps Os A B l r (row_l45 {h = h} {f = f} {t = t}) n (seq_typed d (arr_typed {A = C} e)) = λ ps os k a xs j. at xs (law_45 h f t (context ps os) (signals_right os os a) (steady h Ps C B e ps os k))
+same-in law olds Ps Os A B l r (row_l45 {h = h} {f = f} {t = t}) n (seq_typed d (arr_typed {A = C} e)) = λ ps os k a xs j. at xs (laws_36_45 delayed h f t (context ps os) (signals_right os os a) (steady h Ps C B e ps os k))
 same-in law olds Ps Os A B l r (row_l46 {C = C} {e = e} {m = m} {fs = fs} {t = t} some few) n d = everywhere Ps Os A l r (law_46 C e m fs t few)
 
 pub same-sides : (law olds : ℕ) (Ps : List TypeTree) (Os : List Arrow) (A B : TypeTree) (l r : Network Expression) → NetworkRow law olds l r → length Os ≡ olds → NetTyped Ps Os l A B → NetTyped Ps Os r A B

@@ -1,17 +1,17 @@
 -- The laws of switches, on signals: equations of functions.
-use Rattle.std.proofs.Common.{List, None, Option, Some, [], ap, append-nil, ap₂, arith, drop, flat_map, take_all, ◌≤◌, length, map, refl, suc, sym, take, zero, ℕ, ◌++◌, ◌∙◌, ◌∷◌, ◌≡◌}
+use Rattle.std.proofs.Common.{List, None, Option, Some, [], ap, append-nil, ap₂, arith, drop, take_all, ◌≤◌, length, map, refl, suc, sym, take, zero, ℕ, ◌++◌, ◌∙◌, ◌∷◌, ◌≡◌}
 use Rattle.std.proofs.lemmas.List.{drop-map, length-map, map-append, take-map}
 use Rattle.std.proofs.lemmas.Simd.{map-map}
 use mathlib.Core.Path.{fun_ext}
 use Rattle.net_meaning.specs.Examples.{n}
-use Rattle.net_meaning.specs.SignalFunction.{IsSignalFunction, SignalFunction, TimedList, all_of, by_members, collect, cut_at, d_switch_function, dr_switch_function, each_late, each_value, first_event, first_members, gather, member_outputs, new_members, next_sample, par_function, rp_switch_function, first_function, freeze_all, k_switch_function, later, lefts, p_switch_function, pair_samples, pairs, pieces, put_sample, r_switch_function, resume, rights, seq_function, switch_function, values, watch, with_values}
+use Rattle.net_meaning.specs.SignalFunction.{IsSignalFunction, SignalFunction, TimedList, all_of, by_members, collect, cut_at, each_piece, each_value, first_event, first_members, gather, member_outputs, new_members, par_function, rp_switch_function, first_function, freeze_all, k_switch_function, lap, later, lefts, p_switch_function, pair_samples, pairs, pieces, put_sample, r_switch_function, resume, rights, seq_function, switch_function, until, values, watch, with_values}
+use Rattle.net_tree.specs.Network.{Timing, at_once, delayed}
 use Rattle.sample_core.specs.Datum.{Datum, left, no_event, pair, right}
 use Rattle.net_meaning.proofs.Plain.{IsSignal-on_left}
 use Rattle.net_meaning.proofs.Restarting.{IsSignal-restarting}
-use Rattle.net_meaning.proofs.LateRestarts.{IsSignal-restarting_late}
 use Rattle.net_meaning.proofs.RelatedMembers.{rows_of}
 use Rattle.net_meaning.proofs.Switched.{switch_at-none}
-use Rattle.net_meaning.proofs.Switches.{IsSignal-switching, IsSignal-switching_late}
+use Rattle.net_meaning.proofs.Switches.{IsSignal-switching}
 
 -- `arr`
 abbrev pub pointwise : (Datum → Datum) → SignalFunction
@@ -42,25 +42,19 @@ cut_at-same : (o : Option (ℕ × Datum)) (ys : List Datum) (go go' : ℕ → Da
 cut_at-same o ys go go' e = ap (cut_at o ys) (fun_ext λ n. fun_ext (e n))
 
 -- changed inputs
-module _ (h : Datum → Datum) (f : SignalFunction) (t : Datum → SignalFunction) where
-  pub switching-before : (λ xs. switch_function f t (each_value h xs)) ≡ switch_function (λ xs. f (each_value h xs)) (λ c xs. t c (each_value h xs))
-  switching-before = fun_ext λ xs.
-      let ys : TimedList = each_value h xs in
-      cut_at-same (first_event (rights f ys)) (lefts f ys) _ _ (λ n c. ap (λ zs. take n (lefts f ys) ++ t c zs) (drop-map (λ x. (x.0, h x.1)) n xs))
-
-  pub switching_late-before : (λ xs. d_switch_function f t (each_value h xs)) ≡ d_switch_function (λ xs. f (each_value h xs)) (λ c xs. t c (each_value h xs))
-  switching_late-before = fun_ext λ xs.
-      let ys : TimedList = each_value h xs in
-      cut_at-same (first_event (rights f ys)) (lefts f ys) _ _ (λ n c. ap (λ zs. take (suc n) (lefts f ys) ++ drop 1 (t c zs)) (drop-map (λ x. (x.0, h x.1)) n xs))
+switching-before : (tm : Timing) (h : Datum → Datum) (f : SignalFunction) (t : Datum → SignalFunction)
+    → (λ xs. switch_function tm f t (each_value h xs)) ≡ switch_function tm (λ xs. f (each_value h xs)) (λ c xs. t c (each_value h xs))
+switching-before tm h f t = fun_ext λ xs.
+    let ys : TimedList = each_value h xs in
+    cut_at-same (first_event (rights f ys)) (lefts f ys) _ _
+    (λ n c. ap (λ zs. take (until tm n) (lefts f ys) ++ drop (until tm 0) (t c zs)) (drop-map (λ x. (x.0, h x.1)) n xs))
 
 -- L27, L28
-pub sequence-switching : (h : Datum → Datum) (f : SignalFunction) (t : Datum → SignalFunction) → seq_function (pointwise h) (switch_function f t) ≡ switch_function (seq_function (pointwise h) f) (λ c. seq_function (pointwise h) (t c))
-sequence-switching h f t =
-    pointwise-before h (switch_function f t) ∙ switching-before h f t ∙ sym (ap₂ switch_function (pointwise-before h f) (fun_ext λ c. pointwise-before h (t c)))
-
-pub sequence-switching_late : (h : Datum → Datum) (f : SignalFunction) (t : Datum → SignalFunction) → seq_function (pointwise h) (d_switch_function f t) ≡ d_switch_function (seq_function (pointwise h) f) (λ c. seq_function (pointwise h) (t c))
-sequence-switching_late h f t =
-    pointwise-before h (d_switch_function f t) ∙ switching_late-before h f t ∙ sym (ap₂ d_switch_function (pointwise-before h f) (fun_ext λ c. pointwise-before h (t c)))
+pub sequence-switching : (tm : Timing) (h : Datum → Datum) (f : SignalFunction) (t : Datum → SignalFunction)
+    → seq_function (pointwise h) (switch_function tm f t) ≡ switch_function tm (seq_function (pointwise h) f) (λ c. seq_function (pointwise h) (t c))
+sequence-switching tm h f t =
+    pointwise-before h (switch_function tm f t) ∙ switching-before tm h f t
+    ∙ sym (ap₂ (switch_function tm) (pointwise-before h f) (fun_ext λ c. pointwise-before h (t c)))
 
 -- outputs changed, before and after the switch alike
 through : (F : List Datum → List Datum) (o : Option (ℕ × Datum)) (ys : List Datum) (go go' : ℕ → Datum → List Datum) → ((n : ℕ) (c : Datum) → F (go n c) ≡ go' n c) → F (cut_at o ys go) ≡ cut_at o (F ys) go'
@@ -70,7 +64,7 @@ through F o ys go go' e = cut_at-through F o ys go ∙ cut_at-same o (F ys) (λ 
 abbrev pub change_left : (Datum → Datum) → Datum → Datum
 change_left h v = pair (h (left v)) (right v)
 
-module _ (h : Datum → Datum) (f : SignalFunction) (t : Datum → SignalFunction) where
+module _ (tm : Timing) (h : Datum → Datum) (f : SignalFunction) (t : Datum → SignalFunction) where
   lefts-changed : (xs : TimedList) → map left (map (change_left h) (f xs)) ≡ map h (lefts f xs)
   lefts-changed xs = map-map left (change_left h) (f xs) ∙ sym (map-map h left (f xs))
 
@@ -80,25 +74,21 @@ module _ (h : Datum → Datum) (f : SignalFunction) (t : Datum → SignalFunctio
   map-joined : (n : ℕ) (vs ws : List Datum) → map h (take n vs ++ ws) ≡ take n (map h vs) ++ map h ws
   map-joined n vs ws = map-append h (take n vs) ws ∙ ap (λ us. us ++ map h ws) (sym (take-map h n vs))
 
-  pub switching-after : (λ xs. map h (switch_function f t xs)) ≡ switch_function (λ xs. map (change_left h) (f xs)) (λ c xs. map h (t c xs))
+  switching-after : (λ xs. map h (switch_function tm f t xs)) ≡ switch_function tm (λ xs. map (change_left h) (f xs)) (λ c xs. map h (t c xs))
   switching-after = fun_ext λ xs.
-      through (map h) (first_event (rights f xs)) (lefts f xs) _ _ (λ n c. map-joined n (lefts f xs) (t c (drop n xs)))
-      ∙ sym (ap₂ (λ rs ls. cut_at (first_event rs) ls (λ n c. take n ls ++ map h (t c (drop n xs)))) (rights-changed xs) (lefts-changed xs))
-
-  pub switching_late-after : (λ xs. map h (d_switch_function f t xs)) ≡ d_switch_function (λ xs. map (change_left h) (f xs)) (λ c xs. map h (t c xs))
-  switching_late-after = fun_ext λ xs.
       through (map h) (first_event (rights f xs)) (lefts f xs) _ _
-      (λ n c. map-joined (suc n) (lefts f xs) (drop 1 (t c (drop n xs))) ∙ ap (λ us. take (suc n) (map h (lefts f xs)) ++ us) (sym (drop-map h 1 (t c (drop n xs)))))
-      ∙ sym (ap₂ (λ rs ls. cut_at (first_event rs) ls (λ n c. take (suc n) ls ++ drop 1 (map h (t c (drop n xs))))) (rights-changed xs) (lefts-changed xs))
+      (λ n c.
+      let over : List Datum = t c (drop n xs) in
+      map-joined (until tm n) (lefts f xs) (drop (until tm 0) over) ∙ ap (λ us. take (until tm n) (map h (lefts f xs)) ++ us) (sym (drop-map h (until tm 0) over)))
+      ∙ sym (ap₂ (λ rs ls. cut_at (first_event rs) ls (λ n c. take (until tm n) ls ++ drop (until tm 0) (map h (t c (drop n xs))))) (rights-changed xs)
+      (lefts-changed xs))
 
--- L29, L30
-pub switching-pointwise : (h : Datum → Datum) (f : SignalFunction) (t : Datum → SignalFunction) → IsSignalFunction f → ((c : Datum) → IsSignalFunction (t c)) → seq_function (switch_function f t) (pointwise h) ≡ switch_function (seq_function f (pointwise (change_left h))) (λ c. seq_function (t c) (pointwise h))
-switching-pointwise h f t sf st =
-    pointwise-after h (switch_function f t) (IsSignal-switching f t sf st) ∙ switching-after h f t ∙ sym (ap₂ switch_function (pointwise-after (change_left h) f sf) (fun_ext λ c. pointwise-after h (t c) (st c)))
-
-pub switching_late-pointwise : (h : Datum → Datum) (f : SignalFunction) (t : Datum → SignalFunction) → IsSignalFunction f → ((c : Datum) → IsSignalFunction (t c)) → seq_function (d_switch_function f t) (pointwise h) ≡ d_switch_function (seq_function f (pointwise (change_left h))) (λ c. seq_function (t c) (pointwise h))
-switching_late-pointwise h f t sf st =
-    pointwise-after h (d_switch_function f t) (IsSignal-switching_late f t sf st) ∙ switching_late-after h f t ∙ sym (ap₂ d_switch_function (pointwise-after (change_left h) f sf) (fun_ext λ c. pointwise-after h (t c) (st c)))
+  -- L29, L30
+  pub switching-pointwise : IsSignalFunction f → ((c : Datum) → IsSignalFunction (t c))
+      → seq_function (switch_function tm f t) (pointwise h) ≡ switch_function tm (seq_function f (pointwise (change_left h))) (λ c. seq_function (t c) (pointwise h))
+  switching-pointwise sf st =
+      pointwise-after h (switch_function tm f t) (IsSignal-switching tm f t sf st) ∙ switching-after
+      ∙ sym (ap₂ (switch_function tm) (pointwise-after (change_left h) f sf) (fun_ext λ c. pointwise-after h (t c) (st c)))
 
 -- no events
 pub no_events : {A : Type 0} (xs : List A) → first_event (map (λ x. no_event) xs) ≡ None
@@ -112,25 +102,20 @@ map-same (v ∷ vs) = ap (λ ws. v ∷ ws) (map-same vs)
 abbrev pub quiet : Datum → Datum
 quiet v = pair v no_event
 
-module _ (f : SignalFunction) (t : Datum → SignalFunction) where
+module _ (tm : Timing) (f : SignalFunction) (t : Datum → SignalFunction) where
   lefts-quiet : (xs : TimedList) → map left (map quiet (f xs)) ≡ f xs
   lefts-quiet xs = map-map left quiet (f xs) ∙ map-same (f xs)
 
   rights-quiet : (xs : TimedList) → first_event (map right (map quiet (f xs))) ≡ None
   rights-quiet xs = ap first_event (map-map right quiet (f xs)) ∙ no_events (f xs)
 
-  switching-none : (λ xs. switch_function (λ xs. map quiet (f xs)) t xs) ≡ f
-  switching-none = fun_ext λ xs. ap (λ o. cut_at o (map left (map quiet (f xs))) (λ n c. take n (map left (map quiet (f xs))) ++ t c (drop n xs))) (rights-quiet xs) ∙ lefts-quiet xs
-
-  switching_late-none : (λ xs. d_switch_function (λ xs. map quiet (f xs)) t xs) ≡ f
-  switching_late-none = fun_ext λ xs. ap (λ o. cut_at o (map left (map quiet (f xs))) (λ n c. take (suc n) (map left (map quiet (f xs))) ++ drop 1 (t c (drop n xs)))) (rights-quiet xs) ∙ lefts-quiet xs
-
   -- L31, L32
-  pub switching-quiet : IsSignalFunction f → switch_function (seq_function f (pointwise quiet)) t ≡ f
-  switching-quiet sf = ap (λ g. switch_function g t) (pointwise-after quiet f sf) ∙ switching-none
-
-  pub switching_late-quiet : IsSignalFunction f → d_switch_function (seq_function f (pointwise quiet)) t ≡ f
-  switching_late-quiet sf = ap (λ g. d_switch_function g t) (pointwise-after quiet f sf) ∙ switching_late-none
+  pub switching-quiet : IsSignalFunction f → switch_function tm (seq_function f (pointwise quiet)) t ≡ f
+  switching-quiet sf =
+      ap (λ g. switch_function tm g t) (pointwise-after quiet f sf)
+      ∙ (fun_ext λ xs.
+      let ls : List Datum = map left (map quiet (f xs)) in
+      ap (λ o. cut_at o ls (λ n c. take (until tm n) ls ++ drop (until tm 0) (t c (drop n xs)))) (rights-quiet xs) ∙ lefts-quiet xs)
 
 -- of ((output, event), other): ((output, other), event)
 abbrev pub shuffle : Datum → Datum
@@ -156,18 +141,20 @@ pairs-joined (suc n) [] ws (r ∷ rs) e = absurd (omega arith)
 pairs-joined (suc n) (v ∷ vs) ws [] e = absurd (omega arith)
 pairs-joined (suc n) (v ∷ vs) ws (r ∷ rs) e = let e' : length vs ≡ length rs = omega arith in ap (λ us. pair v r ∷ us) (pairs-joined n vs ws rs e')
 
-drop-pairs : (vs rs : List Datum) → drop 1 (pairs vs rs) ≡ pairs (drop 1 vs) (drop 1 rs)
-drop-pairs [] rs = refl
-drop-pairs (v ∷ []) [] = refl
-drop-pairs (v ∷ w ∷ vs) [] = refl
-drop-pairs (v ∷ vs) (r ∷ rs) = refl
+drop-pairs : (tm : Timing) (vs rs : List Datum) → drop (until tm 0) (pairs vs rs) ≡ pairs (drop (until tm 0) vs) (drop (until tm 0) rs)
+drop-pairs at_once vs rs = refl
+drop-pairs delayed [] rs = refl
+drop-pairs delayed (v ∷ []) [] = refl
+drop-pairs delayed (v ∷ w ∷ vs) [] = refl
+drop-pairs delayed (v ∷ vs) (r ∷ rs) = refl
 
-drop-more : {A : Type 0} (n : ℕ) (xs : List A) → drop (suc n) xs ≡ drop 1 (drop n xs)
-drop-more zero xs = refl
-drop-more (suc n) [] = refl
-drop-more (suc n) (x ∷ xs) = drop-more n xs
+drop-until : {A : Type 0} (tm : Timing) (n : ℕ) (xs : List A) → drop (until tm n) xs ≡ drop (until tm 0) (drop n xs)
+drop-until at_once n xs = refl
+drop-until delayed zero xs = refl
+drop-until delayed (suc n) [] = refl
+drop-until delayed (suc n) (x ∷ xs) = drop-until delayed n xs
 
-module _ (f : SignalFunction) (t : Datum → SignalFunction) (sf : IsSignalFunction f) where
+module _ (tm : Timing) (f : SignalFunction) (t : Datum → SignalFunction) (sf : IsSignalFunction f) where
   others-drop : (n : ℕ) (xs : TimedList) → drop n (map right (values xs)) ≡ map right (values (drop n xs))
   others-drop n xs = drop-map right n (values xs) ∙ ap (map right) (drop-map (λ x. x.1) n xs)
 
@@ -181,67 +168,57 @@ module _ (f : SignalFunction) (t : Datum → SignalFunction) (sf : IsSignalFunct
   over-first : (n : ℕ) (c : Datum) (xs : TimedList) → pairs (t c (drop n (each_value left xs))) (drop n (map right (values xs))) ≡ first_function (t c) (drop n xs)
   over-first n c xs = ap₂ (λ ys rs. pairs (t c ys) rs) (drop-map (λ x. (x.0, left x.1)) n xs) (others-drop n xs)
 
-  first-switching : first_function (switch_function f t) ≡ switch_function (λ xs. map shuffle (first_function f xs)) (λ c. first_function (t c))
+  first-switching : first_function (switch_function tm f t) ≡ switch_function tm (λ xs. map shuffle (first_function f xs)) (λ c. first_function (t c))
   first-switching = fun_ext λ xs.
       let ys : TimedList = each_value left xs in
       let rs : List Datum = map right (values xs) in
-      through (λ vs. pairs vs rs) (first_event (rights f ys)) (lefts f ys) _ _ (λ n c. pairs-joined n (lefts f ys) (t c (drop n ys)) rs (lefts-length xs) ∙ ap (λ us. take n (pairs (lefts f ys) rs) ++ us) (over-first n c xs))
-      ∙ sym (ap₂ (λ es ls. cut_at (first_event es) ls (λ n c. take n ls ++ first_function (t c) (drop n xs))) (rights-shuffled (f ys) rs (same-length xs)) (lefts-shuffled (f ys) rs))
-
-  first-switching_late : first_function (d_switch_function f t) ≡ d_switch_function (λ xs. map shuffle (first_function f xs)) (λ c. first_function (t c))
-  first-switching_late = fun_ext λ xs.
-      let ys : TimedList = each_value left xs in
-      let rs : List Datum = map right (values xs) in
+      let o : ℕ = until tm 0 in
       through (λ vs. pairs vs rs) (first_event (rights f ys)) (lefts f ys) _ _
       (λ n c.
-      pairs-joined (suc n) (lefts f ys) (drop 1 (t c (drop n ys))) rs (lefts-length xs)
-      ∙ ap (λ us. take (suc n) (pairs (lefts f ys) rs) ++ us) (ap (pairs (drop 1 (t c (drop n ys)))) (drop-more n rs) ∙ sym (drop-pairs (t c (drop n ys)) (drop n rs)) ∙ ap (drop 1) (over-first n c xs)))
-      ∙ sym (ap₂ (λ es ls. cut_at (first_event es) ls (λ n c. take (suc n) ls ++ drop 1 (first_function (t c) (drop n xs)))) (rights-shuffled (f ys) rs (same-length xs)) (lefts-shuffled (f ys) rs))
+      let over : List Datum = t c (drop n ys) in
+      pairs-joined (until tm n) (lefts f ys) (drop o over) rs (lefts-length xs)
+      ∙ ap (λ us. take (until tm n) (pairs (lefts f ys) rs) ++ us)
+      (ap (pairs (drop o over)) (drop-until tm n rs) ∙ sym (drop-pairs tm over (drop n rs)) ∙ ap (drop o) (over-first n c xs)))
+      ∙ sym (ap₂ (λ es ls. cut_at (first_event es) ls (λ n c. take (until tm n) ls ++ drop o (first_function (t c) (drop n xs))))
+      (rights-shuffled (f ys) rs (same-length xs)) (lefts-shuffled (f ys) rs))
 
   -- L33, L34
-  pub on_left-switching : first_function (switch_function f t) ≡ switch_function (seq_function (first_function f) (pointwise shuffle)) (λ c. first_function (t c))
-  on_left-switching = first-switching ∙ ap (λ g. switch_function g (λ c. first_function (t c))) (sym (pointwise-after shuffle (first_function f) (IsSignal-on_left f sf)))
-
-  pub on_left-switching_late : first_function (d_switch_function f t) ≡ d_switch_function (seq_function (first_function f) (pointwise shuffle)) (λ c. first_function (t c))
-  on_left-switching_late = first-switching_late ∙ ap (λ g. d_switch_function g (λ c. first_function (t c))) (sym (pointwise-after shuffle (first_function f) (IsSignal-on_left f sf)))
+  pub on_left-switching : first_function (switch_function tm f t) ≡ switch_function tm (seq_function (first_function f) (pointwise shuffle)) (λ c. first_function (t c))
+  on_left-switching = first-switching
+      ∙ ap (λ g. switch_function tm g (λ c. first_function (t c))) (sym (pointwise-after shuffle (first_function f) (IsSignal-on_left f sf)))
 
 -- L35
 pub pieces-quiet : (e : Datum → Datum) (xs : TimedList) → pieces (each_value (λ v. pair (e v) no_event) xs) ≡ (each_value e xs, [])
 pieces-quiet e [] = refl
 pieces-quiet e (x ∷ xs) = ap (put_sample x.0 (pair (e x.1) no_event)) (pieces-quiet e xs)
 
-pub restarting-quiet : (e : Datum → Datum) (f : SignalFunction) (t : Datum → SignalFunction) → seq_function (pointwise (λ v. pair (e v) no_event)) (r_switch_function f t) ≡ seq_function (pointwise e) f
-restarting-quiet e f t =
-    pointwise-before (λ v. pair (e v) no_event) (r_switch_function f t)
-    ∙ (fun_ext λ xs. ap (λ p. f p.0 ++ flat_map (λ piece. t piece.0 piece.1) p.1) (pieces-quiet e xs) ∙ append-nil (f (each_value e xs)))
+pub restarting-quiet : (tm : Timing) (e : Datum → Datum) (f : SignalFunction) (t : Datum → SignalFunction)
+    → seq_function (pointwise (λ v. pair (e v) no_event)) (r_switch_function tm f t) ≡ seq_function (pointwise e) f
+restarting-quiet tm e f t =
+    pointwise-before (λ v. pair (e v) no_event) (r_switch_function tm f t)
+    ∙ (fun_ext λ xs.
+    ap (λ p. f (p.0 ++ lap tm p.1) ++ each_piece tm t p.1) (pieces-quiet e xs)
+    ∙ append-nil (f (each_value e xs ++ [])) ∙ ap f (append-nil (each_value e xs)))
     ∙ sym (pointwise-before e f)
 
--- L36
-map-flat_map : {A : Type 0} (h : Datum → Datum) (g : A → List Datum) (qs : List A) → map h (flat_map g qs) ≡ flat_map (λ q. map h (g q)) qs
-map-flat_map h g [] = refl
-map-flat_map h g (q ∷ qs) = map-append h (g q) (flat_map g qs) ∙ ap (λ vs. map h (g q) ++ vs) (map-flat_map h g qs)
+-- L36, L45
+map-each_piece : (tm : Timing) (h : Datum → Datum) (t : Datum → SignalFunction) (qs : List (Datum × TimedList))
+    → map h (each_piece tm t qs) ≡ each_piece tm (λ c ys. map h (t c ys)) qs
+map-each_piece tm h t [] = refl
+map-each_piece tm h t (q ∷ qs) =
+    let over : List Datum = t q.0 (q.1 ++ lap tm qs) in
+    map-append h (drop (until tm 0) over) (each_piece tm t qs)
+    ∙ ap₂ (λ vs ws. vs ++ ws) (sym (drop-map h (until tm 0) over)) (map-each_piece tm h t qs)
 
-pub restarting-pointwise : (h : Datum → Datum) (f : SignalFunction) (t : Datum → SignalFunction) → IsSignalFunction f → ((c : Datum) → IsSignalFunction (t c)) → seq_function (r_switch_function f t) (pointwise h) ≡ r_switch_function (seq_function f (pointwise h)) (λ c. seq_function (t c) (pointwise h))
-restarting-pointwise h f t sf st =
-    pointwise-after h (r_switch_function f t) (IsSignal-restarting t st f sf)
-    ∙ (fun_ext λ xs. map-append h (f (pieces xs).0) (flat_map (λ piece. t piece.0 piece.1) (pieces xs).1) ∙ ap (λ vs. map h (f (pieces xs).0) ++ vs) (map-flat_map h (λ piece. t piece.0 piece.1) (pieces xs).1))
-    ∙ sym (ap₂ r_switch_function (pointwise-after h f sf) (fun_ext λ c. pointwise-after h (t c) (st c)))
-
--- L45
-map-each_late : (h : Datum → Datum) (t : Datum → SignalFunction) (qs : List (Datum × TimedList)) → map h (each_late t qs) ≡ each_late (λ c ys. map h (t c ys)) qs
-map-each_late h t [] = refl
-map-each_late h t (q ∷ qs) =
-    map-append h (drop 1 (t q.0 (q.1 ++ next_sample qs))) (each_late t qs)
-    ∙ ap₂ (λ vs ws. vs ++ ws) (sym (drop-map h 1 (t q.0 (q.1 ++ next_sample qs)))) (map-each_late h t qs)
-
-pub restarting_late-pointwise : (h : Datum → Datum) (f : SignalFunction) (t : Datum → SignalFunction) → IsSignalFunction f → ((c : Datum) → IsSignalFunction (t c))
-    → seq_function (dr_switch_function f t) (pointwise h) ≡ dr_switch_function (seq_function f (pointwise h)) (λ c. seq_function (t c) (pointwise h))
-restarting_late-pointwise h f t sf st =
-    pointwise-after h (dr_switch_function f t) (IsSignal-restarting_late t st f sf)
+pub restarting-pointwise : (tm : Timing) (h : Datum → Datum) (f : SignalFunction) (t : Datum → SignalFunction) → IsSignalFunction f
+    → ((c : Datum) → IsSignalFunction (t c))
+    → seq_function (r_switch_function tm f t) (pointwise h) ≡ r_switch_function tm (seq_function f (pointwise h)) (λ c. seq_function (t c) (pointwise h))
+restarting-pointwise tm h f t sf st =
+    pointwise-after h (r_switch_function tm f t) (IsSignal-restarting tm t st f sf)
     ∙ (fun_ext λ xs.
-    let ys : TimedList = (pieces xs).0 ++ next_sample (pieces xs).1 in
-    map-append h (f ys) (each_late t (pieces xs).1) ∙ ap (λ vs. map h (f ys) ++ vs) (map-each_late h t (pieces xs).1))
-    ∙ sym (ap₂ dr_switch_function (pointwise-after h f sf) (fun_ext λ c. pointwise-after h (t c) (st c)))
+    let ys : TimedList = (pieces xs).0 ++ lap tm (pieces xs).1 in
+    map-append h (f ys) (each_piece tm t (pieces xs).1) ∙ ap (λ vs. map h (f ys) ++ vs) (map-each_piece tm h t (pieces xs).1))
+    ∙ sym (ap₂ (r_switch_function tm) (pointwise-after h f sf) (fun_ext λ c. pointwise-after h (t c) (st c)))
 
 -- L46: members that have got nothing yet are the members of a `parB`
 rows-new : (fs : List SignalFunction) (xs : TimedList) → rows_of (new_members fs) xs ≡ all_of fs xs

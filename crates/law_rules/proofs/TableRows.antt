@@ -2,11 +2,11 @@
 use Rattle.std.proofs.Common.{◌≡◌, ℕ, zero, suc, arith, List, [], ◌∷◌, Option, Some, get_or, refl, sym, ap, ◌∙◌, subst}
 use Rattle.sample_core.specs.TypeTree.{TypeTree, unit_ty}
 use Rattle.leaf_core.specs.Expression.{Expression, input, unit_expr, pair_expr, fst, then_expr, no_event_expr, event_expr, no_more, and_then}
-use Rattle.net_tree.specs.Network.{Network, Networks, no_members, and_member, arr, seq, first, loop_pre, initial_out, initial_in, i_pre, delay, hold, accum_by, after, repeatedly, time, switch, d_switch, r_switch, dr_switch, k_switch}
+use Rattle.net_tree.specs.Network.{Network, Networks, no_members, and_member, arr, seq, first, loop_pre, initial_out, initial_in, i_pre, delay, hold, accum_by, after, repeatedly, time, at_once, delayed, switch, r_switch, k_switch}
 use Rattle.law_patterns.specs.declared.net_sym.NetSym.{NetSym}
 use Rattle.law_patterns.specs.Pattern.{Assignment}
 use Rattle.law_patterns.specs.Rule.{Related}
-use Rattle.law_patterns.specs.NetPattern.{NetAssignment, net_filled, NetRow}
+use Rattle.law_patterns.specs.NetPattern.{NetAssignment, net_filled, NetPatternRow}
 use Rattle.law_patterns.specs.NetRule.{NetRuleInstance}
 use Rattle.law_rules.specs.NetworkRow.{swap, assoc, unassoc, event_last, left_by, right_by, event_by, time_sees, NetworkRow, row_l1, row_l2, row_l3, row_l4, row_l5, row_l6, row_l7, row_l8, row_l9, row_l10, row_l11, row_l12, row_l13, row_l14, row_l15, row_l16, row_l17, row_l18, row_l19, row_l20, row_l21, row_l22, row_l23, row_l24, row_l25, row_l26, row_l27, row_l28, row_l29, row_l30, row_l31, row_l32, row_l33, row_l34, row_l35, row_l36, row_l37, row_l38, row_l39, row_l40, row_l41, row_l42, row_l43, row_l44, row_l45, row_l46}
 
@@ -45,16 +45,16 @@ shapes =
     sides (λ a. seq (arr (event_by a.exprs.t a.exprs.g)) (accum_by a.exprs.f a.exprs.h)) (λ a. accum_by (then_expr (right_by a.exprs.g) a.exprs.f) a.exprs.h) ∷
     sides (λ a. seq a.f (arr (then_expr unit_expr a.exprs.f))) (λ a. arr (then_expr unit_expr a.exprs.f)) ∷
     sides (λ a. seq (delay a.q a.exprs.f) (arr a.exprs.g)) (λ a. seq (arr a.exprs.g) (delay a.q (then_expr a.exprs.f a.exprs.g))) ∷
-    sides (λ a. seq (arr a.exprs.h) (switch a.f a.g)) (λ a. switch (seq (arr a.exprs.h) a.f) (seq (arr a.exprs.h) a.g)) ∷
-    sides (λ a. seq (arr a.exprs.h) (d_switch a.f a.g)) (λ a. d_switch (seq (arr a.exprs.h) a.f) (seq (arr a.exprs.h) a.g)) ∷
-    sides (λ a. seq (switch a.f a.g) (arr a.exprs.h)) (λ a. switch (seq a.f (arr (left_by a.exprs.h))) (seq a.g (arr a.exprs.h))) ∷
-    sides (λ a. seq (d_switch a.f a.g) (arr a.exprs.h)) (λ a. d_switch (seq a.f (arr (left_by a.exprs.h))) (seq a.g (arr a.exprs.h))) ∷
-    sides (λ a. switch (seq a.f (arr (pair_expr input (no_event_expr a.exprs.t)))) a.g) (λ a. a.f) ∷
-    sides (λ a. d_switch (seq a.f (arr (pair_expr input (no_event_expr a.exprs.t)))) a.g) (λ a. a.f) ∷
-    sides (λ a. first (switch a.f a.g)) (λ a. switch (seq (first a.f) (arr event_last)) (first a.g)) ∷
-    sides (λ a. first (d_switch a.f a.g)) (λ a. d_switch (seq (first a.f) (arr event_last)) (first a.g)) ∷
-    sides (λ a. seq (arr (pair_expr a.exprs.f (no_event_expr a.exprs.t))) (r_switch a.f a.g)) (λ a. seq (arr a.exprs.f) a.f) ∷
-    sides (λ a. seq (r_switch a.f a.g) (arr a.exprs.h)) (λ a. r_switch (seq a.f (arr a.exprs.h)) (seq a.g (arr a.exprs.h))) ∷
+    sides (λ a. seq (arr a.exprs.h) (switch at_once a.f a.g)) (λ a. switch at_once (seq (arr a.exprs.h) a.f) (seq (arr a.exprs.h) a.g)) ∷
+    sides (λ a. seq (arr a.exprs.h) (switch delayed a.f a.g)) (λ a. switch delayed (seq (arr a.exprs.h) a.f) (seq (arr a.exprs.h) a.g)) ∷
+    sides (λ a. seq (switch at_once a.f a.g) (arr a.exprs.h)) (λ a. switch at_once (seq a.f (arr (left_by a.exprs.h))) (seq a.g (arr a.exprs.h))) ∷
+    sides (λ a. seq (switch delayed a.f a.g) (arr a.exprs.h)) (λ a. switch delayed (seq a.f (arr (left_by a.exprs.h))) (seq a.g (arr a.exprs.h))) ∷
+    sides (λ a. switch at_once (seq a.f (arr (pair_expr input (no_event_expr a.exprs.t)))) a.g) (λ a. a.f) ∷
+    sides (λ a. switch delayed (seq a.f (arr (pair_expr input (no_event_expr a.exprs.t)))) a.g) (λ a. a.f) ∷
+    sides (λ a. first (switch at_once a.f a.g)) (λ a. switch at_once (seq (first a.f) (arr event_last)) (first a.g)) ∷
+    sides (λ a. first (switch delayed a.f a.g)) (λ a. switch delayed (seq (first a.f) (arr event_last)) (first a.g)) ∷
+    sides (λ a. seq (arr (pair_expr a.exprs.f (no_event_expr a.exprs.t))) (r_switch at_once a.f a.g)) (λ a. seq (arr a.exprs.f) a.f) ∷
+    sides (λ a. seq (r_switch at_once a.f a.g) (arr a.exprs.h)) (λ a. r_switch at_once (seq a.f (arr a.exprs.h)) (seq a.g (arr a.exprs.h))) ∷
     sides (λ a. k_switch a.f (arr (no_event_expr a.exprs.t)) a.g) (λ a. a.f) ∷
     by_name ∷
     by_name ∷
@@ -63,7 +63,7 @@ shapes =
     by_name ∷
     sides (λ a. initial_out a.exprs.f (initial_out a.exprs.g a.f)) (λ a. initial_out a.exprs.f a.f) ∷
     sides (λ a. initial_in a.exprs.f (arr a.exprs.g)) (λ a. initial_out (then_expr a.exprs.f a.exprs.g) (arr a.exprs.g)) ∷
-    sides (λ a. seq (dr_switch a.f a.g) (arr a.exprs.h)) (λ a. dr_switch (seq a.f (arr a.exprs.h)) (seq a.g (arr a.exprs.h))) ∷
+    sides (λ a. seq (r_switch delayed a.f a.g) (arr a.exprs.h)) (λ a. r_switch delayed (seq a.f (arr a.exprs.h)) (seq a.g (arr a.exprs.h))) ∷
     by_name ∷
     []
 
@@ -133,7 +133,7 @@ makes (row_l45 {h = h} {f = f} {t = t}) = (letters f t time 0 (exprs input input
 makes (row_l46 some few) = tt
 
 made-row : (left right : List NetSym) (l r : NetAssignment → Network Expression) → ((a : NetAssignment) → net_filled a left ≡ Some (l a))
-    → ((a : NetAssignment) → net_filled a right ≡ Some (r a)) → (x y : Network Expression) → Makes (sides l r) x y → NetRow left right x y
+    → ((a : NetAssignment) → net_filled a right ≡ Some (r a)) → (x y : Network Expression) → Makes (sides l r) x y → NetPatternRow left right x y
 made-row left right l r p q x y (a, h, k) = record { letters = a; left_is = p a ∙ ap (λ n. Some n) h; right_is = q a ∙ ap (λ n. Some n) k }
 
 related : (P : Network Expression → Network Expression → Type 0) (l r : Network Expression) (x y : Option (Network Expression)) → x ≡ Some l → y ≡ Some r → P l r → Related P x y

@@ -3,7 +3,7 @@ use Rattle.std.proofs.Common.{◌≡◌, ℕ, List, length, refl, subst, IfOk, R
 use Rattle.std.specs.Prelude.{IfErr}
 use Rattle.leaf_expr.specs.Token.{PlacedToken, tokens_from}
 use Rattle.leaf_expr.specs.Language.{Begins}
-use Rattle.leaf_expr.specs.Grammar.{leaf, Sort, Tree}
+use Rattle.leaf_expr.specs.Grammar.{leaf, LeafSort, LeafTree}
 use Rattle.leaf_expr.specs.Text.{read_text, IsText, IsTextFault}
 use Rattle.leaf_expr.specs.ReadLaws.{Stops}
 use Rattle.leaf_expr.specs.ReadText.{GivesTree, IsFault, tree_at}
@@ -16,14 +16,14 @@ use Rattle.leaf_expr.proofs.LeafProper.{leaf_proper}
 use Rattle.leaf_expr.proofs.TextLaws.{text_found, text_read, text_fault}
 use Rattle.leaf_expr.specs.declared.text_fault.ExprTextFault.TheVariants.{Syntax, Number, TooDeep, TooLong, Memory}
 
-module _ (s : Sort) (text : List ℕ) where
-  module _ {X : Type 0} (room n : ℕ) (view : X → Tree s × ℕ × List PlacedToken) where
+module _ (s : LeafSort) (text : List ℕ) where
+  module _ {X : Type 0} (room n : ℕ) (view : X → LeafTree s × ℕ × List PlacedToken) where
     pub tree_found : (r : Result X ExprTextFault) → GivesTree view r (tree_at s text room n)
         → IfOk r (λ x. Begins leaf room s (view x).0 (tokens_from n text) (view x).1 (view x).2)
     tree_found (Ok x) h = found leaf (length text) room s (tokens_from n text) (view x) h
     tree_found (Err e) h = tt
 
-    pub tree_only : (r : Result X ExprTextFault) → GivesTree view r (tree_at s text room n) → (t : Tree s) (m : ℕ) (rest : List PlacedToken)
+    pub tree_only : (r : Result X ExprTextFault) → GivesTree view r (tree_at s text room n) → (t : LeafTree s) (m : ℕ) (rest : List PlacedToken)
         → Begins leaf room s t (tokens_from n text) m rest → GivesTree view r (Ok (t, m, rest))
     tree_only r h t m rest b = subst (λ z. GivesTree view r z)
         (only leaf leaf_proper (length text) room s b.part (tokens_from n text) m rest t b.spells b.means b.within) h
@@ -52,12 +52,12 @@ module _ (s : Sort) (text : List ℕ) where
     tree_given (Err (Number k)) b h = λ d. refused (Number k) h
     tree_given (Err (TooDeep k)) b h = λ d. refused (TooDeep k) h
 
-  module _ {X : Type 0} (view : X → Tree s) where
+  module _ {X : Type 0} (view : X → LeafTree s) where
     pub whole_found : (r : Result X ExprTextFault) → GivesTree view r (read_text s text) → IfOk r (λ x. IsText s text (view x))
     whole_found (Ok x) h = text_found s text (view x) h
     whole_found (Err e) h = tt
 
-    pub whole_only : (r : Result X ExprTextFault) → GivesTree view r (read_text s text) → (t : Tree s) → IsText s text t → GivesTree view r (Ok t)
+    pub whole_only : (r : Result X ExprTextFault) → GivesTree view r (read_text s text) → (t : LeafTree s) → IsText s text t → GivesTree view r (Ok t)
     whole_only r h t i = subst (λ z. GivesTree view r z) (text_read s text t i) h
 
     pub whole_refused : (r : Result X ExprTextFault) → GivesTree view r (read_text s text) → IfErr r (IsTextFault s text)

@@ -5,7 +5,7 @@ use Rattle.leaf_expr.specs.Token.{opening, closing, word, PlacedToken}
 use Rattle.leaf_expr.specs.Sexpr.{Sexprs, form, last, more, SpellAll, form_spells, last_spells, more_spells, depth}
 use Rattle.leaf_expr.specs.Language.{Language, Places, Maker, Row, no_place, place, places, make_tree}
 use Rattle.leaf_expr.specs.TreeReader.{unfit_token}
-use Rattle.leaf_expr.specs.ReadLaws.{OpensAtMost, Completes, ViablePrefix, Whole, LeadsIn, at_tree, at_word, in_form, at_end, in_part, behind, in_item, behind_item, fault_at, Misfit}
+use Rattle.leaf_expr.specs.ReadLaws.{OpensAtMost, Completes, ViablePrefix, Whole, TokensLeadIn, at_tree, at_word, in_form, at_end, in_part, behind, in_item, behind_item, fault_at, Misfit}
 use Rattle.leaf_expr.proofs.Opened.{opens_both}
 use Rattle.leaf_expr.proofs.Proper.{Proper}
 use Rattle.leaf_expr.specs.declared.text_fault.ExprTextFault.{ExprTextFault}
@@ -27,7 +27,7 @@ module _ (L : Language) where
     pub opened : ℕ
     pub left : ℕ
     pub counts : opened + left ≡ room
-    pub leads : LeadsIn L qs before next opened
+    pub leads : TokensLeadIn L qs before next opened
     pub called : e ≡ fault_at L left x next
 
   -- nothing is a viable prefix, where something makes it a tree

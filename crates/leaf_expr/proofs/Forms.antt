@@ -3,7 +3,7 @@ use Rattle.std.proofs.Common.{◌≡◌, ℕ, Bool, true, false, if◌then◌els
 use Rattle.std.specs.Prelude.{bytes_eq}
 use Rattle.leaf_core.specs.Expression.{Expression}
 use Rattle.leaf_expr.specs.Language.{Row, row_among}
-use Rattle.leaf_expr.specs.Grammar.{Sort, Tree, expression_sort, row_at, rows, other_rows, unary_rows, binary_rows, ternary_rows, typed_rows}
+use Rattle.leaf_expr.specs.Grammar.{LeafSort, LeafTree, expression_sort, row_at, rows, other_rows, unary_rows, binary_rows, ternary_rows, typed_rows}
 
 -- where a word begins a row of the first of two tables, and where it begins none
 module _ {S : Type 0} {T : S → Type 0} {R : Type 0} (w : List ℕ) where
@@ -26,7 +26,7 @@ module _ {S : Type 0} {T : S → Type 0} {R : Type 0} (w : List ℕ) where
       go false f p = f p
 
 abbrev Rows : Type 0
-Rows = List (Row Sort Tree Expression)
+Rows = List (Row LeafSort LeafTree Expression)
 
 -- a word in no group so far
 abbrev upto_unary : Rows
@@ -39,12 +39,12 @@ abbrev upto_ternary : Rows
 upto_ternary = upto_binary ++ ternary_rows
 
 module _ (w : List ℕ) where
-  pub in_other : (r : Row Sort Tree Expression) → row_among w other_rows ≡ Some r → row_at expression_sort w ≡ Some r
+  pub in_other : (r : Row LeafSort LeafTree Expression) → row_among w other_rows ≡ Some r → row_at expression_sort w ≡ Some r
   unfolding row_at rows
   in_other r e = hit w upto_ternary typed_rows r (hit w upto_binary ternary_rows r (hit w upto_unary binary_rows r (hit w other_rows unary_rows r e)))
 
   module _ (a : row_among w other_rows ≡ None) where
-    pub in_unary : (r : Row Sort Tree Expression) → row_among w unary_rows ≡ Some r → row_at expression_sort w ≡ Some r
+    pub in_unary : (r : Row LeafSort LeafTree Expression) → row_among w unary_rows ≡ Some r → row_at expression_sort w ≡ Some r
     unfolding row_at rows
     in_unary r e = hit w upto_ternary typed_rows r (hit w upto_binary ternary_rows r (hit w upto_unary binary_rows r (miss w other_rows unary_rows a ∙ e)))
 
@@ -52,7 +52,7 @@ module _ (w : List ℕ) where
       no_unary : row_among w upto_unary ≡ None
       no_unary = miss w other_rows unary_rows a ∙ b
 
-      pub in_binary : (r : Row Sort Tree Expression) → row_among w binary_rows ≡ Some r → row_at expression_sort w ≡ Some r
+      pub in_binary : (r : Row LeafSort LeafTree Expression) → row_among w binary_rows ≡ Some r → row_at expression_sort w ≡ Some r
       unfolding row_at rows
       in_binary r e = hit w upto_ternary typed_rows r (hit w upto_binary ternary_rows r (miss w upto_unary binary_rows no_unary ∙ e))
 
@@ -60,7 +60,7 @@ module _ (w : List ℕ) where
         no_binary : row_among w upto_binary ≡ None
         no_binary = miss w upto_unary binary_rows no_unary ∙ c
 
-        pub in_ternary : (r : Row Sort Tree Expression) → row_among w ternary_rows ≡ Some r → row_at expression_sort w ≡ Some r
+        pub in_ternary : (r : Row LeafSort LeafTree Expression) → row_among w ternary_rows ≡ Some r → row_at expression_sort w ≡ Some r
         unfolding row_at rows
         in_ternary r e = hit w upto_ternary typed_rows r (miss w upto_binary ternary_rows no_binary ∙ e)
 

@@ -15,10 +15,6 @@ use Rattle.leaf_expr.proofs.ReadSteps.{Refuses, given, ok_same, refused_ok, refu
 abbrev Fronted : Type 0
 Fronted = PlacedToken × List PlacedToken
 
--- a word, its place, and the tokens behind it
-abbrev Headed : Type 0
-Headed = ℕ × List ℕ × List PlacedToken
-
 -- no word is a parenthesis
 no_opening : {m n : ℕ} {w : List ℕ} {ts us : List PlacedToken} {A : Type 0} → ◌≡◌ {A = Fronted} ((m, word w), ts) ((n, opening), us) → A
 no_opening {w = w} e = let i : word w ≡ opening = ap (λ (q : Fronted). q.0.1) e in absurd (cc)

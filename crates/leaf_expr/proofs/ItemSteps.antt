@@ -18,10 +18,6 @@ pub front_twice : {T : Type 0} (xs ys : List T) (r : Read (List T)) → with_fro
 front_twice xs ys (Ok y) = ap (λ zs. Ok (zs, y.1, y.2)) (sym (append_assoc xs ys y.0))
 front_twice xs ys (Err f) = refl
 
-pub front_none : {T : Type 0} (r : Read (List T)) → with_front [] r ≡ r
-front_none (Ok y) = refl
-front_none (Err f) = refl
-
 pub front_done : {T : Type 0} (xs : List T) (n : ℕ) (us : List PlacedToken) → with_front xs (Ok ([], n, us)) ≡ Ok (xs, n, us)
 front_done xs n us = ap (λ zs. Ok (zs, n, us)) (append-nil xs)
 

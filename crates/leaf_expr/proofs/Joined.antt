@@ -6,7 +6,7 @@ use Rattle.sample_core.specs.TypeTree.{TypeTree, unit_ty, bool_ty, int_ty, pair_
 use Rattle.sample_core.specs.Spelling.{type_spelling}
 use Rattle.sample_core.specs.Adding.{Adds}
 use Rattle.sample_core.proofs.Adding.{extends_added}
-use Rattle.leaf_expr.specs.Sexpr.{Sexpr, Sexprs, more, spelling, spellings}
+use Rattle.leaf_expr.specs.Sexpr.{Sexpr, Sexprs, more, sexpr_spelling, sexprs_spelling}
 use Rattle.leaf_expr.specs.Printing.{type_sexpr}
 
 pair_joined : (a b : List ℕ) → (a ++ (32 ∷ b ++ [])) ++ 41 ∷ [] ≡ a ++ (codes " " ++ (b ++ codes ")"))
@@ -15,7 +15,7 @@ pair_joined a b = append_assoc a (32 ∷ b ++ []) (41 ∷ []) ∙ ap (λ x. a ++
 alone_joined : (a : List ℕ) → (a ++ []) ++ 41 ∷ [] ≡ a ++ codes ")"
 alone_joined a = ap (λ x. x ++ 41 ∷ []) (append-nil a)
 
-pub type_spelled : (t : TypeTree) → spelling (type_sexpr t) ≡ type_spelling t
+pub type_spelled : (t : TypeTree) → sexpr_spelling (type_sexpr t) ≡ type_spelling t
 type_spelled unit_ty = refl
 type_spelled bool_ty = refl
 type_spelled int_ty = refl
@@ -29,10 +29,10 @@ adds_behind (Ok x) old mid new a b e h = h ∙ ap (λ t. t ++ b) e ∙ append_as
 adds_behind (Err y) old mid new a b e h = extends_added old mid new a e h
 
 -- a part, and then further parts and the form's end
-pub next_behind : (p : Sexpr) (ps : Sexprs) → (32 ∷ spelling p) ++ (spellings ps ++ 41 ∷ []) ≡ spellings (more p ps) ++ 41 ∷ []
-next_behind p ps = sym (append_assoc (32 ∷ spelling p) (spellings ps) (41 ∷ []))
+pub next_behind : (p : Sexpr) (ps : Sexprs) → (32 ∷ sexpr_spelling p) ++ (sexprs_spelling ps ++ 41 ∷ []) ≡ sexprs_spelling (more p ps) ++ 41 ∷ []
+next_behind p ps = sym (append_assoc (32 ∷ sexpr_spelling p) (sexprs_spelling ps) (41 ∷ []))
 
 -- a part, and then a call that adds further parts and the form's end
-pub adds_next : {T E : Type 0} (r : Result T E) (old mid new : List ℕ) (p : Sexpr) (ps : Sexprs) → mid ≡ old ++ (32 ∷ spelling p) →
-    Adds r mid new (spellings ps ++ 41 ∷ []) → Adds r old new (spellings (more p ps) ++ 41 ∷ [])
-adds_next r old mid new p ps e h = subst (Adds r old new) (next_behind p ps) (adds_behind r old mid new (32 ∷ spelling p) (spellings ps ++ 41 ∷ []) e h)
+pub adds_next : {T E : Type 0} (r : Result T E) (old mid new : List ℕ) (p : Sexpr) (ps : Sexprs) → mid ≡ old ++ (32 ∷ sexpr_spelling p) →
+    Adds r mid new (sexprs_spelling ps ++ 41 ∷ []) → Adds r old new (sexprs_spelling (more p ps) ++ 41 ∷ [])
+adds_next r old mid new p ps e h = subst (Adds r old new) (next_behind p ps) (adds_behind r old mid new (32 ∷ sexpr_spelling p) (sexprs_spelling ps ++ 41 ∷ []) e h)

@@ -7,12 +7,12 @@ use Rattle.leaf_expr.specs.WordReading.{WordReading, reads, misspelt, unfit, map
 use Rattle.leaf_expr.specs.Token.{opening, closing, word}
 use Rattle.leaf_expr.specs.Sexpr.{atom, form, last, more, atom_spells, form_spells, last_spells, more_spells}
 use Rattle.leaf_core.specs.Expression.{input, fst, int_expr}
-use Rattle.leaf_expr.specs.Grammar.{leaf, Sort, type_sort, expression_sort, index_sort, words, rows, word_at, row_at, word_among, number_at, has_form, takes_number}
+use Rattle.leaf_expr.specs.Grammar.{leaf, LeafSort, type_sort, expression_sort, index_sort, words, rows, word_at, row_at, word_among, leaf_number_at, has_form, takes_number}
 use Rattle.leaf_expr.specs.ReadLaws.{Completes}
-use Rattle.leaf_expr.specs.Language.{meaning}
+use Rattle.leaf_expr.specs.Language.{meant}
 use Rattle.leaf_expr.proofs.Proper.{Proper}
 
-formless : (s : Sort) (w : List ℕ) → has_form s ≡ false → row_at s w ≡ None
+formless : (s : LeafSort) (w : List ℕ) → has_form s ≡ false → row_at s w ≡ None
 unfolding row_at rows
 formless type_sort w h = absurd (cc)
 formless expression_sort w h = absurd (cc)
@@ -46,21 +46,21 @@ mapped_unfit f (reads x) e = absurd (cc)
 mapped_unfit f misspelt e = absurd (cc)
 mapped_unfit f unfit e = refl
 
-spoilt : (s : Sort) (w : List ℕ) → word_at s w ≡ misspelt → (takes_number s && is_number_word w) ≡ true
+spoilt : (s : LeafSort) (w : List ℕ) → word_at s w ≡ misspelt → (takes_number s && is_number_word w) ≡ true
 unfolding word_at
-spoilt type_sort w e = absurd (let i : number_at type_sort w ≡ misspelt = among_unread w (words type_sort) _ misspelt (λ x q. cc) e in cc)
+spoilt type_sort w e = absurd (let i : leaf_number_at type_sort w ≡ misspelt = among_unread w (words type_sort) _ misspelt (λ x q. cc) e in cc)
 spoilt expression_sort w e = chosen_misspelt (is_number_word w) _ _
     (mapped_misspelt int_expr (integer_at w) (among_unread w (words expression_sort) _ misspelt (λ x q. cc) e))
 spoilt index_sort w e = chosen_misspelt (is_number_word w) _ _ (among_unread w (words index_sort) _ misspelt (λ x q. cc) e)
 
-foreign : (s : Sort) (w : List ℕ) → word_at s w ≡ unfit → (takes_number s && is_number_word w) ≡ false
+foreign : (s : LeafSort) (w : List ℕ) → word_at s w ≡ unfit → (takes_number s && is_number_word w) ≡ false
 unfolding word_at
 foreign type_sort w e = refl
 foreign expression_sort w e = chosen_unfit (is_number_word w) _ _
     (mapped_unfit int_expr (integer_at w) (among_unread w (words expression_sort) _ unfit (λ x q. cc) e))
 foreign index_sort w e = chosen_unfit (is_number_word w) _ _ (among_unread w (words index_sort) _ unfit (λ x q. cc) e)
 
-filler : (s : Sort) → Completes leaf s []
+filler : (s : LeafSort) → Completes leaf s []
 unfolding word_at words row_at rows
 filler type_sort =
     record { end = (0, word (codes "Unit")) ∷ []; stop = 4; part = atom (codes "Unit"); tree = unit_ty; spells = λ ts. atom_spells; means = refl }
@@ -68,7 +68,7 @@ filler expression_sort = record { end = (0, word (codes "x")) ∷ []; stop = 1; 
 filler index_sort = record { end = (0, word (codes "1")) ∷ []; stop = 1; part = atom (codes "1"); tree = 1; spells = λ ts. atom_spells; means = refl }
 
 -- a form of one word behind its own, behind the form's parenthesis
-form_behind : (s : Sort) (n : ℕ) (name inner : List ℕ) (t : leaf.Tree s) → meaning leaf s (form name (more (atom inner) last)) ≡ Some t
+form_behind : (s : LeafSort) (n : ℕ) (name inner : List ℕ) (t : leaf.Tree s) → meant leaf s (form name (more (atom inner) last)) ≡ Some t
     → Completes leaf s ((n, opening) ∷ [])
 form_behind s n name inner t means =
     record {
@@ -81,7 +81,7 @@ form_behind s n name inner t means =
       means = means;
     }
 
-opener : (s : Sort) (n : ℕ) → has_form s ≡ true → Completes leaf s ((n, opening) ∷ [])
+opener : (s : LeafSort) (n : ℕ) → has_form s ≡ true → Completes leaf s ((n, opening) ∷ [])
 unfolding word_at words row_at rows
 opener type_sort n h = form_behind type_sort n (codes "Event") (codes "Unit") (event_ty unit_ty) refl
 opener expression_sort n h = form_behind expression_sort n (codes "fst") (codes "x") (fst input) refl

@@ -15,6 +15,7 @@ use Rattle.leaf_expr.specs.TreeReader.{word_read, read, read_head}
 use Rattle.sample_core.specs.Answer.{◌>>=◌}
 use Rattle.leaf_expr.proofs.ReadSteps.{formless_read}
 use Rattle.leaf_expr.proofs.Numbers.{integer_spelled, integer_back, natural_spelled, natural_back}
+use Rattle.leaf_expr.specs.declared.number_reader.TheConstants.{MOST_INDEX}
 
 -- both read a number word, or neither does
 alike : (a b c : Bool) (z : ℤ) (n : ℕ) → (if a then (if b then reads z else misspelt) else unfit) ≡ unfit
@@ -90,6 +91,6 @@ module _ (low high : ℕ) (h : high < 2 ^ 63) where
 
 -- the number of a parameter is such a number
 pub index_read : (size room : ℕ) (ts : List PlacedToken)
-    → read leaf size room index_sort ts ≡ (read_head leaf size room ts >>= (λ h. word_read h.0 h.1 h.2 (natural_at 0 65535 h.1)))
+    → read leaf size room index_sort ts ≡ (read_head leaf size room ts >>= (λ h. word_read h.0 h.1 h.2 (natural_at 0 MOST_INDEX h.1)))
 unfolding word_at words
 index_read size room ts = formless_read leaf size room index_sort ts refl

@@ -3,9 +3,9 @@ use Rattle.std.proofs.Common.{◌≡◌, ◌⊎◌, inl, inr, ℕ, suc, List, []
 use Rattle.std.specs.Prelude.{option_and_then}
 use Rattle.leaf_expr.specs.Token.{Token, closing, word, PlacedToken}
 use Rattle.leaf_expr.specs.Sexpr.{Sexpr, Sexprs, Spells, SpellAll, atom_spells, form_spells, last_spells, more_spells, depth}
-use Rattle.leaf_expr.specs.Language.{Language, Begins, Places, Maker, Row, places, meaning, make_tree}
+use Rattle.leaf_expr.specs.Language.{Language, Begins, Places, Maker, Row, places, meant, make_tree}
 use Rattle.leaf_expr.specs.TreeReader.{Read, read}
-use Rattle.leaf_expr.specs.ReadLaws.{Completes, ViablePrefix, Whole, Leads, LeadsIn, at_tree, at_word, in_form, at_end, in_part, behind, in_item, behind_item, fault_at, Misfit, Stops, too_short, at_token, TokenFaultLaw, OneFaultLaw}
+use Rattle.leaf_expr.specs.ReadLaws.{Completes, ViablePrefix, Whole, TokensLead, TokensLeadIn, at_tree, at_word, in_form, at_end, in_part, behind, in_item, behind_item, fault_at, Misfit, Stops, too_short, at_token, TokenFaultLaw, OneFaultLaw}
 use Rattle.leaf_expr.proofs.Proper.{Proper}
 use Rattle.leaf_expr.proofs.Opened.{opens_front}
 use Rattle.leaf_expr.proofs.ReadFound.{found}
@@ -50,7 +50,7 @@ no_closing p ts n rest atom_spells k us e = apart e (λ p. cc)
 no_closing p ts n rest (form_spells h) k us e = apart e (λ p. cc)
 
 module _ (L : Language) where
-  none_leads : {s : L.Sort} {us : List PlacedToken} {q : Option L.Sort} {d : ℕ} → Leads L s us q d → (k : ℕ) (vs : List PlacedToken)
+  none_leads : {s : L.Sort} {us : List PlacedToken} {q : Option L.Sort} {d : ℕ} → TokensLead L s us q d → (k : ℕ) (vs : List PlacedToken)
       → ◌≡◌ {A = List PlacedToken} ((k, closing) ∷ vs) us → ⊥
   none_leads at_tree k vs e = cc
   none_leads (at_word f) k vs e = apart e (λ p. cc)
@@ -63,7 +63,7 @@ module _ (L : Language) where
   module _ (proper : Proper L) where
     -- a tree has one end
     same_end : (q : L.Sort) (t u : L.Tree q) (p : Sexpr) (front us ts : List PlacedToken) (n : ℕ) (rest : List PlacedToken) → Whole L q u front
-        → Spells p ts n rest → meaning L q p ≡ Some t → ts ≡ front ++ us → rest ≡ us
+        → Spells p ts n rest → meant L q p ≡ Some t → ts ≡ front ++ us → rest ≡ us
     same_end q t u p front us ts n rest w h m e =
         let a : Begins L (depth p) q t (front ++ us) n rest =
         record { part = p; spells = subst (λ z. Spells p z n rest) e h; means = m; within = omega arith } in
@@ -72,8 +72,8 @@ module _ (L : Language) where
 
     mutual
       -- tokens that lead somewhere in a tree are none
-      no_tree : {s : L.Sort} {us : List PlacedToken} {q : Option L.Sort} {d : ℕ} → Leads L s us q d → (p : Sexpr) (ts : List PlacedToken) (n : ℕ)
-          (rest : List PlacedToken) (t : L.Tree s) → Spells p ts n rest → ts ≡ us → meaning L s p ≡ Some t → ⊥
+      no_tree : {s : L.Sort} {us : List PlacedToken} {q : Option L.Sort} {d : ℕ} → TokensLead L s us q d → (p : Sexpr) (ts : List PlacedToken) (n : ℕ)
+          (rest : List PlacedToken) (t : L.Tree s) → Spells p ts n rest → ts ≡ us → meant L s p ≡ Some t → ⊥
       no_tree at_tree p ts n rest t atom_spells e m = cc
       no_tree at_tree p ts n rest t (form_spells h) e m = cc
       no_tree (at_word f) p ts n rest t atom_spells e m = apart e (λ p. cc)
@@ -86,33 +86,33 @@ module _ (L : Language) where
           no_parts i s r.makes ps vs ((k, closing) ∷ rest) k rest t h refl b (with_row s ps t r (L.row_at s v) (ap (L.row_at s) c ∙ a) m)
 
       -- and tokens of the parts of a form
-      no_parts : {qs : Places L.Sort} {us : List PlacedToken} {q : Option L.Sort} {d : ℕ} → LeadsIn L qs us q d → (s : L.Sort)
+      no_parts : {qs : Places L.Sort} {us : List PlacedToken} {q : Option L.Sort} {d : ℕ} → TokensLeadIn L qs us q d → (s : L.Sort)
           (make : Maker L.Tree qs (L.Tree s)) (ps : Sexprs) (ts mid : List PlacedToken) (k : ℕ) (rest : List PlacedToken) (t : L.Tree s) → SpellAll ps ts mid
           → mid ≡ (k, closing) ∷ rest → ts ≡ us → make_tree L s qs make ps ≡ Some t → ⊥
       no_parts at_end s make ps ts mid k rest t last_spells g e m = cc
       no_parts at_end s make ps ts mid k rest t (more_spells h hs) g e m = cc
       no_parts (in_part i) s make ps ts mid k rest t last_spells g e m = cc
       no_parts (in_part {p = p} {qs = qs} i) s make ps ts mid k rest t (more_spells {n = n} {p = a} {ps = bs} {mid = vs} h hs) g e m =
-          let b : (x : L.Tree p) × (meaning L p a ≡ Some x) × (make_tree L s qs (make x) bs ≡ Some t) = some_bind (meaning L p a) _ t m in
+          let b : (x : L.Tree p) × (meant L p a ≡ Some x) × (make_tree L s qs (make x) bs ≡ Some t) = some_bind (meant L p a) _ t m in
           no_tree i a ts n vs b.0 h e b.1
       no_parts (behind w i) s make ps ts mid k rest t last_spells g e m = cc
       no_parts (behind {p = p} {qs = qs} {t = u} {front = front} {us = us} w i) s make ps ts mid k rest t
           (more_spells {n = n} {p = a} {ps = bs} {mid = vs} h hs) g e m =
-          let b : (x : L.Tree p) × (meaning L p a ≡ Some x) × (make_tree L s qs (make x) bs ≡ Some t) = some_bind (meaning L p a) _ t m in
+          let b : (x : L.Tree p) × (meant L p a ≡ Some x) × (make_tree L s qs (make x) bs ≡ Some t) = some_bind (meant L p a) _ t m in
           no_parts i s (make b.0) bs vs mid k rest t hs g (same_end p b.0 u a front us ts n vs w h b.1 e) b.2
       no_parts (in_item i) s make ps ts mid k rest t last_spells g e m = none_leads i k rest (sym g ∙ e)
       no_parts (in_item {p = p} i) s make ps ts mid k rest t (more_spells {n = n} {p = a} {ps = bs} {mid = vs} h hs) g e m =
-          let b : (x : L.Tree p) × (meaning L p a ≡ Some x) × (make_tree L s (places p) (λ xs. make (x ∷ xs)) bs ≡ Some t) = some_bind (meaning L p a) _ t m in
+          let b : (x : L.Tree p) × (meant L p a ≡ Some x) × (make_tree L s (places p) (λ xs. make (x ∷ xs)) bs ≡ Some t) = some_bind (meant L p a) _ t m in
           no_tree i a ts n vs b.0 h e b.1
       no_parts (behind_item {us = us} w i) s make ps ts mid k rest t last_spells g e m = no_closing w.part _ w.stop us (w.spells us) k rest (sym g ∙ e)
       no_parts (behind_item {p = p} {t = u} {front = front} {us = us} w i) s make ps ts mid k rest t
           (more_spells {n = n} {p = a} {ps = bs} {mid = vs} h hs) g e m =
-          let b : (x : L.Tree p) × (meaning L p a ≡ Some x) × (make_tree L s (places p) (λ xs. make (x ∷ xs)) bs ≡ Some t) = some_bind (meaning L p a) _ t m in
+          let b : (x : L.Tree p) × (meant L p a ≡ Some x) × (make_tree L s (places p) (λ xs. make (x ∷ xs)) bs ≡ Some t) = some_bind (meant L p a) _ t m in
           no_parts i s (λ xs. make (b.0 ∷ xs)) bs vs mid k rest t hs g (same_end p b.0 u a front us ts n vs w h b.1 e) b.2
 
     mutual
       -- tokens lead to one place
-      one_place : {s : L.Sort} {us vs : List PlacedToken} {q r : Option L.Sort} {d c : ℕ} → Leads L s us q d → Leads L s vs r c → us ≡ vs
+      one_place : {s : L.Sort} {us vs : List PlacedToken} {q r : Option L.Sort} {d c : ℕ} → TokensLead L s us q d → TokensLead L s vs r c → us ≡ vs
           → (q ≡ r) × (d ≡ c)
       one_place at_tree at_tree e = (refl, refl)
       one_place at_tree (at_word g) e = absurd (cc)
@@ -127,10 +127,10 @@ module _ (L : Language) where
           let p : w ≡ v = cc in
           let u : us ≡ vs = tail_is (tail_is e) in
           let o : y ≡ x = some_is (sym b ∙ (ap (L.row_at s) (sym p) ∙ a)) in
-          let h = one_inside i (subst (λ row. LeadsIn L row.takes vs z c) o j) u in
+          let h = one_inside i (subst (λ row. TokensLeadIn L row.takes vs z c) o j) u in
           (h.0, ap suc h.1)
 
-      one_inside : {qs : Places L.Sort} {us vs : List PlacedToken} {q r : Option L.Sort} {d c : ℕ} → LeadsIn L qs us q d → LeadsIn L qs vs r c → us ≡ vs
+      one_inside : {qs : Places L.Sort} {us vs : List PlacedToken} {q r : Option L.Sort} {d c : ℕ} → TokensLeadIn L qs us q d → TokensLeadIn L qs vs r c → us ≡ vs
           → (q ≡ r) × (d ≡ c)
       one_inside at_end at_end e = (refl, refl)
       one_inside (in_part i) (in_part j) e = one_place i j e

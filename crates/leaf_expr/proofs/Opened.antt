@@ -3,7 +3,7 @@ use Rattle.std.proofs.Common.{◌≡◌, ℕ, zero, suc, ◌+◌, ◌≤◌, Lis
 use Rattle.leaf_expr.specs.Token.{opening, closing, word, PlacedToken}
 use Rattle.leaf_expr.specs.Sexpr.{Sexpr, Sexprs, Spells, SpellAll, atom_spells, form_spells, last_spells, more_spells, depth, depths}
 use Rattle.leaf_expr.specs.Language.{Language, Places}
-use Rattle.leaf_expr.specs.ReadLaws.{OpensAtMost, Whole, Leads, LeadsIn, at_tree, at_word, in_form, at_end, in_part, behind, in_item, behind_item}
+use Rattle.leaf_expr.specs.ReadLaws.{OpensAtMost, Whole, TokensLead, TokensLeadIn, at_tree, at_word, in_form, at_end, in_part, behind, in_item, behind_item}
 
 mutual
   -- a tree within the room, and then tokens that are so
@@ -48,7 +48,7 @@ module _ (L : Language) where
 
   mutual
     -- where tokens lead to, what is left of the room is left to those behind them
-    pub opens_there : {s : L.Sort} {us : List PlacedToken} {q : Option L.Sort} {d : ℕ} → Leads L s us q d → (room left : ℕ) (vs : List PlacedToken)
+    pub opens_there : {s : L.Sort} {us : List PlacedToken} {q : Option L.Sort} {d : ℕ} → TokensLead L s us q d → (room left : ℕ) (vs : List PlacedToken)
         → d + left ≡ room → OpensAtMost room (us ++ vs) → OpensAtMost left vs
     opens_there at_tree room left vs e o = subst (λ n. OpensAtMost n vs) (omega arith) o
     opens_there (at_word f) zero left vs e o = absurd o
@@ -56,7 +56,7 @@ module _ (L : Language) where
     opens_there (in_form f a i) zero left vs e o = absurd o
     opens_there (in_form f a i) (suc room) left vs e o = opens_inside i room left vs (omega arith) o
 
-    opens_inside : {qs : Places L.Sort} {us : List PlacedToken} {q : Option L.Sort} {d : ℕ} → LeadsIn L qs us q d → (room left : ℕ) (vs : List PlacedToken)
+    opens_inside : {qs : Places L.Sort} {us : List PlacedToken} {q : Option L.Sort} {d : ℕ} → TokensLeadIn L qs us q d → (room left : ℕ) (vs : List PlacedToken)
         → d + left ≡ room → OpensAtMost room (us ++ vs) → OpensAtMost left vs
     opens_inside at_end room left vs e o = subst (λ n. OpensAtMost n vs) (omega arith) o
     opens_inside (in_part i) room left vs e o = opens_there i room left vs e o

@@ -3,16 +3,17 @@ use Rattle.std.proofs.Common.{◌≡◌, ℕ, ◌≤◌, true, false, nat_eq, Li
 use Rattle.std.specs.Fmt.{decimal, signed_decimal}
 use Rattle.sample_core.specs.TypeTree.{TypeTree, unit_ty, bool_ty, int_ty, pair_ty, event_ty, list_ty}
 use Rattle.leaf_core.specs.Expression.{Expression, Expressions, input, param, unit_expr, bool_expr, int_expr, pair_expr, fst, snd, then_expr, neg, add, sub, mul, less, equal, not_expr, and_expr, or_expr, if_expr, no_event_expr, event_expr, on, list_expr, nth, len, no_more, and_then, expressions_of}
-use Rattle.leaf_expr.specs.Sexpr.{atom, plain, all_plain}
+use Rattle.leaf_expr.specs.Sexpr.{atom, plain_sexpr, all_plain}
 use Rattle.leaf_expr.specs.WordReading.{WordReading, reads, map_reading}
-use Rattle.leaf_expr.specs.Language.{meaning, make_tree, read_word, places}
-use Rattle.leaf_expr.specs.Grammar.{leaf, word_at, row_at, words, rows, type_sort, expression_sort, index_sort, word_among, number_at}
+use Rattle.leaf_expr.specs.Language.{meant, make_tree, read_word, places}
+use Rattle.leaf_expr.specs.Grammar.{leaf, word_at, row_at, words, rows, type_sort, expression_sort, index_sort, word_among, leaf_number_at}
 use Rattle.leaf_expr.specs.Printing.{type_sexpr, expression_sexpr, expression_sexprs, InRange, AllInRange}
 use Rattle.std.proofs.lemmas.Bool.{ne_eqb}
 use Rattle.leaf_expr.proofs.Numbers.{natural_spelled, integer_spelled, signed_head, decimal_is_word, signed_is_word}
+use Rattle.leaf_expr.specs.declared.number_reader.TheConstants.{MOST_INDEX}
 
 -- a printed type means the type, and its words are words
-type_printed : (t : TypeTree) → (meaning leaf type_sort (type_sexpr t) ≡ Some t) × (plain (type_sexpr t) ≡ true)
+type_printed : (t : TypeTree) → (meant leaf type_sort (type_sexpr t) ≡ Some t) × (plain_sexpr (type_sexpr t) ≡ true)
 unfolding word_at words row_at rows
 type_printed unit_ty = (refl, refl)
 type_printed bool_ty = (refl, refl)
@@ -21,15 +22,15 @@ type_printed (pair_ty a b) = let i = type_printed a in let j = type_printed b in
 type_printed (event_ty a) = let i = type_printed a in (rw i.0 refl, rw i.1 refl)
 type_printed (list_ty a) = let i = type_printed a in (rw i.0 refl, rw i.1 refl)
 
-pub type_means : (t : TypeTree) → meaning leaf type_sort (type_sexpr t) ≡ Some t
+pub type_means : (t : TypeTree) → meant leaf type_sort (type_sexpr t) ≡ Some t
 type_means t = (type_printed t).0
 
-pub type_plain : (t : TypeTree) → plain (type_sexpr t) ≡ true
+pub type_plain : (t : TypeTree) → plain_sexpr (type_sexpr t) ≡ true
 type_plain t = (type_printed t).1
 
-pub index_means : (n : ℕ) → n ≤ 65535 → meaning leaf index_sort (atom (decimal n)) ≡ Some n
+pub index_means : (n : ℕ) → n ≤ MOST_INDEX → meant leaf index_sort (atom (decimal n)) ≡ Some n
 unfolding word_at words
-index_means n h = ap read_word (natural_spelled 0 65535 n (omega arith) h (omega arith))
+index_means n h = ap read_word (natural_spelled 0 MOST_INDEX n (omega arith) h (omega arith))
 
 -- the words of an expression begin with a letter
 low_word : (d : ℕ) (ds : List ℕ) (r : WordReading Expression) → d ≤ 57 → word_among (d ∷ ds) (words expression_sort) r ≡ r
@@ -45,8 +46,8 @@ not_among : (z : ℤ) → FitsSigned w64 z → word_at expression_sort (signed_d
 unfolding word_at
 not_among z f =
     let h : (d : ℕ) × (es : List ℕ) × (signed_decimal z ≡ d ∷ es) × (d ≤ 57) = signed_head z f in
-    ap (λ w. word_among w (words expression_sort) (number_at expression_sort (signed_decimal z))) h.2
-    ∙ low_word h.0 h.1 (number_at expression_sort (signed_decimal z)) h.3 ∙ ap (map_reading int_expr) (integer_spelled z f)
+    ap (λ w. word_among w (words expression_sort) (leaf_number_at expression_sort (signed_decimal z))) h.2
+    ∙ low_word h.0 h.1 (leaf_number_at expression_sort (signed_decimal z)) h.3 ∙ ap (map_reading int_expr) (integer_spelled z f)
 
 -- the elements of a list expression as a list
 items : Expressions → List Expression
@@ -62,9 +63,9 @@ items_are (and_then e es) = ap (and_then e) (items_are es)
 mutual
   unfolding word_at words row_at rows items
 
-  printed : (e : Expression) → InRange e → (meaning leaf expression_sort (expression_sexpr e) ≡ Some e) × (plain (expression_sexpr e) ≡ true)
+  printed : (e : Expression) → InRange e → (meant leaf expression_sort (expression_sexpr e) ≡ Some e) × (plain_sexpr (expression_sexpr e) ≡ true)
   printed input r = (refl, refl)
-  printed (param k) r = (let i : meaning leaf index_sort (atom (decimal k)) ≡ Some k = index_means k r in rw i refl, rw (decimal_is_word k (omega arith)) refl)
+  printed (param k) r = (let i : meant leaf index_sort (atom (decimal k)) ≡ Some k = index_means k r in rw i refl, rw (decimal_is_word k (omega arith)) refl)
   printed unit_expr r = (refl, refl)
   printed (bool_expr true) r = (refl, refl)
   printed (bool_expr false) r = (refl, refl)
@@ -101,8 +102,8 @@ mutual
       let h = list_printed es r.1 in
       (λ make. rw i.0 (h.0 (λ xs. make (e ∷ xs))), rw i.1 h.1)
 
-pub expression_means : (e : Expression) → InRange e → meaning leaf expression_sort (expression_sexpr e) ≡ Some e
+pub expression_means : (e : Expression) → InRange e → meant leaf expression_sort (expression_sexpr e) ≡ Some e
 expression_means e r = (printed e r).0
 
-pub expression_plain : (e : Expression) → InRange e → plain (expression_sexpr e) ≡ true
+pub expression_plain : (e : Expression) → InRange e → plain_sexpr (expression_sexpr e) ≡ true
 expression_plain e r = (printed e r).1

@@ -4,7 +4,7 @@ use Rattle.std.specs.Prelude.{option_and_then}
 use Rattle.leaf_expr.specs.WordReading.{WordReading, reads, misspelt, unfit}
 use Rattle.leaf_expr.specs.Token.{closing, word, PlacedToken}
 use Rattle.leaf_expr.specs.Sexpr.{Sexpr, Sexprs, form, Spells, SpellAll, atom_spells, form_spells, last_spells, more_spells, depth, depths}
-use Rattle.leaf_expr.specs.Language.{Language, Places, Maker, Row, no_place, place, places, meaning, make_tree, read_word}
+use Rattle.leaf_expr.specs.Language.{Language, Places, Maker, Row, no_place, place, places, meant, make_tree, read_word}
 use Rattle.leaf_expr.specs.TreeReader.{Read, word_read, read_all, read_parts, read_row, read_form, read}
 use Rattle.leaf_expr.proofs.Proper.{Proper}
 use Rattle.sample_core.specs.Answer.{◌>>=◌}
@@ -34,7 +34,7 @@ module _ (L : Language) where
 
   module _ (proper : Proper L) where
     -- a sort without forms has no row
-    pub formless_means : (s : L.Sort) (w : List ℕ) (ps : Sexprs) (t : L.Tree s) → L.has_form s ≡ false → meaning L s (form w ps) ≡ Some t → ⊥
+    pub formless_means : (s : L.Sort) (w : List ℕ) (ps : Sexprs) (t : L.Tree s) → L.has_form s ≡ false → meant L s (form w ps) ≡ Some t → ⊥
     formless_means s w ps t f e = go (L.row_at s w) (proper.formless s w f) e
       where
         go : (r : Option (Row L.Sort L.Tree (L.Tree s))) → r ≡ None → option_and_then (λ z. make_tree L s z.takes z.makes ps) r ≡ Some t → ⊥
@@ -43,14 +43,14 @@ module _ (L : Language) where
 
     module _ (size room : ℕ) (reader : (s : L.Sort) → List PlacedToken
         → Read (L.Tree s)) (h : (s : L.Sort) (p : Sexpr) (ts : List PlacedToken) (n : ℕ) (rest : List PlacedToken) (t : L.Tree s) → Spells p ts n rest
-        → meaning L s p ≡ Some t → depth p ≤ room → reader s ts ≡ Ok (t, n, rest)) where
+        → meant L s p ≡ Some t → depth p ≤ room → reader s ts ≡ Ok (t, n, rest)) where
       only_all : (s : L.Sort) (q : L.Sort) (n k : ℕ) (make : List (L.Tree q) → L.Tree s) (ps : Sexprs) (ts rest : List PlacedToken) (t : L.Tree s)
           → SpellAll ps ts ((k, closing) ∷ rest) → make_tree L s (places q) make ps ≡ Some t → depths ps ≤ room → length ts ≤ n
           → read_all L size (reader q) n make ts ≡ Ok (t, suc k, rest)
       only_all s q zero k make ps ts rest t a e d l = let i : length ((k, closing) ∷ rest) ≤ length ts = all_shorter ps ts _ a in absurd (omega arith)
       only_all s q (suc n) k make ps ts rest t last_spells e d l = cc
       only_all s q (suc n) k make ps ts rest t (more_spells {n = m} {p = p} {ps = ps'} {mid = mid} a as1) e d l =
-          let b : (x : L.Tree q) × (meaning L q p ≡ Some x) × (make_tree L s (places q) (λ xs. make (x ∷ xs)) ps' ≡ Some t) = some_bind (meaning L q p) _ t e in
+          let b : (x : L.Tree q) × (meant L q p ≡ Some x) × (make_tree L s (places q) (λ xs. make (x ∷ xs)) ps' ≡ Some t) = some_bind (meant L q p) _ t e in
           let r : reader q ts ≡ Ok (b.0, m, mid) = h q p ts m mid b.0 a b.1 (omega arith) in
           let c : length mid < length ts = shorter p ts m mid a in
           read_all_spelled size (reader q) n make p ts m mid a
@@ -63,7 +63,7 @@ module _ (L : Language) where
       only_parts s k no_place make ps ts rest t (more_spells a as1) e d = absurd (cc)
       only_parts s k (place q qs) make ps ts rest t last_spells e d = absurd (cc)
       only_parts s k (place q qs) make ps ts rest t (more_spells {n = m} {p = p} {ps = ps'} {mid = mid} a as1) e d =
-          let b : (x : L.Tree q) × (meaning L q p ≡ Some x) × (make_tree L s qs (make x) ps' ≡ Some t) = some_bind (meaning L q p) _ t e in
+          let b : (x : L.Tree q) × (meant L q p ≡ Some x) × (make_tree L s qs (make x) ps' ≡ Some t) = some_bind (meant L q p) _ t e in
           let r : reader q ts ≡ Ok (b.0, m, mid) = h q p ts m mid b.0 a b.1 (omega arith) in
           rw r (only_parts s k qs (make b.0) ps' mid rest t as1 b.2 (omega arith))
       only_parts s k (places q) make ps ts rest t a e d = only_all s q (length ts) k make ps ts rest t a e d (omega arith)
@@ -75,7 +75,7 @@ module _ (L : Language) where
       only_row s m k ps ts rest t (Some r) a e d = only_parts s k r.takes r.makes ps ts rest t a e d
 
       only_opened : (s : L.Sort) (b : Bool) (n m k : ℕ) (w : List ℕ) (ps : Sexprs) (ts rest : List PlacedToken) (t : L.Tree s) → L.has_form s ≡ b
-          → SpellAll ps ts ((k, closing) ∷ rest) → meaning L s (form w ps) ≡ Some t → depths ps ≤ room
+          → SpellAll ps ts ((k, closing) ∷ rest) → meant L s (form w ps) ≡ Some t → depths ps ≤ room
           → (if b then read_form L size reader room s ((m, word w) ∷ ts) else Err (Syntax n)) ≡ Ok (t, suc k, rest)
       only_opened s true n m k w ps ts rest t f a e d = only_row s m k ps ts rest t (L.row_at s w) a e d
       only_opened s false n m k w ps ts rest t f a e d =
@@ -88,7 +88,7 @@ module _ (L : Language) where
     only_word s n w ts t unfit e = absurd (cc)
 
     pub only : (size room : ℕ) (s : L.Sort) (p : Sexpr) (ts : List PlacedToken) (n : ℕ) (rest : List PlacedToken) (t : L.Tree s) → Spells p ts n rest
-        → meaning L s p ≡ Some t → depth p ≤ room → read L size room s ts ≡ Ok (t, n, rest)
+        → meant L s p ≡ Some t → depth p ≤ room → read L size room s ts ≡ Ok (t, n, rest)
     only size zero s p ts n rest t (atom_spells {n = n'} {w = w}) e d = only_word s n' w rest t (L.word_at s w) e
     only size (suc room) s p ts n rest t (atom_spells {n = n'} {w = w}) e d = only_word s n' w rest t (L.word_at s w) e
     only size zero s p ts n rest t (form_spells h) e d = absurd (omega arith)

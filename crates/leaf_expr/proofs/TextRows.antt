@@ -3,7 +3,7 @@ use Rattle.std.proofs.Common.{◌≡◌, refl, Option, Some, None}
 use Rattle.std.specs.Prelude.{option_and_then}
 use Rattle.sample_core.specs.TypeTree.{TypeTree}
 use Rattle.leaf_core.specs.Expression.{Expression, input, pair_expr, fst, snd, then_expr, if_expr, no_event_expr, event_expr, on}
-use Rattle.leaf_expr.specs.Language.{meaning}
+use Rattle.leaf_expr.specs.Language.{meant}
 use Rattle.leaf_expr.specs.Grammar.{leaf, type_sort, expression_sort, word_at, row_at, words, rows}
 use Rattle.leaf_expr.specs.TextRows.{TypeRows, WordRows, UnaryRows, BinaryRows, LongRows, FaultRows, MergeIs, GateIs, TagIs, AttachIs}
 
@@ -49,7 +49,7 @@ gate_parts None None None = refl
 
 pub gate_is : GateIs
 unfolding word_at words row_at rows
-gate_is T a b = gate_parts (meaning leaf type_sort T) (meaning leaf expression_sort a) (meaning leaf expression_sort b)
+gate_is T a b = gate_parts (meant leaf type_sort T) (meant leaf expression_sort a) (meant leaf expression_sort b)
 
 tag_parts : (T : Option TypeTree) (a c : Option Expression)
     → option_and_then (λ t. option_and_then (λ x. option_and_then (λ y. Some (on x (no_event_expr t) (event_expr (then_expr (fst input) y)))) c) a) T
@@ -69,7 +69,7 @@ tag_parts None None None = refl
 
 pub tag_is : TagIs
 unfolding word_at words row_at rows
-tag_is T a c = tag_parts (meaning leaf type_sort T) (meaning leaf expression_sort a) (meaning leaf expression_sort c)
+tag_is T a c = tag_parts (meant leaf type_sort T) (meant leaf expression_sort a) (meant leaf expression_sort c)
 
 attach_parts : (T : Option TypeTree) (a c : Option Expression)
     → option_and_then
@@ -92,4 +92,4 @@ attach_parts None None None = refl
 
 pub attach_is : AttachIs
 unfolding word_at words row_at rows
-attach_is T a c = attach_parts (meaning leaf type_sort T) (meaning leaf expression_sort a) (meaning leaf expression_sort c)
+attach_is T a c = attach_parts (meant leaf type_sort T) (meant leaf expression_sort a) (meant leaf expression_sort c)

@@ -1,7 +1,7 @@
 -- The tokens of a spelling part.
 use Rattle.std.proofs.Common.{◌≡◌, ℕ, suc, ◌+◌, Bool, true, false, ◌&&◌, List, [], ◌∷◌, ◌++◌, length, refl, sym, ap, ◌∙◌, subst, arith, append_assoc, length-append, nat_eq, if◌then◌else◌}
 use Rattle.leaf_expr.specs.Token.{opening, closing, word, is_word_byte, begins_word, join_byte, tokens_in}
-use Rattle.leaf_expr.specs.Sexpr.{Sexpr, Sexprs, atom, form, last, more, Spells, SpellAll, atom_spells, form_spells, last_spells, more_spells, spelling, spellings, all_word_bytes, is_word, plain, all_plain}
+use Rattle.leaf_expr.specs.Sexpr.{Sexpr, Sexprs, atom, form, last, more, Spells, SpellAll, atom_spells, form_spells, last_spells, more_spells, sexpr_spelling, sexprs_spelling, all_word_bytes, is_word, plain_sexpr, all_plain}
 
 pub tokens_step : (n b : ℕ) (bs : List ℕ) → is_word_byte b ≡ true → tokens_in false n (b ∷ bs) ≡ join_byte n b (begins_word bs) (tokens_in false (suc n) bs)
 tokens_step n b bs h =
@@ -32,45 +32,45 @@ word_tokens n (b ∷ w) bs h e =
     let t : (is_word_byte b ≡ true) × (all_word_bytes w ≡ true) = both_true (is_word_byte b) (all_word_bytes w) h in
     word_token n b w bs t.0 t.1 e ∙ ap (λ m. (n, word (b ∷ w)) ∷ tokens_in false m bs) i
 
-begins_close : (ps : Sexprs) (bs : List ℕ) → begins_word (spellings ps ++ 41 ∷ bs) ≡ false
+begins_close : (ps : Sexprs) (bs : List ℕ) → begins_word (sexprs_spelling ps ++ 41 ∷ bs) ≡ false
 begins_close last bs = refl
 begins_close (more p ps) bs = refl
 
-begins_next : (ps : Sexprs) (bs : List ℕ) → begins_word bs ≡ false → begins_word (spellings ps ++ bs) ≡ false
+begins_next : (ps : Sexprs) (bs : List ℕ) → begins_word bs ≡ false → begins_word (sexprs_spelling ps ++ bs) ≡ false
 begins_next last bs e = e
 begins_next (more p ps) bs e = refl
 
 mutual
-  pub spells_printed : (p : Sexpr) (n : ℕ) (bs : List ℕ) → plain p ≡ true → begins_word bs ≡ false
-      → Spells p (tokens_in false n (spelling p ++ bs)) (n + length (spelling p)) (tokens_in false (n + length (spelling p)) bs)
+  pub spells_printed : (p : Sexpr) (n : ℕ) (bs : List ℕ) → plain_sexpr p ≡ true → begins_word bs ≡ false
+      → Spells p (tokens_in false n (sexpr_spelling p ++ bs)) (n + length (sexpr_spelling p)) (tokens_in false (n + length (sexpr_spelling p)) bs)
   spells_printed (atom w) n bs h e = subst (λ ts. Spells (atom w) ts (n + length w) (tokens_in false (n + length w) bs)) (sym (word_tokens n w bs h e))
       atom_spells
   spells_printed (form w ps) n bs h e =
       let t : (is_word w ≡ true) × (all_plain ps ≡ true) = both_true (is_word w) (all_plain ps) h in
-      let a : (w ++ (spellings ps ++ 41 ∷ [])) ++ bs ≡ w ++ (spellings ps ++ 41 ∷ bs) = append_assoc w (spellings ps ++ 41 ∷ []) bs
-      ∙ ap (λ t. w ++ t) (append_assoc (spellings ps) (41 ∷ []) bs) in
-      let i : tokens_in false (suc n) (w ++ (spellings ps ++ 41 ∷ bs)) ≡ (suc n, word w)
-      ∷ tokens_in false (suc n + length w) (spellings ps ++ 41 ∷ bs) = word_tokens (suc n) w (spellings ps ++ 41 ∷ bs) t.0 (begins_close ps bs) in
-      let j : SpellAll ps (tokens_in false (suc n + length w) (spellings ps ++ 41 ∷ bs))
-      (tokens_in false (suc n + length w + length (spellings ps)) (41 ∷ bs)) = spell_printed ps (suc n + length w) (41 ∷ bs) t.1 refl in
-      let l : suc (suc n + length w + length (spellings ps)) ≡ n
-      + length (spelling (form w ps)) = omega (arith, length-append w (spellings ps ++ 41 ∷ []), length-append (spellings ps) (41 ∷ [])) in
-      subst (λ ts. Spells (form w ps) ((n, opening) ∷ ts) (n + length (spelling (form w ps))) (tokens_in false (n + length (spelling (form w ps))) bs))
+      let a : (w ++ (sexprs_spelling ps ++ 41 ∷ [])) ++ bs ≡ w ++ (sexprs_spelling ps ++ 41 ∷ bs) = append_assoc w (sexprs_spelling ps ++ 41 ∷ []) bs
+      ∙ ap (λ t. w ++ t) (append_assoc (sexprs_spelling ps) (41 ∷ []) bs) in
+      let i : tokens_in false (suc n) (w ++ (sexprs_spelling ps ++ 41 ∷ bs)) ≡ (suc n, word w)
+      ∷ tokens_in false (suc n + length w) (sexprs_spelling ps ++ 41 ∷ bs) = word_tokens (suc n) w (sexprs_spelling ps ++ 41 ∷ bs) t.0 (begins_close ps bs) in
+      let j : SpellAll ps (tokens_in false (suc n + length w) (sexprs_spelling ps ++ 41 ∷ bs))
+      (tokens_in false (suc n + length w + length (sexprs_spelling ps)) (41 ∷ bs)) = spell_printed ps (suc n + length w) (41 ∷ bs) t.1 refl in
+      let l : suc (suc n + length w + length (sexprs_spelling ps)) ≡ n
+      + length (sexpr_spelling (form w ps)) = omega (arith, length-append w (sexprs_spelling ps ++ 41 ∷ []), length-append (sexprs_spelling ps) (41 ∷ [])) in
+      subst (λ ts. Spells (form w ps) ((n, opening) ∷ ts) (n + length (sexpr_spelling (form w ps))) (tokens_in false (n + length (sexpr_spelling (form w ps))) bs))
       (sym (ap (tokens_in false (suc n)) a ∙ i))
-      (subst (λ m. Spells (form w ps) ((n, opening) ∷ (suc n, word w) ∷ tokens_in false (suc n + length w) (spellings ps ++ 41 ∷ bs)) m (tokens_in false m bs))
+      (subst (λ m. Spells (form w ps) ((n, opening) ∷ (suc n, word w) ∷ tokens_in false (suc n + length w) (sexprs_spelling ps ++ 41 ∷ bs)) m (tokens_in false m bs))
       l (form_spells j))
 
   pub spell_printed : (ps : Sexprs) (n : ℕ) (bs : List ℕ) → all_plain ps ≡ true → begins_word bs ≡ false
-      → SpellAll ps (tokens_in false n (spellings ps ++ bs)) (tokens_in false (n + length (spellings ps)) bs)
+      → SpellAll ps (tokens_in false n (sexprs_spelling ps ++ bs)) (tokens_in false (n + length (sexprs_spelling ps)) bs)
   spell_printed last n bs h e = let i : n + 0 ≡ n = omega arith in subst (λ m. SpellAll last (tokens_in false n bs) (tokens_in false m bs)) (sym i) last_spells
   spell_printed (more p ps) n bs h e =
-      let t : (plain p ≡ true) × (all_plain ps ≡ true) = both_true (plain p) (all_plain ps) h in
-      let i : Spells p (tokens_in false (suc n) (spelling p ++ (spellings ps ++ bs))) (suc n + length (spelling p))
-      (tokens_in false (suc n + length (spelling p)) (spellings ps ++ bs)) = spells_printed p (suc n) (spellings ps ++ bs) t.0 (begins_next ps bs e) in
-      let j : SpellAll ps (tokens_in false (suc n + length (spelling p)) (spellings ps ++ bs))
-      (tokens_in false (suc n + length (spelling p) + length (spellings ps)) bs) = spell_printed ps (suc n + length (spelling p)) bs t.1 e in
-      let l : suc n + length (spelling p) + length (spellings ps) ≡ n
-      + length (spellings (more p ps)) = omega (arith, length-append (spelling p) (spellings ps)) in
-      subst (λ ts. SpellAll (more p ps) ts (tokens_in false (n + length (spellings (more p ps))) bs))
-      (sym (ap (tokens_in false (suc n)) (append_assoc (spelling p) (spellings ps) bs)))
-      (subst (λ m. SpellAll (more p ps) (tokens_in false (suc n) (spelling p ++ (spellings ps ++ bs))) (tokens_in false m bs)) l (more_spells i j))
+      let t : (plain_sexpr p ≡ true) × (all_plain ps ≡ true) = both_true (plain_sexpr p) (all_plain ps) h in
+      let i : Spells p (tokens_in false (suc n) (sexpr_spelling p ++ (sexprs_spelling ps ++ bs))) (suc n + length (sexpr_spelling p))
+      (tokens_in false (suc n + length (sexpr_spelling p)) (sexprs_spelling ps ++ bs)) = spells_printed p (suc n) (sexprs_spelling ps ++ bs) t.0 (begins_next ps bs e) in
+      let j : SpellAll ps (tokens_in false (suc n + length (sexpr_spelling p)) (sexprs_spelling ps ++ bs))
+      (tokens_in false (suc n + length (sexpr_spelling p) + length (sexprs_spelling ps)) bs) = spell_printed ps (suc n + length (sexpr_spelling p)) bs t.1 e in
+      let l : suc n + length (sexpr_spelling p) + length (sexprs_spelling ps) ≡ n
+      + length (sexprs_spelling (more p ps)) = omega (arith, length-append (sexpr_spelling p) (sexprs_spelling ps)) in
+      subst (λ ts. SpellAll (more p ps) ts (tokens_in false (n + length (sexprs_spelling (more p ps))) bs))
+      (sym (ap (tokens_in false (suc n)) (append_assoc (sexpr_spelling p) (sexprs_spelling ps) bs)))
+      (subst (λ m. SpellAll (more p ps) (tokens_in false (suc n) (sexpr_spelling p ++ (sexprs_spelling ps ++ bs))) (tokens_in false m bs)) l (more_spells i j))

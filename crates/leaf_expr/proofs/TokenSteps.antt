@@ -1,7 +1,7 @@
 -- How the tokens of a text go on from byte to byte.
-use Rattle.std.proofs.Common.{◌≡◌, ◌≢◌, ℕ, zero, suc, nat_lt, ◌+◌, ◌-◌, ◌<◌, ◌≤◌, Bool, true, false, not, nat_eq, ◌||◌, List, [], ◌∷◌, drop, take, length, get_or, refl, sym, ap, ◌∙◌, arith, drop-cons, length-drop, drop_of_length-le}
+use Rattle.std.proofs.Common.{◌≡◌, ℕ, zero, suc, nat_lt, ◌+◌, ◌-◌, ◌<◌, ◌≤◌, Bool, true, false, not, nat_eq, ◌||◌, List, [], ◌∷◌, drop, take, length, get_or, refl, sym, ap, ◌∙◌, arith, drop-cons, length-drop, drop_of_length-le}
 use Rattle.std.specs.List.{slice_range}
-use Rattle.std.proofs.lemmas.Bool.{eqb-true, ne_eqb, ltb-true, ltb-false}
+use Rattle.std.proofs.lemmas.Bool.{ltb-true, ltb-false}
 use Rattle.std.proofs.lemmas.List.{get_or-drop, length-take-le}
 use Rattle.std.proofs.lemmas.List.Folds.{drop_split}
 use Rattle.leaf_expr.specs.Token.{opening, closing, word, is_word_byte, begins_token, begins_word, tokens_in, tokens_from, token_of}
@@ -48,17 +48,6 @@ is_words zero bs p h l = absurd (omega arith)
 is_words (suc m) [] p h l = absurd (omega arith)
 is_words (suc m) (b ∷ bs) p h l = all_words (suc m) (b ∷ bs) h l
 
--- the token of bytes of a word is that word
-pub word_is_token : (w : List ℕ) → is_word w ≡ true → token_of w ≡ word w
-word_is_token [] h = refl
-word_is_token (b ∷ c ∷ w) h = refl
-word_is_token (b ∷ []) h = go (nat_eq b 40) (nat_eq b 41) refl refl
-  where
-    go : (x y : Bool) → nat_eq b 40 ≡ x → nat_eq b 41 ≡ y → token_of (b ∷ []) ≡ word (b ∷ [])
-    go true y k l = let i : b ≡ 40 = eqb-true b 40 k in absurd (let z : is_word (40 ∷ []) ≡ true = rw i at h in cc)
-    go false true k l = let i : b ≡ 41 = eqb-true b 41 l in absurd (let z : is_word (41 ∷ []) ≡ true = rw i at h in cc)
-    go false false k l = rw (k, l) refl
-
 no_word_at : (n : ℕ) (text : List ℕ) → n ≤ length text → (n < length text → is_word_byte (get_or text n 0) ≡ false) → begins_word (drop n text) ≡ false
 no_word_at n text l h = go (nat_lt n (length text)) refl
   where
@@ -103,15 +92,6 @@ open_stands i text h e = let n : i + 1 ≡ suc i = omega arith in rw n (tokens_c
 pub close_stands : (i : ℕ) (text : List ℕ) → i < length text → get_or text i 0 ≡ 41 → tokens_from i text ≡ (i, closing) ∷ tokens_from (i + 1) text
 close_stands i text h e = let n : i + 1 ≡ suc i = omega arith in rw n (tokens_cons false i text h ∙ ap (λ b. tokens_in false i (b ∷ drop (suc i) text)) e)
 
--- a byte that begins a token and is no parenthesis is of a word
-pub else_word : (b : ℕ) → begins_token b ≡ true → b ≢ 40 → b ≢ 41 → is_word_byte b ≡ true
-else_word b h e f = go (is_word_byte b) refl
-  where
-    go : (x : Bool) → is_word_byte b ≡ x → is_word_byte b ≡ true
-    go true p = p
-    go false p = absurd (let i : nat_eq b 40 ≡ false = ne_eqb b 40 e in let j : nat_eq b 41 ≡ false = ne_eqb b 41 f in
-        let k : begins_token b ≡ false = rw (p, i, j) refl in let l : true ≡ false = sym h ∙ k in cc)
-
 -- what a parenthesis or a word is as a token of the bytes that it takes
 pub cut_one : (i : ℕ) (text : List ℕ) → i < length text → slice_range text i (i + 1) ≡ get_or text i 0 ∷ []
 cut_one i text h = let one : i + 1 - i ≡ 1 = omega arith in ap (λ n. take n (drop i text)) one ∙ ap (take 1) (drop-cons text i 0 h)
@@ -123,7 +103,3 @@ opening_cut at start text h = h.0 ∙ ap (λ w. (start, token_of w) ∷ tokens_f
 pub closing_cut : (at start : ℕ) (text : List ℕ) → IsLexeme text at (V.Close start)
     → tokens_from at text ≡ (start, token_of (slice_range text start (start + 1))) ∷ tokens_from (start + 1) text
 closing_cut at start text h = h.0 ∙ ap (λ w. (start, token_of w) ∷ tokens_from (start + 1) text) (sym (cut_one start text h.2 ∙ ap (λ b. b ∷ []) h.3))
-
-pub word_cut : (at start end : ℕ) (text : List ℕ) → IsLexeme text at (V.Word start end)
-    → tokens_from at text ≡ (start, token_of (slice_range text start end)) ∷ tokens_from end text
-word_cut at start end text h = h.0 ∙ ap (λ k. (start, k) ∷ tokens_from end text) (sym (word_is_token (slice_range text start end) h.4))

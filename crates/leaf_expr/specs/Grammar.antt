@@ -4,50 +4,51 @@ use Rattle.sample_core.specs.TypeTree.{TypeTree, unit_ty, bool_ty, int_ty, pair_
 use Rattle.leaf_expr.specs.WordReading.{WordReading, reads, unfit, integer_at, natural_at, map_reading}
 use Rattle.leaf_core.specs.Expression.{Expression, input, param, unit_expr, bool_expr, int_expr, pair_expr, fst, snd, then_expr, neg, add, sub, mul, less, equal, not_expr, and_expr, or_expr, if_expr, no_event_expr, event_expr, on, list_expr, nth, len, expressions_of}
 use Rattle.leaf_expr.specs.Language.{Language, Places, Maker, Row, no_place, place, places, row_among}
+use Rattle.leaf_expr.specs.declared.number_reader.TheConstants.{MOST_INDEX}
 
 -- what stands at a place: a type, an expression, or the number of a parameter
-pub data Sort : Type 0 where
-  type_sort : Sort
-  expression_sort : Sort
-  index_sort : Sort
+pub data LeafSort : Type 0 where
+  type_sort : LeafSort
+  expression_sort : LeafSort
+  index_sort : LeafSort
 
 -- what is read at a place of each sort
-abbrev pub Tree : Sort → Type 0
-Tree type_sort = TypeTree
-Tree expression_sort = Expression
-Tree index_sort = ℕ
+abbrev pub LeafTree : LeafSort → Type 0
+LeafTree type_sort = TypeTree
+LeafTree expression_sort = Expression
+LeafTree index_sort = ℕ
 
 -- a type as the next part
-abbrev pub t : Places Sort → Places Sort
+abbrev pub t : Places LeafSort → Places LeafSort
 t ps = place type_sort ps
 
 -- an expression as the next part
-abbrev pub e : Places Sort → Places Sort
+abbrev pub e : Places LeafSort → Places LeafSort
 e ps = place expression_sort ps
 
 -- the number of a parameter as the next part
-abbrev pub k : Places Sort → Places Sort
+abbrev pub k : Places LeafSort → Places LeafSort
 k ps = place index_sort ps
 
 -- words that are a tree by themselves
-unfoldable pub words : (s : Sort) → List (List ℕ × Tree s)
+unfoldable pub words : (s : LeafSort) → List (List ℕ × LeafTree s)
 words type_sort = (codes "Unit", unit_ty) ∷ (codes "Bool", bool_ty) ∷ (codes "Int", int_ty) ∷ []
 words expression_sort = (codes "x", input) ∷ (codes "unit", unit_expr)
     ∷ (codes "true", bool_expr true) ∷ (codes "false", bool_expr false) ∷ []
 words index_sort = []
 
 -- a row of the grammar: the word of a form, its parts, and the tree that they make
-abbrev pub row : {R : Type 0} → (w : List ℕ) → (ps : Places Sort) → Maker Tree ps R
-    → Row Sort Tree R
+abbrev pub row : {R : Type 0} → (w : List ℕ) → (ps : Places LeafSort) → Maker LeafTree ps R
+    → Row LeafSort LeafTree R
 row w ps make = record { name = w; takes = ps; makes = make }
 
 -- the forms of types
-abbrev pub type_rows : List (Row Sort Tree TypeTree)
+abbrev pub type_rows : List (Row LeafSort LeafTree TypeTree)
 type_rows = row (codes "Pair") (t (t no_place)) pair_ty ∷ row (codes "Event") (t no_place) event_ty
     ∷ row (codes "List") (t no_place) list_ty ∷ []
 
 -- a parameter, no event of a type, and a list of elements of a type
-abbrev pub other_rows : List (Row Sort Tree Expression)
+abbrev pub other_rows : List (Row LeafSort LeafTree Expression)
 other_rows =
     row (codes "p") (k no_place) param
     ∷ row (codes "none") (t no_place) no_event_expr
@@ -55,7 +56,7 @@ other_rows =
     ∷ []
 
 -- the forms of one expression
-abbrev pub unary_rows : List (Row Sort Tree Expression)
+abbrev pub unary_rows : List (Row LeafSort LeafTree Expression)
 unary_rows =
     row (codes "fst") (e no_place) fst
     ∷ row (codes "snd") (e no_place) snd
@@ -66,7 +67,7 @@ unary_rows =
     ∷ []
 
 -- the forms of two expressions, the sugar last
-abbrev pub binary_rows : List (Row Sort Tree Expression)
+abbrev pub binary_rows : List (Row LeafSort LeafTree Expression)
 binary_rows =
     row (codes "pair") (e (e no_place)) pair_expr
     ∷ row (codes "then") (e (e no_place)) then_expr
@@ -81,12 +82,12 @@ binary_rows =
     ∷ []
 
 -- the forms of three expressions
-abbrev pub ternary_rows : List (Row Sort Tree Expression)
+abbrev pub ternary_rows : List (Row LeafSort LeafTree Expression)
 ternary_rows = row (codes "if") (e (e (e no_place))) if_expr
     ∷ row (codes "on") (e (e (e no_place))) on ∷ row (codes "nth") (e (e (e no_place))) nth ∷ []
 
 -- the sugar of a type and two expressions
-abbrev pub typed_rows : List (Row Sort Tree Expression)
+abbrev pub typed_rows : List (Row LeafSort LeafTree Expression)
 typed_rows =
     row (codes "gate") (t (e (e no_place))) (λ T a b. if_expr b a (no_event_expr T))
     ∷ row (codes "tag") (t (e (e no_place)))
@@ -97,17 +98,17 @@ typed_rows =
     ∷ []
 
 -- forms: the word, the parts, and the tree that they make
-unfoldable pub rows : (s : Sort) → List (Row Sort Tree (Tree s))
+unfoldable pub rows : (s : LeafSort) → List (Row LeafSort LeafTree (LeafTree s))
 rows type_sort = type_rows
 rows expression_sort = other_rows ++ unary_rows ++ binary_rows ++ ternary_rows ++ typed_rows
 rows index_sort = []
 
 -- what a word is that no table has: an expression may be a number of 64 bits, a parameter's number
 -- is at most 65,535
-abbrev pub number_at : (s : Sort) → List ℕ → WordReading (Tree s)
-number_at type_sort w = unfit
-number_at expression_sort w = map_reading int_expr (integer_at w)
-number_at index_sort w = natural_at 0 65535 w
+abbrev pub leaf_number_at : (s : LeafSort) → List ℕ → WordReading (LeafTree s)
+leaf_number_at type_sort w = unfit
+leaf_number_at expression_sort w = map_reading int_expr (integer_at w)
+leaf_number_at index_sort w = natural_at 0 MOST_INDEX w
 
 -- what a word is by a table of words; where the table lacks it, what is given
 abbrev pub word_among : {T : Type 0} → List ℕ → List (List ℕ × T) → WordReading T → WordReading T
@@ -115,20 +116,20 @@ word_among w [] r = r
 word_among w (x ∷ xs) r = if bytes_eq w x.0 then reads x.1 else word_among w xs r
 
 -- what a word is where a tree of the sort stands
-unfoldable pub word_at : (s : Sort) → List ℕ → WordReading (Tree s)
-word_at s w = word_among w (words s) (number_at s w)
+unfoldable pub word_at : (s : LeafSort) → List ℕ → WordReading (LeafTree s)
+word_at s w = word_among w (words s) (leaf_number_at s w)
 
 -- the form of the sort that a word begins
-unfoldable pub row_at : (s : Sort) → List ℕ → Option (Row Sort Tree (Tree s))
+unfoldable pub row_at : (s : LeafSort) → List ℕ → Option (Row LeafSort LeafTree (LeafTree s))
 row_at s w = row_among w (rows s)
 
 -- whether a tree of the sort may be a form, which begins with a parenthesis
-abbrev pub has_form : Sort → Bool
+abbrev pub has_form : LeafSort → Bool
 has_form index_sort = false
 has_form _ = true
 
 -- whether a number may stand where a tree of the sort does
-abbrev pub takes_number : Sort → Bool
+abbrev pub takes_number : LeafSort → Bool
 takes_number type_sort = false
 takes_number _ = true
 
@@ -136,8 +137,8 @@ takes_number _ = true
 abbrev pub leaf : Language
 leaf =
     record {
-      Sort = Sort;
-      Tree = Tree;
+      Sort = LeafSort;
+      Tree = LeafTree;
       word_at = word_at;
       row_at = row_at;
       has_form =

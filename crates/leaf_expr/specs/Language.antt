@@ -47,19 +47,19 @@ read_word _ = None
 module _ (L : Language) where
   abbrev mutual
     -- the tree of the sort that a part means
-    pub meaning : (s : L.Sort) → Sexpr → Option (L.Tree s)
-    meaning s (atom w) = read_word (L.word_at s w)
-    meaning s (form w ps) = option_and_then (λ r. make_tree s r.takes r.makes ps) (L.row_at s w)
+    pub meant : (s : L.Sort) → Sexpr → Option (L.Tree s)
+    meant s (atom w) = read_word (L.word_at s w)
+    meant s (form w ps) = option_and_then (λ r. make_tree s r.takes r.makes ps) (L.row_at s w)
 
     -- what parts make
     pub make_tree : (s : L.Sort) → (qs : Places L.Sort) → Maker L.Tree qs (L.Tree s) → Sexprs
         → Option (L.Tree s)
     make_tree s no_place r last = Some r
     make_tree s (place q qs) make (more p ps) =
-        option_and_then (λ x. make_tree s qs (make x) ps) (meaning q p)
+        option_and_then (λ x. make_tree s qs (make x) ps) (meant q p)
     make_tree s (places q) make last = Some (make [])
     make_tree s (places q) make (more p ps) =
-        option_and_then (λ x. make_tree s (places q) (λ xs. make (x ∷ xs)) ps) (meaning q p)
+        option_and_then (λ x. make_tree s (places q) (λ xs. make (x ∷ xs)) ps) (meant q p)
     make_tree s _ make _ = None
 
   -- The tokens ts are those of t, up to byte n, and then rest, with at most so many parentheses
@@ -68,5 +68,5 @@ module _ (L : Language) where
       (rest : List PlacedToken) : Type 0 where
     pub part : Sexpr
     pub spells : Spells part ts n rest
-    pub means : meaning s part ≡ Some t
+    pub means : meant s part ≡ Some t
     pub within : depth part ≤ room

@@ -5,6 +5,7 @@ use Rattle.std.specs.Fmt.{decimal, signed_decimal}
 use Rattle.sample_core.specs.TypeTree.{TypeTree, unit_ty, bool_ty, int_ty, pair_ty, event_ty, list_ty}
 use Rattle.leaf_core.specs.Expression.{Expression, Expressions, input, param, unit_expr, bool_expr, int_expr, pair_expr, fst, snd, then_expr, neg, add, sub, mul, less, equal, not_expr, and_expr, or_expr, if_expr, no_event_expr, event_expr, on, list_expr, nth, len, no_more, and_then}
 use Rattle.leaf_expr.specs.Sexpr.{Sexpr, Sexprs, atom, form, last, more}
+use Rattle.leaf_expr.specs.declared.number_reader.TheConstants.{MOST_INDEX}
 
 -- a form of one part
 abbrev pub one : List ℕ → Sexpr → Sexpr
@@ -69,7 +70,7 @@ abbrev mutual
 -- the numbers of an expression are in the ranges of their places
 abbrev mutual
   pub InRange : Expression → Type 0
-  InRange (param k) = k ≤ 65535
+  InRange (param k) = k ≤ MOST_INDEX
   InRange (int_expr n) = FitsSigned w64 n
   InRange (pair_expr a b) = InRange a × InRange b
   InRange (fst e) = InRange e

@@ -3,7 +3,7 @@ use Rattle.std.specs.Prelude.{◌≡◌, ◌↔◌, ℕ, zero, suc, ◌+◌, tru
 use Rattle.sample_core.specs.Number.{is_number_word}
 use Rattle.leaf_expr.specs.Token.{opening, closing, word, PlacedToken}
 use Rattle.leaf_expr.specs.Sexpr.{Sexpr, Spells}
-use Rattle.leaf_expr.specs.Language.{Language, Places, Row, no_place, place, places, Begins, meaning}
+use Rattle.leaf_expr.specs.Language.{Language, Places, Row, no_place, place, places, Begins, meant}
 use Rattle.leaf_expr.specs.TreeReader.{read}
 use Rattle.leaf_expr.specs.declared.text_fault.ExprTextFault.{ExprTextFault}
 use Rattle.leaf_expr.specs.declared.text_fault.ExprTextFault.TheVariants.{Syntax, Number, TooDeep}
@@ -25,7 +25,7 @@ module _ (L : Language) where
     pub part : Sexpr
     pub tree : L.Tree s
     pub spells : (ts : List PlacedToken) → Spells part (us ++ (end ++ ts)) stop ts
-    pub means : meaning L s part ≡ Some tree
+    pub means : meant L s part ≡ Some tree
 
   -- a viable prefix of a tree: tokens that never have more than so many parentheses open, and that
   -- some tokens behind them, which may open more, make a tree
@@ -38,33 +38,33 @@ module _ (L : Language) where
     pub part : Sexpr
     pub stop : ℕ
     pub spells : (us : List PlacedToken) → Spells part (front ++ us) stop us
-    pub means : meaning L q part ≡ Some t
+    pub means : meant L q part ≡ Some t
 
   -- Of a tree of sort s the tokens us stand, so many parentheses are open, and next is the place of
   -- a tree
   -- of the sort given, or, with none, of a form's word or end.
   mutual
-    pub data Leads : L.Sort → List PlacedToken → Option L.Sort → ℕ → Type 0 where
-      at_tree : {s : L.Sort} → Leads s [] (Some s) 0
-      at_word : {s : L.Sort} {n : ℕ} → L.has_form s ≡ true → Leads s ((n, opening) ∷ []) None 1
+    pub data TokensLead : L.Sort → List PlacedToken → Option L.Sort → ℕ → Type 0 where
+      at_tree : {s : L.Sort} → TokensLead s [] (Some s) 0
+      at_word : {s : L.Sort} {n : ℕ} → L.has_form s ≡ true → TokensLead s ((n, opening) ∷ []) None 1
       in_form : {s : L.Sort} {n m : ℕ} {w : List ℕ} {r : Row L.Sort L.Tree (L.Tree s)}
           {us : List PlacedToken} {q : Option L.Sort} {d : ℕ} → L.has_form s ≡ true
-          → L.row_at s w ≡ Some r → LeadsIn r.takes us q d
-          → Leads s ((n, opening) ∷ (m, word w) ∷ us) q (suc d)
+          → L.row_at s w ≡ Some r → TokensLeadIn r.takes us q d
+          → TokensLead s ((n, opening) ∷ (m, word w) ∷ us) q (suc d)
 
     -- the same of the parts of a form
-    pub data LeadsIn : Places L.Sort → List PlacedToken → Option L.Sort → ℕ → Type 0 where
-      at_end : LeadsIn no_place [] None 0
+    pub data TokensLeadIn : Places L.Sort → List PlacedToken → Option L.Sort → ℕ → Type 0 where
+      at_end : TokensLeadIn no_place [] None 0
       in_part : {p : L.Sort} {qs : Places L.Sort} {us : List PlacedToken} {q : Option L.Sort}
-          {d : ℕ} → Leads p us q d → LeadsIn (place p qs) us q d
+          {d : ℕ} → TokensLead p us q d → TokensLeadIn (place p qs) us q d
       behind : {p : L.Sort} {qs : Places L.Sort} {t : L.Tree p} {front us : List PlacedToken}
-          {q : Option L.Sort} {d : ℕ} → Whole p t front → LeadsIn qs us q d
-          → LeadsIn (place p qs) (front ++ us) q d
-      in_item : {p : L.Sort} {us : List PlacedToken} {q : Option L.Sort} {d : ℕ} → Leads p us q d
-          → LeadsIn (places p) us q d
+          {q : Option L.Sort} {d : ℕ} → Whole p t front → TokensLeadIn qs us q d
+          → TokensLeadIn (place p qs) (front ++ us) q d
+      in_item : {p : L.Sort} {us : List PlacedToken} {q : Option L.Sort} {d : ℕ} → TokensLead p us q d
+          → TokensLeadIn (places p) us q d
       behind_item : {p : L.Sort} {t : L.Tree p} {front us : List PlacedToken} {q : Option L.Sort}
-          {d : ℕ} → Whole p t front → LeadsIn (places p) us q d
-          → LeadsIn (places p) (front ++ us) q d
+          {d : ℕ} → Whole p t front → TokensLeadIn (places p) us q d
+          → TokensLeadIn (places p) (front ++ us) q d
 
   -- What a token that doesn't fit is called, where so many more parentheses may be opened: a
   -- parenthesis too
@@ -83,7 +83,7 @@ module _ (L : Language) where
     pub opened : ℕ
     pub left : ℕ
     pub counts : opened + left ≡ room
-    pub leads : Leads s before next opened
+    pub leads : TokensLead s before next opened
     pub called : e ≡ fault_at left x next
 
   -- No tree stands at the front of ts. They are a viable prefix of one and end too early; or x is

@@ -11,7 +11,7 @@ use Rattle.leaf_expr.specs.Token.{PlacedToken, closing, tokens_from}
 use Rattle.leaf_expr.specs.WordReading.{WordReading, reads, misspelt, unfit, natural_at}
 use Rattle.leaf_expr.specs.declared.word.WordFault.{WordFault}
 use Rattle.leaf_expr.specs.declared.word.WordFault.TheVariants as W
-use Rattle.leaf_expr.specs.Grammar.{leaf, Tree, Sort, expression_sort, e, word_at}
+use Rattle.leaf_expr.specs.Grammar.{leaf, LeafTree, LeafSort, expression_sort, e, word_at}
 use Rattle.leaf_expr.specs.TreeReader.{Read, word_read, read, read_head, read_form, read_parts, read_all}
 use Rattle.leaf_expr.specs.Language.{Row, no_place, place}
 use Rattle.leaf_expr.specs.ReadLaws.{Stops}
@@ -25,7 +25,7 @@ abbrev pub GivesTree : {X Y : Type 0} → (X → Y) → Result X ExprTextFault �
 GivesTree view result read = GivesUnless Memory view result read
 
 -- a tree of the sort in the text from byte n on, with room for so many more parentheses
-abbrev pub tree_at : (s : Sort) → List ℕ → ℕ → ℕ → Read (Tree s)
+abbrev pub tree_at : (s : LeafSort) → List ℕ → ℕ → ℕ → Read (LeafTree s)
 tree_at s text room n = read leaf (length text) room s (tokens_from n text)
 
 -- a natural number from low to high in the text from byte n on, with room for so many more
@@ -43,22 +43,22 @@ abbrev pub expression_left : List ℕ → Expr × ℕ → Expression × ℕ × L
 expression_left text x = (expression_of x.0, x.1, tokens_from x.1 text)
 
 -- the tree of the sort that the word is from byte n up to and without byte m
-abbrev pub word_tree : (s : Sort) → List ℕ → ℕ → ℕ → Read (Tree s)
+abbrev pub word_tree : (s : LeafSort) → List ℕ → ℕ → ℕ → Read (LeafTree s)
 word_tree s text n m = word_read n (slice_range text n m) (tokens_from m text)
     (word_at s (slice_range text n m))
 
 -- what is read behind the parenthesis of a form, in the text from byte n on
-abbrev pub form_at : (s : Sort) → List ℕ → ℕ → ℕ → Read (Tree s)
+abbrev pub form_at : (s : LeafSort) → List ℕ → ℕ → ℕ → Read (LeafTree s)
 form_at s text room n = read_form leaf (length text) (read leaf (length text) room) room s
     (tokens_from n text)
 
 -- the parts of a form and its end, in the text from byte n on
-abbrev pub row_parts : {R : Type 0} → Row Sort Tree R → List ℕ → ℕ → ℕ → Read R
+abbrev pub row_parts : {R : Type 0} → Row LeafSort LeafTree R → List ℕ → ℕ → ℕ → Read R
 row_parts r text room n = read_parts leaf (length text) (read leaf (length text) room) room r.takes
     r.makes (tokens_from n text)
 
 -- the last part of a form, a tree of the sort, and the form's end, in the text from byte n on
-abbrev pub last_at : (s : Sort) → List ℕ → ℕ → ℕ → Read (Tree s)
+abbrev pub last_at : (s : LeafSort) → List ℕ → ℕ → ℕ → Read (LeafTree s)
 last_at s text room n = read_parts leaf (length text) (read leaf (length text) room) room
     (place s no_place) (λ t. t) (tokens_from n text)
 
@@ -96,7 +96,7 @@ begins_closing (x ∷ ts) = false
 -- Why no tree of the sort stands in the text from byte n on, with room for so many parentheses: the
 -- first token that doesn't fit, or the end. `TooLong` doesn't come, and `Memory` says nothing of
 -- the text.
-abbrev pub IsFault : (s : Sort) → List ℕ → ℕ → ℕ → ExprTextFault → Type 0
+abbrev pub IsFault : (s : LeafSort) → List ℕ → ℕ → ℕ → ExprTextFault → Type 0
 IsFault s text room n Memory = ⊤
 IsFault s text room n TooLong = ⊥
 IsFault s text room n f = Stops leaf (length text) room s (tokens_from n text) f

@@ -41,14 +41,14 @@ abbrev mutual
 
 -- the bytes of a part: one space between tokens, none inside a parenthesis' edges
 abbrev mutual
-  pub spelling : Sexpr → List ℕ
-  spelling (atom w) = w
-  spelling (form w ps) = 40 ∷ w ++ (spellings ps ++ 41 ∷ [])
+  pub sexpr_spelling : Sexpr → List ℕ
+  sexpr_spelling (atom w) = w
+  sexpr_spelling (form w ps) = 40 ∷ w ++ (sexprs_spelling ps ++ 41 ∷ [])
 
   -- each part behind a space
-  pub spellings : Sexprs → List ℕ
-  spellings last = []
-  spellings (more p ps) = 32 ∷ spelling p ++ spellings ps
+  pub sexprs_spelling : Sexprs → List ℕ
+  sexprs_spelling last = []
+  sexprs_spelling (more p ps) = 32 ∷ sexpr_spelling p ++ sexprs_spelling ps
 
 -- whether all of the bytes may stand in a word
 abbrev pub all_word_bytes : List ℕ → Bool
@@ -62,11 +62,11 @@ is_word (b ∷ bs) = is_word_byte b && all_word_bytes bs
 
 -- whether each word of the part is a word of texts
 abbrev mutual
-  pub plain : Sexpr → Bool
-  plain (atom w) = is_word w
-  plain (form w ps) = is_word w && all_plain ps
+  pub plain_sexpr : Sexpr → Bool
+  plain_sexpr (atom w) = is_word w
+  plain_sexpr (form w ps) = is_word w && all_plain ps
 
   -- the same of the parts of a form
   pub all_plain : Sexprs → Bool
   all_plain last = true
-  all_plain (more p ps) = plain p && all_plain ps
+  all_plain (more p ps) = plain_sexpr p && all_plain ps

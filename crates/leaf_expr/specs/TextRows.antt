@@ -4,7 +4,7 @@ use Rattle.sample_core.specs.TypeTree.{TypeTree, unit_ty, bool_ty, int_ty, pair_
 use Rattle.leaf_core.specs.Expression.{Expression, input, param, unit_expr, bool_expr, int_expr, pair_expr, fst, snd, then_expr, neg, add, sub, mul, less, equal, not_expr, and_expr, or_expr, if_expr, no_event_expr, event_expr, on, list_expr, nth, len, no_more, and_then}
 use Rattle.leaf_expr.specs.Token.{opening, word, tokens}
 use Rattle.leaf_expr.specs.Sexpr.{Sexpr, atom}
-use Rattle.leaf_expr.specs.Language.{meaning}
+use Rattle.leaf_expr.specs.Language.{meant}
 use Rattle.leaf_expr.specs.Grammar.{leaf, type_sort, expression_sort}
 use Rattle.leaf_expr.specs.Printing.{one, two, three}
 use Rattle.leaf_expr.specs.TreeReader.{read}
@@ -78,15 +78,15 @@ LongRows =
 -- below
 abbrev pub MergeIs : Type 0
 MergeIs = (a b : Sexpr)
-    → meaning leaf expression_sort (two (codes "lMerge") a b)
-    ≡ meaning leaf expression_sort
+    → meant leaf expression_sort (two (codes "lMerge") a b)
+    ≡ meant leaf expression_sort
     (three (codes "on") a b (one (codes "event") (one (codes "snd") (atom (codes "x")))))
 
 -- `(gate T e b)` means `(if b e (none T))`
 abbrev pub GateIs : Type 0
 GateIs = (T a b : Sexpr)
-    → meaning leaf expression_sort (three (codes "gate") T a b)
-    ≡ meaning leaf expression_sort (three (codes "if") b a (one (codes "none") T))
+    → meant leaf expression_sort (three (codes "gate") T a b)
+    ≡ meant leaf expression_sort (three (codes "if") b a (one (codes "none") T))
 
 -- `(then (fst x) c)`
 abbrev pub at_sample : Sexpr → Sexpr
@@ -95,15 +95,15 @@ at_sample c = two (codes "then") (one (codes "fst") (atom (codes "x"))) c
 -- `(tag T e c)` means `(on e (none T) (event (then (fst x) c)))`
 abbrev pub TagIs : Type 0
 TagIs = (T a c : Sexpr)
-    → meaning leaf expression_sort (three (codes "tag") T a c)
-    ≡ meaning leaf expression_sort
+    → meant leaf expression_sort (three (codes "tag") T a c)
+    ≡ meant leaf expression_sort
     (three (codes "on") a (one (codes "none") T) (one (codes "event") (at_sample c)))
 
 -- `(attach T e c)` means `(on e (none T) (event (pair (snd x) (then (fst x) c))))`
 abbrev pub AttachIs : Type 0
 AttachIs = (T a c : Sexpr)
-    → meaning leaf expression_sort (three (codes "attach") T a c)
-    ≡ meaning leaf expression_sort
+    → meant leaf expression_sort (three (codes "attach") T a c)
+    ≡ meant leaf expression_sort
     (three (codes "on") a (one (codes "none") T)
     (one (codes "event") (two (codes "pair") (one (codes "snd") (atom (codes "x"))) (at_sample c))))
 

@@ -17,14 +17,14 @@ use crate::number_reader::read_index;
 use crate::text_fault::ExprTextFault;
 use crate::token::token_at;
 use crate::tree_front::{Read, TreeFront, closing_at, form_end, form_head, front_at};
-use crate::type_reader::{MAX_OPEN, read_type};
+use crate::type_reader::{MOST_OPEN, read_type};
 use crate::word::{WordFault, expr_word};
 use leaf_core::{Expr, ExprChild, Exprs};
 use sample_core::Ty;
 use std::alloc::Global;
 
 /// The most bytes that a text may have.
-pub const MAX_LENGTH: usize = 1_048_576;
+pub const MOST_LENGTH: usize = 1_048_576;
 
 /// The expression at or after byte `at`, with room for so many more parentheses, and the byte
 /// behind it.
@@ -216,25 +216,25 @@ fn items(alloc: Global, text: &[u8], at: usize, room: usize) -> Read<Vec<Expr>>
 /// What `read_type_at` answers. It stands apart, since the clauses of that contract follow from its
 /// own.
 fn type_at(alloc: Global, text: &[u8], at: usize, depth: usize) -> Read<Ty>
-    ensures { GivesTree (type_left text.now) result (tree_at type_sort text.now (600 - depth) at) }
+    ensures { GivesTree (type_left text.now) result (tree_at type_sort text.now (MOST_OPEN - depth) at) }
 {
-    read_type(alloc, text, at, MAX_OPEN.saturating_sub(depth))
+    read_type(alloc, text, at, MOST_OPEN.saturating_sub(depth))
 }
 
 /// What `read_expr_at` answers. It stands apart, since the clauses of that contract follow from its
 /// own.
 fn expr_at(alloc: Global, text: &[u8], at: usize, depth: usize) -> Read<Expr>
     ensures { GivesTree (expression_left text.now) result
-        (tree_at expression_sort text.now (600 - depth) at) }
+        (tree_at expression_sort text.now (MOST_OPEN - depth) at) }
 {
-    read_expression(alloc, text, at, MAX_OPEN.saturating_sub(depth))
+    read_expression(alloc, text, at, MOST_OPEN.saturating_sub(depth))
 }
 
 /// One expression and nothing else, in a text of whatever length.
 fn only_expr(alloc: Global, text: &[u8]) -> Result<Expr, ExprTextFault>
-    ensures { GivesTree expression_of result (whole (tree_at expression_sort text.now 600 0)) }
+    ensures { GivesTree expression_of result (whole (tree_at expression_sort text.now MOST_OPEN 0)) }
 {
-    let (expr, end) = read_expression(alloc, text, 0, MAX_OPEN)?;
+    let (expr, end) = read_expression(alloc, text, 0, MOST_OPEN)?;
     match token_at(text, end) {
         None => Ok(expr),
         Some((start, _)) => {
@@ -247,10 +247,10 @@ fn only_expr(alloc: Global, text: &[u8]) -> Result<Expr, ExprTextFault>
 /// What `read_expr` answers. It stands apart, since the clauses of that contract follow from its
 /// own.
 fn whole_expr(alloc: Global, text: &[u8]) -> Result<Expr, ExprTextFault>
-    ensures long { 1048576 < length text.now → result ≡ Err Fault.TooLong }
+    ensures long { MOST_LENGTH < length text.now → result ≡ Err Fault.TooLong }
     ensures exact { GivesTree expression_of result (read_text expression_sort text.now) }
 {
-    if text.len() > MAX_LENGTH {
+    if text.len() > MOST_LENGTH {
         return Err(ExprTextFault::TooLong);
     }
     only_expr(alloc, text)
@@ -267,14 +267,14 @@ fn whole_expr(alloc: Global, text: &[u8]) -> Result<Expr, ExprTextFault>
 pub fn read_type_at(alloc: Global, text: &[u8], at: usize, depth: usize) -> Read<Ty>
     // What is read is in the grammar.
     ensures found { IfOk result
-        (λ x. Begins leaf (600 - depth) type_sort (type_of x.0) (tokens_from at text.now) x.1
+        (λ x. Begins leaf (MOST_OPEN - depth) type_sort (type_of x.0) (tokens_from at text.now) x.1
         (tokens_from x.1 text.now)) }
     // What is in the grammar is read, unless memory runs out.
     ensures only { (t : TypeTree) (n : ℕ) (rest : List PlacedToken)
-        → Begins leaf (600 - depth) type_sort t (tokens_from at text.now) n rest
+        → Begins leaf (MOST_OPEN - depth) type_sort t (tokens_from at text.now) n rest
         → GivesTree (type_left text.now) result (Ok (t, n, rest)) }
     // What is refused is so at the first token that doesn't fit.
-    ensures refused { IfErr result (IsFault type_sort text.now (600 - depth) at) }
+    ensures refused { IfErr result (IsFault type_sort text.now (MOST_OPEN - depth) at) }
 {
     type_at(alloc, text, at, depth)
 }
@@ -292,14 +292,14 @@ pub fn read_type_at(alloc: Global, text: &[u8], at: usize, depth: usize) -> Read
 pub fn read_expr_at(alloc: Global, text: &[u8], at: usize, depth: usize) -> Read<Expr>
     // What is read is in the grammar.
     ensures found { IfOk result
-        (λ x. Begins leaf (600 - depth) expression_sort (expression_of x.0)
+        (λ x. Begins leaf (MOST_OPEN - depth) expression_sort (expression_of x.0)
         (tokens_from at text.now) x.1 (tokens_from x.1 text.now)) }
     // What is in the grammar is read, unless memory runs out.
     ensures only { (t : Expression) (n : ℕ) (rest : List PlacedToken)
-        → Begins leaf (600 - depth) expression_sort t (tokens_from at text.now) n rest
+        → Begins leaf (MOST_OPEN - depth) expression_sort t (tokens_from at text.now) n rest
         → GivesTree (expression_left text.now) result (Ok (t, n, rest)) }
     // What is refused is so at the first token that doesn't fit.
-    ensures refused { IfErr result (IsFault expression_sort text.now (600 - depth) at) }
+    ensures refused { IfErr result (IsFault expression_sort text.now (MOST_OPEN - depth) at) }
 {
     expr_at(alloc, text, at, depth)
 }
@@ -320,7 +320,7 @@ pub fn read_expr(alloc: Global, text: &[u8]) -> Result<Expr, ExprTextFault>
     ensures only { (e : Expression) → IsText expression_sort text.now e
         → GivesTree expression_of result (Ok e) }
     // A text that is too long is refused as such, whatever its bytes are.
-    ensures long { 1048576 < length text.now → result ≡ Err Fault.TooLong }
+    ensures long { MOST_LENGTH < length text.now → result ≡ Err Fault.TooLong }
     // What is refused is so at the first token that doesn't fit, or for its length.
     ensures refused { IfErr result (IsTextFault expression_sort text.now) }
 {

@@ -23,11 +23,11 @@ mod tree_front;
 mod type_reader;
 mod word;
 
-pub use expr_reader::{MAX_LENGTH, read_expr, read_expr_at, read_type_at};
+pub use expr_reader::{MOST_LENGTH, read_expr, read_expr_at, read_type_at};
 pub use leaf_core::{
     Expr, ExprChild, ExprFault, LeafKey, Literal, Shape, eval, shape_of, type_of_expr,
 };
-pub use number_reader::{natural_named, read_index, read_natural};
+pub use number_reader::{MOST_INDEX, natural_named, read_index, read_natural};
 pub use print::{print_expr, push_expr};
 pub use text_fault::ExprTextFault;
 pub use text_laws::{
@@ -35,4 +35,4 @@ pub use text_laws::{
 };
 pub use token::{Lexeme, lexeme_at, token_at};
 pub use tree_front::{Read, TreeFront, closing_at, form_end, form_head, front_at};
-pub use type_reader::MAX_OPEN;
+pub use type_reader::MOST_OPEN;

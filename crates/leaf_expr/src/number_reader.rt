@@ -8,8 +8,8 @@ use crate::text_fault::ExprTextFault;
 use crate::tree_front::{Read, form_head};
 use crate::word::{WordFault, natural_word};
 
-/// The greatest number that a parameter or a frozen network is called by in a text.
-const MAX_INDEX: u64 = 65_535;
+/// The greatest number that a parameter, a frozen network or a child is called by in a text.
+pub const MOST_INDEX: u64 = 65_535;
 
 /// The natural number from `low` to `high`, below 2^63, which must be the first token at or after
 /// byte `at`, and the byte behind it. `room` is how many more parentheses may be opened.
@@ -48,6 +48,6 @@ pub fn read_index(text: &[u8], at: usize, room: usize) -> Read<u32>
     ensures { GivesTree (λ x. (x.0, x.1, tokens_from x.1 text.now)) result
         (tree_at index_sort text.now room at) }
 {
-    let (k, end) = read_natural(text, at, room, 0, MAX_INDEX)?;
+    let (k, end) = read_natural(text, at, room, 0, MOST_INDEX)?;
     Ok((k as u32, end))
 }

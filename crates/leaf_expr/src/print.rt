@@ -5,7 +5,7 @@
 ghost use Rattle.std.specs.Prelude.{◌≡◌, ◌++◌, ◌∷◌, [], IfOk, string_bytes};
 ghost use Rattle.sample_core.specs.{Adding.Adds, TypeView.type_of};
 ghost use Rattle.leaf_core.specs.Expression.{param, no_event_expr, list_expr, expressions_of};
-ghost use Rattle.leaf_expr.specs.Sexpr.{more, last, spelling, spellings};
+ghost use Rattle.leaf_expr.specs.Sexpr.{more, last, sexpr_spelling, sexprs_spelling};
 ghost use Rattle.leaf_expr.specs.Printing.{expression_sexpr, expression_sexprs, type_sexpr, one, two, three};
 ghost use Rattle.leaf_core.specs.ExpressionView.{expression_of, literal_of};
 
@@ -19,7 +19,7 @@ use std::alloc::Global;
 /// refused.
 pub fn print_expr(alloc: Global, expr: &Expr) -> Result<String, Memory>
     ensures { IfOk result
-        (λ text. string_bytes text ≡ spelling (expression_sexpr (expression_of expr.now))) }
+        (λ text. string_bytes text ≡ sexpr_spelling (expression_sexpr (expression_of expr.now))) }
 {
     let mut text = String::new(alloc);
     push_expr(&mut text, expr)?;
@@ -31,7 +31,7 @@ pub fn print_expr(alloc: Global, expr: &Expr) -> Result<String, Memory>
 #[cycle(push_expr)]
 pub fn push_expr(text: &mut String, expr: &Expr) -> Result<(), Memory>
     ensures { Adds result (string_bytes text.old) (string_bytes text.new)
-        (spelling (expression_sexpr (expression_of expr.now))) }
+        (sexpr_spelling (expression_sexpr (expression_of expr.now))) }
 {
     match expr {
         Expr::Input => push_word(text, "x"),
@@ -71,7 +71,7 @@ fn push_word(text: &mut String, word: &str) -> Result<(), Memory>
 /// A literal.
 fn push_literal(text: &mut String, literal: Literal) -> Result<(), Memory>
     ensures { Adds result (string_bytes text.old) (string_bytes text.new)
-        (spelling (expression_sexpr (literal_of literal))) }
+        (sexpr_spelling (expression_sexpr (literal_of literal))) }
 {
     match literal {
         Literal::Unit => push_word(text, "unit"),
@@ -84,7 +84,7 @@ fn push_literal(text: &mut String, literal: Literal) -> Result<(), Memory>
 /// A parameter.
 fn push_param(text: &mut String, k: u32) -> Result<(), Memory>
     ensures { Adds result (string_bytes text.old) (string_bytes text.new)
-        (spelling (expression_sexpr (param k))) }
+        (sexpr_spelling (expression_sexpr (param k))) }
 {
     push_word(text, "(p ")?;
     push_word(text, Buffer::new().format(k))?;
@@ -102,7 +102,7 @@ fn push_open(text: &mut String, name: &str) -> Result<(), Memory>
 /// A type as the next part of a form.
 fn push_next_type(text: &mut String, ty: &Ty) -> Result<(), Memory>
     ensures { Adds result (string_bytes text.old) (string_bytes text.new)
-        (32 ∷ spelling (type_sexpr (type_of ty.now))) }
+        (32 ∷ sexpr_spelling (type_sexpr (type_of ty.now))) }
 {
     push_word(text, " ")?;
     push_type(text, ty)
@@ -111,7 +111,7 @@ fn push_next_type(text: &mut String, ty: &Ty) -> Result<(), Memory>
 /// No event of a type.
 fn push_no_event(text: &mut String, ty: &Ty) -> Result<(), Memory>
     ensures { Adds result (string_bytes text.old) (string_bytes text.new)
-        (spelling (expression_sexpr (no_event_expr (type_of ty.now)))) }
+        (sexpr_spelling (expression_sexpr (no_event_expr (type_of ty.now)))) }
 {
     push_word(text, "(none")?;
     push_next_type(text, ty)?;
@@ -122,7 +122,7 @@ fn push_no_event(text: &mut String, ty: &Ty) -> Result<(), Memory>
 #[cycle(push_expr)]
 fn push_next(text: &mut String, expr: &Expr) -> Result<(), Memory>
     ensures { Adds result (string_bytes text.old) (string_bytes text.new)
-        (32 ∷ spelling (expression_sexpr (expression_of expr.now))) }
+        (32 ∷ sexpr_spelling (expression_sexpr (expression_of expr.now))) }
 {
     push_word(text, " ")?;
     push_expr(text, expr)
@@ -132,7 +132,7 @@ fn push_next(text: &mut String, expr: &Expr) -> Result<(), Memory>
 #[cycle(push_expr)]
 fn push_last(text: &mut String, a: &ExprChild) -> Result<(), Memory>
     ensures { Adds result (string_bytes text.old) (string_bytes text.new)
-        (spellings (more (expression_sexpr a.now) last) ++ (41 ∷ [])) }
+        (sexprs_spelling (more (expression_sexpr a.now) last) ++ (41 ∷ [])) }
 {
     push_next(text, a.get())?;
     push_word(text, ")")
@@ -142,7 +142,7 @@ fn push_last(text: &mut String, a: &ExprChild) -> Result<(), Memory>
 #[cycle(push_expr)]
 fn push_one(text: &mut String, name: &str, a: &ExprChild) -> Result<(), Memory>
     ensures { Adds result (string_bytes text.old) (string_bytes text.new)
-        (spelling (one name.now (expression_sexpr a.now))) }
+        (sexpr_spelling (one name.now (expression_sexpr a.now))) }
 {
     push_open(text, name)?;
     push_last(text, a)
@@ -152,7 +152,7 @@ fn push_one(text: &mut String, name: &str, a: &ExprChild) -> Result<(), Memory>
 #[cycle(push_expr)]
 fn push_two(text: &mut String, name: &str, a: &ExprChild, b: &ExprChild) -> Result<(), Memory>
     ensures { Adds result (string_bytes text.old) (string_bytes text.new)
-        (spelling (two name.now (expression_sexpr a.now) (expression_sexpr b.now))) }
+        (sexpr_spelling (two name.now (expression_sexpr a.now) (expression_sexpr b.now))) }
 {
     push_open(text, name)?;
     push_next(text, a.get())?;
@@ -169,7 +169,7 @@ fn push_three(
     c: &ExprChild,
 ) -> Result<(), Memory>
     ensures { Adds result (string_bytes text.old) (string_bytes text.new)
-        (spelling
+        (sexpr_spelling
         (three name.now (expression_sexpr a.now) (expression_sexpr b.now)
         (expression_sexpr c.now))) }
 {
@@ -183,7 +183,7 @@ fn push_three(
 #[cycle(push_expr)]
 fn push_list(text: &mut String, ty: &Ty, all: &Exprs) -> Result<(), Memory>
     ensures { Adds result (string_bytes text.old) (string_bytes text.new)
-        (spelling (expression_sexpr (list_expr (type_of ty.now) (expressions_of all.now)))) }
+        (sexpr_spelling (expression_sexpr (list_expr (type_of ty.now) (expressions_of all.now)))) }
 {
     push_word(text, "(list")?;
     push_next_type(text, ty)?;
@@ -194,7 +194,7 @@ fn push_list(text: &mut String, ty: &Ty, all: &Exprs) -> Result<(), Memory>
 #[cycle(push_expr)]
 fn push_elements(text: &mut String, all: &Exprs) -> Result<(), Memory>
     ensures { Adds result (string_bytes text.old) (string_bytes text.new)
-        (spellings (expression_sexprs (expressions_of all.now)) ++ (41 ∷ [])) }
+        (sexprs_spelling (expression_sexprs (expressions_of all.now)) ++ (41 ∷ [])) }
 {
     for e in all.as_slice() {
         push_next(text, e)?;

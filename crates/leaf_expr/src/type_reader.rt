@@ -14,7 +14,7 @@ use sample_core::{Ty, TyChild};
 use std::alloc::Global;
 
 /// The most parentheses that may be open at once.
-pub const MAX_OPEN: usize = 600;
+pub const MOST_OPEN: usize = 600;
 
 /// The type at or after byte `at`, with room for so many more parentheses, and the byte behind it.
 #[cycle(read_type)]

@@ -4,6 +4,7 @@ ghost use Rattle.std.specs.Prelude.{◌≡◌, ◌≤◌, ◌<◌, ◌++◌, ◌
 ghost use Rattle.indexmap.specs.IndexMap.{index_map_len};
 ghost use Rattle.sample_core.specs.{HasType.HasType, HasType.TypedParams, ValueView.datum_of};
 ghost use Rattle.leaf_core.specs.{ExpressionValue.value_of, KeyTree.KeyTree};
+ghost use Rattle.leaf_table.specs.declared.table.TheConstants.{MOST_ROWS};
 
 use crate::fault::TableFault;
 use crate::leaf::Leaf;
@@ -13,7 +14,7 @@ use sample_core::{Memory, Sample};
 use std::alloc::Global;
 
 /// The most rows that a table has.
-pub const MAX_ROWS: usize = 4096;
+pub const MOST_ROWS: usize = 4_096;
 
 /// The number of a row of a table, counted from 0.
 #[derive(Clone, Copy, PartialEq, Eq, Debug)]
@@ -26,7 +27,7 @@ pub struct LeafTable {
     alloc: Global,
     rows: IndexMap<LeafKey, Leaf>,
     ghost keyed: { ∥ All (λ e. e.1.key ≡ e.0) rows.entries ∥₁ },
-    ghost within: { index_map_len rows ≤ 4096 },
+    ghost within: { index_map_len rows ≤ MOST_ROWS },
 }
 
 impl LeafTable {
@@ -62,15 +63,15 @@ impl LeafTable {
         ensures no_other { OnErr result (leaves_of self.new ≡ leaves_of self.old) }
         ensures returned { IfErr result (λ e. e.0 ≡ leaf) }
         ensures full { IfErr result (λ e. (e.1 ≡ TableFault.Full)
-            ↔ (length (rows_of self.old) ≡ 4096)) }
+            ↔ (length (rows_of self.old) ≡ MOST_ROWS)) }
         ensures refused { (Contains (rows_of self.old) leaf.key → ⊥)
-            → length (rows_of self.old) ≡ 4096 → IsErr result }
+            → length (rows_of self.old) ≡ MOST_ROWS → IsErr result }
     {
         if let Some(id) = self.find(&leaf.key) {
             drop(leaf);
             return Ok(id);
         }
-        if self.rows.len() >= MAX_ROWS {
+        if self.rows.len() >= MOST_ROWS {
             return Err((leaf, TableFault::Full));
         }
         match leaf.key.try_copy(self.alloc) {
@@ -84,7 +85,7 @@ impl LeafTable {
     fn push(&mut self, key: LeafKey, leaf: Leaf) -> Result<LeafId, (Leaf, TableFault)>
         requires own { leaf.key ≡ key }
         requires fresh { Contains (rows_of self.old) key → ⊥ }
-        requires room { length (rows_of self.old) < 4096 }
+        requires room { length (rows_of self.old) < MOST_ROWS }
         ensures row { IfOk result (λ id. slice_get (rows_of self.new) id.0 ≡ Some key) }
         ensures grown { OnOk result (rows_of self.new ≡ rows_of self.old ++ key ∷ []) }
         ensures unchanged { OnErr result (rows_of self.new ≡ rows_of self.old) }

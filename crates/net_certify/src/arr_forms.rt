@@ -6,7 +6,7 @@ use expr_improve::{
 };
 use leaf_core::{Expr, ExprChild, same_expr};
 use net_improve::{
-    Built, Move, Sketch, Stop, SwitchMove, assoc, behind, identity, length, map_before_hold,
+    Built, Move, NoMove, Sketch, SwitchMove, assoc, behind, identity, length, map_before_hold,
     none_told, seq, unassoc,
 };
 use net_tree::{Net, NetChild};
@@ -42,7 +42,7 @@ pub(crate) enum ArrForm {
 
 impl ArrForm {
     /// Makes the move, and tells what it built.
-    pub(crate) fn make(self, w: &mut Sketch) -> Result<Built, Stop> {
+    pub(crate) fn make(self, w: &mut Sketch) -> Result<Built, NoMove> {
         match self {
             ArrForm::SwitchRound => switch_round(w),
             ArrForm::MembersFront => members_front(w),
@@ -54,7 +54,7 @@ impl ArrForm {
     }
 
     /// Makes a move that builds nothing.
-    fn made(self, w: &mut Sketch) -> Result<(), Stop> {
+    fn made(self, w: &mut Sketch) -> Result<(), NoMove> {
         match self {
             ArrForm::FirstInput => first_output(w),
             ArrForm::SplitCell => w.forward(12, &[]),
@@ -69,34 +69,34 @@ impl ArrForm {
     }
 }
 
-fn first_output(w: &mut Sketch) -> Result<(), Stop> {
+fn first_output(w: &mut Sketch) -> Result<(), NoMove> {
     w.forward(44, &[])?;
     w.clear(&[0])
 }
 
-fn members_front(w: &mut Sketch) -> Result<Built, Stop> {
+fn members_front(w: &mut Sketch) -> Result<Built, NoMove> {
     if let Ok(Net::Arr(_)) = w.net_at(&[0, 0]) {
-        return Err(Stop::Unfit);
+        return Err(NoMove::Unfit);
     }
     Move::Switch(SwitchMove::MembersFront).make(w)
 }
 
-fn split_first(w: &mut Sketch) -> Result<(), Stop> {
+fn split_first(w: &mut Sketch) -> Result<(), NoMove> {
     w.flatten(&[0])?;
     w.forward(6, &[])
 }
 
-fn switch_round(w: &mut Sketch) -> Result<Built, Stop> {
+fn switch_round(w: &mut Sketch) -> Result<Built, NoMove> {
     let number = match w.first_at(&[])? {
         Net::Switch(..) => 33,
         Net::DSwitch(..) => 34,
-        _ => return Err(Stop::Unfit),
+        _ => return Err(NoMove::Unfit),
     };
     w.forward(number, &[])?;
     Ok(Built::Both)
 }
 
-fn pass_cell(w: &mut Sketch) -> Result<(), Stop> {
+fn pass_cell(w: &mut Sketch) -> Result<(), NoMove> {
     let number = match w.net_at(&[0])? {
         Net::IPre(_) => 11,
         _ => 26,
@@ -105,7 +105,7 @@ fn pass_cell(w: &mut Sketch) -> Result<(), Stop> {
     w.clear(&[1, 0])
 }
 
-fn pass_hold(w: &mut Sketch) -> Result<(), Stop> {
+fn pass_hold(w: &mut Sketch) -> Result<(), NoMove> {
     let given = before_hold(w.alloc, w.net_at(&[0])?, w.arr_at(&[1])?)?;
     w.backward(23, &[], given)?;
     w.clear(&[0, 0])?;
@@ -113,9 +113,9 @@ fn pass_hold(w: &mut Sketch) -> Result<(), Stop> {
 }
 
 /// The map of the events by g, and behind it the `hold` of what g makes of its constant.
-fn before_hold(alloc: Global, hold: &Net<Expr>, g: &Expr) -> Result<NetChild<Expr>, Stop> {
+fn before_hold(alloc: Global, hold: &Net<Expr>, g: &Expr) -> Result<NetChild<Expr>, NoMove> {
     let Net::Hold(c) = hold else {
-        return Err(Stop::Unfit);
+        return Err(NoMove::Unfit);
     };
     let start = then_of(alloc, &as_part(alloc, c)?, g)?;
     let none = none_told(alloc, g)?;
@@ -123,9 +123,9 @@ fn before_hold(alloc: Global, hold: &Net<Expr>, g: &Expr) -> Result<NetChild<Exp
 }
 
 /// `(first (first f))` is `(arr ASSOC)`, `(first f)` and `(arr UNASSOC)`.
-fn nested(w: &mut Sketch) -> Result<(), Stop> {
+fn nested(w: &mut Sketch) -> Result<(), NoMove> {
     let Net::First(_) = w.first_at(&[])? else {
-        return Err(Stop::Unfit);
+        return Err(NoMove::Unfit);
     };
     let given = seq(w.alloc, w.net.try_copy()?, identity(w.alloc)?)?;
     w.backward(2, &[], given)?;
@@ -144,7 +144,7 @@ fn there_and_back(alloc: Global, input: &Expr) -> Result<Option<Rewriting>, Memo
 }
 
 /// `(arr (pair a b))` and `(first f)` are `(arr (pair a x))`, `(first f)` and b of the right part.
-fn late(w: &mut Sketch) -> Result<(), Stop> {
+fn late(w: &mut Sketch) -> Result<(), NoMove> {
     let found = right_late(w.alloc, w.arr_at(&[0])?)?;
     w.part_by(&[0], found)?;
     w.forward(3, &[])?;
@@ -160,21 +160,21 @@ fn right_late(alloc: Global, e: &Expr) -> Result<Option<Rewriting>, Memory> {
     }
 }
 
-fn narrow_left(w: &mut Sketch) -> Result<(), Stop> {
+fn narrow_left(w: &mut Sketch) -> Result<(), NoMove> {
     let part = first_input(w.alloc)?;
     narrow(w, part.get())
 }
 
-fn narrow_right(w: &mut Sketch) -> Result<(), Stop> {
+fn narrow_right(w: &mut Sketch) -> Result<(), NoMove> {
     let part = second_input(w.alloc)?;
     narrow(w, part.get())
 }
 
 /// The last `arr` uses of the right part no more than this of it: then only that goes past the
 /// `first`s.
-fn narrow(w: &mut Sketch, part: &Expr) -> Result<(), Stop> {
+fn narrow(w: &mut Sketch, part: &Expr) -> Result<(), NoMove> {
     let Expr::Pair(..) = w.arr_at(&[0])? else {
-        return Err(Stop::Unfit);
+        return Err(NoMove::Unfit);
     };
     let count = length(w.net.get()).saturating_sub(2);
     are_firsts(w, count)?;
@@ -189,7 +189,7 @@ fn narrow(w: &mut Sketch, part: &Expr) -> Result<(), Stop> {
 }
 
 /// So many stages behind the first one are `first`s, else the move doesn't fit.
-fn are_firsts(w: &Sketch, count: usize) -> Result<(), Stop> {
+fn are_firsts(w: &Sketch, count: usize) -> Result<(), NoMove> {
     for j in 0..count {
         let mut stage = behind(w.alloc, &[1], j)?;
         stage.push(0)?;
@@ -200,7 +200,7 @@ fn are_firsts(w: &Sketch, count: usize) -> Result<(), Stop> {
 
 /// Takes the `arr` of the right part, which stands behind the `first` that has so many stages and
 /// one before it, past that.
-fn pass_first(w: &mut Sketch, stages: usize) -> Result<(), Stop> {
+fn pass_first(w: &mut Sketch, stages: usize) -> Result<(), NoMove> {
     let mut way = behind(w.alloc, &[1], stages)?;
     w.regroup(&way)?;
     way.push(0)?;

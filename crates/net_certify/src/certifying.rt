@@ -53,11 +53,15 @@ pub fn certify(alloc: Global, source: &TypedNet, target: &TypedNet) -> Result<Ce
     }
     let steps = undone_steps(alloc, target, back.steps())?;
     let _took = there.take_all(alloc, steps)?;
-    let has_room = count_fitting(alloc, there.steps())? == there.steps().len();
-    if has_room && same_net(there.net().net(), target.net()) {
+    if same_net(there.net().net(), target.net()) && has_room(alloc, there.steps())? {
         return Ok(found(there, target));
     }
     Ok(Certified::TooLong)
+}
+
+/// Whether a certificate has room for the steps.
+fn has_room(alloc: Global, steps: &[LawStep]) -> Result<bool, Memory> {
+    Ok(count_fitting(alloc, steps)? == steps.len())
 }
 
 /// The steps of a draft that ends at the target, as what was found.

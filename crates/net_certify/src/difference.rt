@@ -1,14 +1,11 @@
 // Where two networks differ first.
 
 use leaf_core::{Expr, part, same_expr};
-use net_improve::copy_of;
+use net_improve::{MOST_DEPTH, copy_of};
 use net_syntax::{TreeRef, child};
 use net_tree::{Net, Position, Tree, same_net};
 use sample_core::{Memory, same_type};
 use std::alloc::Global;
-
-/// The most nodes that stand in one another where a difference is looked for.
-const MOST_DEPTH: u32 = 1_000;
 
 /// Where two networks differ first, and what each has there.
 #[derive(Drop)]

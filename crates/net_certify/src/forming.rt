@@ -1,10 +1,11 @@
 // The normal form of a network, by steps.
 
-use crate::table::{Row, SOURCE, TABLE, row_fits};
+use crate::table::{MoveRow, SOURCE, TABLE, row_fits};
 use expr_improve::joined;
 use leaf_core::Expr;
 use net_improve::{
-    Built, Clearing, Sketch, Stop, behind, copied, front, head, length, rest, stage_way,
+    Built, Clearing, MOST_DEPTH, NoMove, Sketch, behind, copied, front, head, length, rest,
+    stage_way,
 };
 use net_syntax::TreeRef;
 use net_tree::{LawStep, Net, NetChild, same_net};
@@ -16,9 +17,6 @@ const MOST_MOVES: u32 = 1_500;
 
 /// The most tasks of a search.
 const MOST_TASKS: u32 = 1_000_000;
-
-/// The most networks that stand in one another where a search looks.
-const MOST_DEPTH: u32 = 1_000;
 
 /// The most children of a network.
 const MOST_CHILDREN: u32 = 100;
@@ -99,13 +97,13 @@ impl Former {
     /// Does what is to be done, as far as it goes.
     fn attempt(&mut self, task: Task) -> Result<(), Memory> {
         match self.perform(task) {
-            Err(Stop::Memory) => Err(Memory),
+            Err(NoMove::Memory) => Err(Memory),
             _ => Ok(()),
         }
     }
 
     /// Does what is to be done.
-    fn perform(&mut self, task: Task) -> Result<(), Stop> {
+    fn perform(&mut self, task: Task) -> Result<(), NoMove> {
         match task {
             Task::Form(path) => self.form(&path),
             Task::DropFront(path, stage) => self.drop_front(&path, stage),
@@ -114,7 +112,7 @@ impl Former {
     }
 
     /// Begins with what stands at the path: its parts are brought to their normal form first.
-    fn form(&mut self, path: &[u32]) -> Result<(), Stop> {
+    fn form(&mut self, path: &[u32]) -> Result<(), NoMove> {
         spread(&mut self.sketch, path, MOST_DEPTH)?;
         self.settle_later(path, 0)?;
         if let Net::Seq(..) = self.sketch.net_at(path)? {
@@ -124,7 +122,7 @@ impl Former {
     }
 
     /// The stages of the chain at the path are to be formed, the last one first.
-    fn form_stages(&mut self, path: &[u32]) -> Result<(), Stop> {
+    fn form_stages(&mut self, path: &[u32]) -> Result<(), NoMove> {
         let alloc = self.sketch.alloc;
         self.sketch.flatten(path)?;
         let count = length(self.sketch.net_at(path)?);
@@ -137,7 +135,7 @@ impl Former {
     }
 
     /// The children of what stands at the path are to be formed.
-    fn form_children(&mut self, path: &[u32]) -> Result<(), Stop> {
+    fn form_children(&mut self, path: &[u32]) -> Result<(), NoMove> {
         let alloc = self.sketch.alloc;
         for k in 0..MOST_CHILDREN {
             let way = joined(alloc, path, &[k])?;
@@ -151,14 +149,14 @@ impl Former {
     }
 
     /// The chain at the path is to be settled, from the stage on that has so many behind it.
-    fn settle_later(&mut self, path: &[u32], stages: usize) -> Result<(), Stop> {
+    fn settle_later(&mut self, path: &[u32], stages: usize) -> Result<(), NoMove> {
         let way = path.to_vec(self.sketch.alloc)?;
         self.tasks.push(Task::Settle(way, stages))?;
         Ok(())
     }
 
     /// Drops what stands before the stage of the chain at the path, as long as that hears nothing.
-    fn drop_front(&mut self, path: &[u32], stage: usize) -> Result<(), Stop> {
+    fn drop_front(&mut self, path: &[u32], stage: usize) -> Result<(), NoMove> {
         for i in (0..stage).rev() {
             if !self.drop_stage(path, i)? {
                 return Ok(());
@@ -168,7 +166,7 @@ impl Former {
     }
 
     /// Drops the stage, where the one behind it hears nothing, and tells whether.
-    fn drop_stage(&mut self, path: &[u32], stage: usize) -> Result<bool, Stop> {
+    fn drop_stage(&mut self, path: &[u32], stage: usize) -> Result<bool, NoMove> {
         match self.made_by(&SOURCE, path, stage)? {
             Some(made) => {
                 self.put(path, stage, made)?;
@@ -180,7 +178,7 @@ impl Former {
 
     /// Makes the first move that fits at the stage which has so many behind it; then goes on at what
     /// it touched, else to the left.
-    fn settle(&mut self, path: &[u32], stages: usize) -> Result<(), Stop> {
+    fn settle(&mut self, path: &[u32], stages: usize) -> Result<(), NoMove> {
         self.sketch.flatten(path)?;
         let count = length(self.sketch.net_at(path)?);
         if self.moves == 0 || stages >= count {
@@ -194,7 +192,13 @@ impl Former {
     }
 
     /// Puts what was made at the stage which has so many behind it, and goes on at what it touched.
-    fn go_on(&mut self, path: &[u32], stages: usize, stage: usize, made: Made) -> Result<(), Stop> {
+    fn go_on(
+        &mut self,
+        path: &[u32],
+        stages: usize,
+        stage: usize,
+        made: Made,
+    ) -> Result<(), NoMove> {
         self.moves = self.moves.saturating_sub(1);
         let touched = made.stages.saturating_add(1);
         self.settle_later(path, stages.saturating_add(1).saturating_sub(touched))?;
@@ -202,7 +206,7 @@ impl Former {
     }
 
     /// What the first move makes that fits at the stage of the chain at the path.
-    fn found(&self, path: &[u32], stage: usize) -> Result<Option<Made>, Stop> {
+    fn found(&self, path: &[u32], stage: usize) -> Result<Option<Made>, NoMove> {
         let chain = self.sketch.net_at(path)?;
         let loops = has_loop(chain, stage);
         let arr = stage > 0 && is_arr(chain, stage - 1);
@@ -217,10 +221,10 @@ impl Former {
     }
 
     /// What the row's move makes at the stage of the chain at the path, where it fits.
-    fn made_by(&self, row: &Row, path: &[u32], stage: usize) -> Result<Option<Made>, Stop> {
+    fn made_by(&self, row: &MoveRow, path: &[u32], stage: usize) -> Result<Option<Made>, NoMove> {
         let spot = self.sketch.at(path)?;
         let TreeRef::Net(whole) = spot.tree else {
-            return Err(Stop::Unfit);
+            return Err(NoMove::Unfit);
         };
         let Some(chain) = rest(whole, stage) else {
             return Ok(None);
@@ -237,7 +241,7 @@ impl Former {
     }
 
     /// Puts what was made of some stages in their place, and what it built is to be formed.
-    fn put(&mut self, path: &[u32], stage: usize, made: Made) -> Result<(), Stop> {
+    fn put(&mut self, path: &[u32], stage: usize, made: Made) -> Result<(), NoMove> {
         let Made {
             stages,
             sketch,
@@ -254,7 +258,7 @@ impl Former {
     }
 
     /// Makes one `arr` of two at the stage of the chain at the path, with a stage behind them.
-    fn fuse(&mut self, path: &[u32], stage: usize) -> Result<(), Stop> {
+    fn fuse(&mut self, path: &[u32], stage: usize) -> Result<(), NoMove> {
         let alloc = self.sketch.alloc;
         let way = behind(alloc, path, stage)?;
         self.sketch.forward(10, &way)?;
@@ -262,7 +266,7 @@ impl Former {
     }
 
     /// What a move built at the path is to be formed.
-    fn form_built(&mut self, path: &[u32], built: Built) -> Result<(), Stop> {
+    fn form_built(&mut self, path: &[u32], built: Built) -> Result<(), NoMove> {
         match built {
             Built::Nothing => Ok(()),
             Built::At(inner) => self.form_later(path, inner),
@@ -276,7 +280,7 @@ impl Former {
     }
 
     /// What stands at a path behind another is to be formed.
-    fn form_later(&mut self, path: &[u32], inner: &[u32]) -> Result<(), Stop> {
+    fn form_later(&mut self, path: &[u32], inner: &[u32]) -> Result<(), NoMove> {
         let way = joined(self.sketch.alloc, path, inner)?;
         self.tasks.push(Task::Form(way))?;
         Ok(())
@@ -286,10 +290,10 @@ impl Former {
 /// What the row's move makes of the stages, where it fits and changes them.
 fn tried(
     alloc: Global,
-    row: &Row,
+    row: &MoveRow,
     window: &NetChild<Expr>,
     olds: u32,
-) -> Result<Option<Made>, Stop> {
+) -> Result<Option<Made>, NoMove> {
     let mut sketch = Sketch::new(alloc, window.try_copy()?, olds, Clearing::Always);
     match row.0.make(&mut sketch) {
         Ok(built) if !same_net(sketch.net.get(), window.get()) => Ok(Some(Made {
@@ -298,8 +302,8 @@ fn tried(
             built,
             fuses: row.0.fuses(),
         })),
-        Ok(_) | Err(Stop::Unfit) => Ok(None),
-        Err(Stop::Memory) => Err(Stop::Memory),
+        Ok(_) | Err(NoMove::Unfit) => Ok(None),
+        Err(NoMove::Memory) => Err(NoMove::Memory),
     }
 }
 
@@ -327,7 +331,7 @@ fn is_arr(chain: &Net<Expr>, stage: usize) -> bool {
 }
 
 /// Parts each `first` of a chain in the chain at the path, also in other `first`s, by L6.
-fn spread(sketch: &mut Sketch, path: &[u32], depth: u32) -> Result<(), Stop> {
+fn spread(sketch: &mut Sketch, path: &[u32], depth: u32) -> Result<(), NoMove> {
     if depth == 0 {
         return Ok(());
     }
@@ -347,7 +351,7 @@ fn spread(sketch: &mut Sketch, path: &[u32], depth: u32) -> Result<(), Stop> {
 }
 
 /// Parts the `first` of a chain at the path.
-fn part_first(sketch: &mut Sketch, path: &[u32]) -> Result<(), Stop> {
+fn part_first(sketch: &mut Sketch, path: &[u32]) -> Result<(), NoMove> {
     sketch.flatten(&joined(sketch.alloc, path, &[0])?)?;
     let mut way = path.to_vec(sketch.alloc)?;
     for _ in 0..MOST_DEPTH {

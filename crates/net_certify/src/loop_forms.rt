@@ -5,7 +5,7 @@ use expr_improve::{
     seen_through,
 };
 use leaf_core::{Expr, ExprChild, part, same_expr};
-use net_improve::{Built, LoopMove, Sketch, Stop, identity, seq};
+use net_improve::{Built, LoopMove, NoMove, Sketch, identity, seq};
 use net_tree::{Direction, Law, LawStep, Net, Position, Tree};
 use sample_core::Memory;
 use std::alloc::Global;
@@ -30,11 +30,11 @@ pub(crate) enum LoopForm {
 }
 
 /// The most expressions that stand in one another where a part is looked for.
-const MOST_DEPTH: u32 = 300;
+const MOST_NESTED: u32 = 300;
 
 impl LoopForm {
     /// Makes the move, and tells what it built.
-    pub(crate) fn make(self, w: &mut Sketch) -> Result<Built, Stop> {
+    pub(crate) fn make(self, w: &mut Sketch) -> Result<Built, NoMove> {
         match self {
             LoopForm::Unheard => unheard(w),
             LoopForm::In => LoopMove::In.make(w),
@@ -47,14 +47,14 @@ impl LoopForm {
     }
 }
 
-fn unheard(w: &mut Sketch) -> Result<Built, Stop> {
+fn unheard(w: &mut Sketch) -> Result<Built, NoMove> {
     match w.net_at(&[1])? {
         Net::Arr(_) | Net::First(_) => LoopMove::Unfirst.make(w),
-        _ => Err(Stop::Unfit),
+        _ => Err(NoMove::Unfit),
     }
 }
 
-fn merge(w: &mut Sketch) -> Result<Built, Stop> {
+fn merge(w: &mut Sketch) -> Result<Built, NoMove> {
     let number = match w.first_at(&[0])? {
         Net::LoopPre(..) => 14,
         _ => 13,
@@ -64,7 +64,7 @@ fn merge(w: &mut Sketch) -> Result<Built, Stop> {
     Ok(Built::At(&[0, 1]))
 }
 
-fn front_in(w: &mut Sketch) -> Result<Built, Stop> {
+fn front_in(w: &mut Sketch) -> Result<Built, NoMove> {
     let found = left_behind(w.alloc, w.arr_at(&[0])?)?;
     w.part_by(&[0], found)?;
     w.forward(3, &[])?;
@@ -88,7 +88,7 @@ fn left_behind(alloc: Global, e: &Expr) -> Result<Option<Rewriting>, Memory> {
     }
 }
 
-fn back_in(w: &mut Sketch) -> Result<Built, Stop> {
+fn back_in(w: &mut Sketch) -> Result<Built, NoMove> {
     let found = left_before(w.alloc, w.arr_at(&[1])?)?;
     w.part_by(&[1], found)?;
     w.regroup(&[])?;
@@ -102,7 +102,7 @@ fn back_in(w: &mut Sketch) -> Result<Built, Stop> {
 
 /// The expression as its largest part of the left part alone, in the place of that, and what is
 /// left of it behind that.
-fn left_before(alloc: Global, e: &Expr) -> Result<Option<Rewriting>, Stop> {
+fn left_before(alloc: Global, e: &Expr) -> Result<Option<Rewriting>, NoMove> {
     let largest = largest_left(alloc, e)?;
     let front = left_alone(alloc, largest.get())?;
     let behind = behind_left(alloc, e, largest)?;
@@ -110,26 +110,26 @@ fn left_before(alloc: Global, e: &Expr) -> Result<Option<Rewriting>, Stop> {
 }
 
 /// The part, which uses the left part alone, in the place of that, beside the right part.
-fn left_alone(alloc: Global, e: &Expr) -> Result<ExprChild, Stop> {
+fn left_alone(alloc: Global, e: &Expr) -> Result<ExprChild, NoMove> {
     let inside = through(alloc, e, first_input(alloc)?)?;
     Ok(on_left(alloc, inside.get())?)
 }
 
 /// What is left of the expression where its part stands in the place of the left part.
-fn behind_left(alloc: Global, e: &Expr, part: ExprChild) -> Result<ExprChild, Stop> {
+fn behind_left(alloc: Global, e: &Expr, part: ExprChild) -> Result<ExprChild, NoMove> {
     let seen = beside_second(alloc, part)?;
     through(alloc, e, seen)
 }
 
 /// What is left of the expression behind f, where it sees no more of the input than f does.
-fn through(alloc: Global, e: &Expr, f: ExprChild) -> Result<ExprChild, Stop> {
+fn through(alloc: Global, e: &Expr, f: ExprChild) -> Result<ExprChild, NoMove> {
     match seen_through(alloc, e, f.get())? {
         Some(g) => Ok(g),
-        None => Err(Stop::Unfit),
+        None => Err(NoMove::Unfit),
     }
 }
 
-fn whole(w: &mut Sketch) -> Result<Built, Stop> {
+fn whole(w: &mut Sketch) -> Result<Built, NoMove> {
     let given = seq(w.alloc, identity(w.alloc)?, w.net.try_copy()?)?;
     w.backward(1, &[], given)?;
     let position = Position::of_node(w.alloc, &[0, 0])?;
@@ -206,12 +206,12 @@ fn both_used(a: Uses, b: Uses) -> Uses {
 
 /// The one largest part that uses the left part of the input alone, where it is not just that, and
 /// nothing else uses it; the input isn't used as a whole.
-fn largest_left(alloc: Global, e: &Expr) -> Result<ExprChild, Stop> {
-    if uses_of(e, MOST_DEPTH) == Uses::Whole {
-        return Err(Stop::Unfit);
+fn largest_left(alloc: Global, e: &Expr) -> Result<ExprChild, NoMove> {
+    if uses_of(e, MOST_NESTED) == Uses::Whole {
+        return Err(NoMove::Unfit);
     }
     let mut todo = Vec::new(alloc);
-    todo.push((e, MOST_DEPTH))?;
+    todo.push((e, MOST_NESTED))?;
     let mut found: Option<&Expr> = None;
     for _ in 0..MOST_LOOKS {
         let Some((e, depth)) = todo.pop() else {
@@ -220,20 +220,20 @@ fn largest_left(alloc: Global, e: &Expr) -> Result<ExprChild, Stop> {
         match uses_of(e, depth) {
             Uses::Nothing => {}
             Uses::Left => match found {
-                Some(other) if !same_expr(other, e) => return Err(Stop::Unfit),
+                Some(other) if !same_expr(other, e) => return Err(NoMove::Unfit),
                 _ => found = Some(e),
             },
             _ => push_parts(&mut todo, e, depth)?,
         }
     }
-    Err(Stop::Unfit)
+    Err(NoMove::Unfit)
 }
 
 /// The most parts that are looked at, of a whole expression.
 const MOST_LOOKS: u32 = 10_000;
 
 /// Adds the parts of the expression that get its input, but for paths.
-fn push_parts<'e>(todo: &mut Vec<(&'e Expr, u32)>, e: &'e Expr, depth: u32) -> Result<(), Stop> {
+fn push_parts<'e>(todo: &mut Vec<(&'e Expr, u32)>, e: &'e Expr, depth: u32) -> Result<(), NoMove> {
     let depth = depth.saturating_sub(1);
     match e {
         Expr::Then(f, _) => todo.push((f.get(), depth))?,
@@ -251,10 +251,10 @@ fn push_parts<'e>(todo: &mut Vec<(&'e Expr, u32)>, e: &'e Expr, depth: u32) -> R
 }
 
 /// A copy of the part, where it isn't just the left part of the input.
-fn copy_of_part(alloc: Global, found: Option<&Expr>) -> Result<ExprChild, Stop> {
+fn copy_of_part(alloc: Global, found: Option<&Expr>) -> Result<ExprChild, NoMove> {
     match found {
-        Some(Expr::Fst(inner)) if is_input(inner.get()) => Err(Stop::Unfit),
+        Some(Expr::Fst(inner)) if is_input(inner.get()) => Err(NoMove::Unfit),
         Some(e) => Ok(as_part(alloc, e)?),
-        None => Err(Stop::Unfit),
+        None => Err(NoMove::Unfit),
     }
 }

@@ -3,7 +3,9 @@
 use crate::arr_forms::ArrForm;
 use crate::loop_forms::LoopForm;
 use leaf_core::Expr;
-use net_improve::{ArrMove, Built, CellMove, FirstMove, LoopMove, Move, Sketch, Stop, SwitchMove};
+use net_improve::{
+    ArrMove, Built, CellMove, FirstMove, LoopMove, Move, NoMove, Sketch, SwitchMove,
+};
 use net_tree::Net;
 
 /// What a stage must be for a move to be tried at it.
@@ -53,10 +55,10 @@ pub(crate) enum FormMove {
 }
 
 /// A move, how many stages it looks at, and what the first two of them must be.
-pub(crate) type Row = (FormMove, usize, StageShape, StageShape);
+pub(crate) type MoveRow = (FormMove, usize, StageShape, StageShape);
 
 /// The move that drops what stands before a stage that hears nothing.
-pub(crate) const SOURCE: Row = (
+pub(crate) const SOURCE: MoveRow = (
     FormMove::Known(Move::Arr(ArrMove::Source)),
     2,
     StageShape::Any,
@@ -64,7 +66,7 @@ pub(crate) const SOURCE: Row = (
 );
 
 /// The moves in their order.
-pub(crate) const TABLE: [Row; 45] = [
+pub(crate) const TABLE: [MoveRow; 45] = [
     (
         FormMove::Known(Move::Law(1, 2)),
         2,
@@ -334,7 +336,7 @@ pub(crate) const TABLE: [Row; 45] = [
 
 impl FormMove {
     /// Makes the move of the stages, and tells what it built.
-    pub(crate) fn make(self, w: &mut Sketch) -> Result<Built, Stop> {
+    pub(crate) fn make(self, w: &mut Sketch) -> Result<Built, NoMove> {
         match self {
             FormMove::Known(known) => known.make(w),
             FormMove::Arr(form) => form.make(w),
@@ -363,7 +365,7 @@ impl FormMove {
 
 /// Whether the stages of the row are there, so many, of which these are the first two.
 pub(crate) fn row_fits(
-    row: &Row,
+    row: &MoveRow,
     count: usize,
     first: &Net<Expr>,
     second: Option<&Net<Expr>>,

@@ -1,12 +1,13 @@
 -- Steps of drafts: none, one more, and others behind them.
-use Rattle.std.proofs.Common.{◌≡◌, ◌+◌, ◌≤◌, ◌<◌, List, [], ◌∷◌, ◌++◌, length, map, sym, ap, ◌∙◌, subst, arith, length-append}
+use Rattle.std.proofs.Common.{◌≡◌, ◌+◌, ◌≤◌, ◌<◌, List, [], ◌∷◌, ◌++◌, length, map, sym, subst, arith, length-append}
 use Rattle.std.proofs.lemmas.List.{map-append, length-map}
 use Rattle.net_meaning.specs.TypedNetwork.{TypedNetwork}
 use Rattle.net_tree.specs.LawStep.{Step, step_of}
 use Rattle.net_tree.specs.declared.law_step.LawStep.{LawStep}
 use Rattle.cert_check.specs.Derives.{Next, Steps, no_step, step_then}
 use Rattle.cert_check.proofs.Taken.{steps_more}
-use Rattle.net_edit.specs.Drafted.{drafted, IsLed, TakesOneMore}
+use Rattle.cert_check.specs.declared.derivation.TheConstants.{MOST_STEPS}
+use Rattle.net_edit.specs.Drafted.{drafted, IsLed}
 
 -- no step
 pub begun_led : (t a b : TypedNetwork) (ss : List LawStep) → a ≡ t → b ≡ t → ss ≡ [] → IsLed (drafted a b ss)
@@ -15,7 +16,7 @@ begun_led t a b ss p q e =
     (subst (λ z. IsLed (drafted t z ss)) (sym q) (subst (λ z. IsLed (drafted t t z)) (sym e) (record { lead = no_step; few = omega arith })))
 
 -- one step more
-pub taken_led : (t u v : TypedNetwork) (ss more : List LawStep) (s : LawStep) → IsLed (drafted t u ss) → length ss < 10000 → Next u (step_of s) v
+pub taken_led : (t u v : TypedNetwork) (ss more : List LawStep) (s : LawStep) → IsLed (drafted t u ss) → length ss < MOST_STEPS → Next u (step_of s) v
     → more ≡ ss ++ s ∷ [] → IsLed (drafted t v more)
 taken_led t u v ss more s d l n e =
     subst (λ z. IsLed (drafted t v z)) (sym e) (record {
@@ -24,17 +25,13 @@ taken_led t u v ss more s d l n e =
           omega (arith, length-append ss (s ∷ []));
     })
 
-pub taken_more : (t u v : TypedNetwork) (ss more : List LawStep) (s : LawStep) → Next u (step_of s) v → more ≡ ss ++ s ∷ []
-    → TakesOneMore (drafted t u ss) (step_of s) (drafted t v more)
-taken_more t u v ss more s n e = record { next = n; steps_are = ap (map step_of) e ∙ map-append step_of ss (s ∷ []) }
-
 -- steps behind others
 join : (t u v : TypedNetwork) (ss rest : List Step) → Steps t ss u → Steps u rest v → Steps t (ss ++ rest) v
 join t u v ss rest no_step y = y
 join t u v ss rest (step_then {u = w} {ss = tail} x xs) y = step_then x (join w u v tail rest xs y)
 
 pub joined_led : (t u v w : TypedNetwork) (ss rest more : List LawStep) (steps : List Step) → IsLed (drafted t u ss) → w ≡ u → Steps w steps v
-    → map step_of rest ≡ steps → length ss + length rest ≤ 10000 → more ≡ ss ++ rest → IsLed (drafted t v more)
+    → map step_of rest ≡ steps → length ss + length rest ≤ MOST_STEPS → more ≡ ss ++ rest → IsLed (drafted t v more)
 joined_led t u v w ss rest more steps d p x q l e =
     let y : Steps u (map step_of rest) v = subst (λ z. Steps z (map step_of rest) v) p (subst (λ z. Steps w z v) (sym q) x) in
     subst (λ z. IsLed (drafted t v z)) (sym e) (record {

@@ -10,9 +10,8 @@ use Rattle.net_tree.specs.Network.{Network}
 use Rattle.net_tree.specs.Place.{◌>>=◌, Tree, a_network, a_leaf, child}
 use Rattle.net_syntax.specs.Placed.{with_child, replaced}
 use Rattle.net_meaning.specs.NetworkLimits.{NetTypedWithin}
-use Rattle.net_syntax.specs.Standing.{Standing, standing, ChildStands, StandsAt, at_network, inside_network, inside_expression}
+use Rattle.net_syntax.specs.Standing.{Standing, standing, TreeWithin, ChildStands, StandsAt, at_network, inside_network, inside_expression}
 use Rattle.net_syntax.specs.StandingWalk.{inside}
-use Rattle.net_syntax.proofs.FoundTypes.{TreeWithin}
 use Rattle.net_syntax.proofs.OnePlace.{populated, one_place}
 use Rattle.net_types.proofs.ChangedPlaces.{kept}
 use Rattle.net_types.proofs.Holes.{Hole, hole, found_there}

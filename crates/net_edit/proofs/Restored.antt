@@ -4,7 +4,7 @@ use Rattle.std.specs.Option.{option_map}
 use Rattle.leaf_core.specs.Expression.{Expression, Expressions, no_more, and_then, bool_expr, pair_expr, fst, snd, then_expr, neg, add, sub, mul, less, equal, not_expr, and_expr, or_expr, if_expr, event_expr, on, list_expr, nth, len}
 use Rattle.leaf_core.specs.Inside.{row}
 use Rattle.leaf_core.specs.Parts.{element, with_element, refilled, part, with_part}
-use Rattle.net_tree.specs.Network.{Network, Networks, arr, seq, first, par, loop_pre, i_pre, delay, hold, accum_by, after, repeatedly, switch, d_switch, r_switch, k_switch, p_switch, initial_out, initial_in, dr_switch, rp_switch, no_members, and_member}
+use Rattle.net_tree.specs.Network.{Network, Networks, arr, seq, first, par, loop_pre, i_pre, delay, hold, accum_by, after, repeatedly, switch, r_switch, k_switch, p_switch, initial_out, initial_in, rp_switch, no_members, and_member}
 use Rattle.net_tree.specs.Place.{Tree, a_network, a_leaf, member, child, child_network, collection_child, PSwitchChild, p_switch_child, member_child, event_child, continuation_child, no_child}
 use Rattle.net_syntax.specs.Placed.{with_member, with_child, with_p_switch_child, with_collection_child}
 
@@ -114,12 +114,10 @@ child_restored (accum_by g z) zero (a_leaf s) = refl
 child_restored (accum_by g z) (suc zero) (a_leaf s) = refl
 child_restored (after q c) zero (a_leaf s) = refl
 child_restored (repeatedly q c) zero (a_leaf s) = refl
-child_restored (switch f t) zero (a_network s) = refl
-child_restored (switch f t) (suc zero) (a_network s) = refl
-child_restored (d_switch f t) zero (a_network s) = refl
-child_restored (d_switch f t) (suc zero) (a_network s) = refl
-child_restored (r_switch f t) zero (a_network s) = refl
-child_restored (r_switch f t) (suc zero) (a_network s) = refl
+child_restored (switch tm f t) zero (a_network s) = refl
+child_restored (switch tm f t) (suc zero) (a_network s) = refl
+child_restored (r_switch tm f t) zero (a_network s) = refl
+child_restored (r_switch tm f t) (suc zero) (a_network s) = refl
 child_restored (k_switch f e t) zero (a_network s) = refl
 child_restored (k_switch f e t) (suc zero) (a_network s) = refl
 child_restored (k_switch f e t) (suc (suc zero)) (a_network s) = refl
@@ -144,8 +142,6 @@ child_restored (initial_out c f) zero (a_leaf s) = refl
 child_restored (initial_out c f) (suc zero) (a_network s) = refl
 child_restored (initial_in c f) zero (a_leaf s) = refl
 child_restored (initial_in c f) (suc zero) (a_network s) = refl
-child_restored (dr_switch f t) zero (a_network s) = refl
-child_restored (dr_switch f t) (suc zero) (a_network s) = refl
 child_restored (rp_switch fs m t) k s = go (p_switch_child fs k) refl s
   where
     Back : Option (Network Expression) → Option (Tree Expression) → Type 0

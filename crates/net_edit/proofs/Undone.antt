@@ -16,23 +16,23 @@ use Rattle.law_rules.specs.Answer.{NetworkAnswer}
 use Rattle.cert_check.specs.TreeAnswer.{TreeAnswer}
 use Rattle.cert_check.specs.Derives.{Next}
 use Rattle.cert_check.proofs.Counted.{placed-stands}
-use Rattle.net_edit.specs.Undoing.{turned, given_back, undone}
+use Rattle.net_edit.specs.Undoing.{turned_direction, given_back, undone}
 use Rattle.net_edit.specs.Laws.{UndoLaw}
 use Rattle.net_edit.proofs.PutBack.{PutBack, put_back}
 
 -- an answer, turned round
 turned_expression : (olds : ℕ) (law : Law) (direction : Direction) (e : Expression) (given : Option Expression) (r : Expression)
-    → ExpressionAnswer law direction e given r → TreeAnswer olds law (turned direction) (a_leaf r) (given_back direction (a_leaf e)) (a_leaf e)
+    → ExpressionAnswer law direction e given r → TreeAnswer olds law (turned_direction direction) (a_leaf r) (given_back direction (a_leaf e)) (a_leaf e)
 turned_expression olds law direction e given r (E.forward_answer row) = E.backward_answer row
 turned_expression olds law direction e given r (E.backward_answer row) = E.forward_answer row
 
 turned_network : (olds : ℕ) (law : Law) (direction : Direction) (f : Network Expression) (given : Option (Network Expression)) (r : Network Expression)
-    → NetworkAnswer law direction f given olds r → TreeAnswer olds law (turned direction) (a_network r) (given_back direction (a_network f)) (a_network f)
+    → NetworkAnswer law direction f given olds r → TreeAnswer olds law (turned_direction direction) (a_network r) (given_back direction (a_network f)) (a_network f)
 turned_network olds law direction f given r (N.forward_answer row) = N.backward_answer row
 turned_network olds law direction f given r (N.backward_answer row) = N.forward_answer row
 
 turned_answer : (olds : ℕ) (law : Law) (direction : Direction) (tree : Tree Expression) (given : Option (Tree Expression)) (r : Tree Expression)
-    → TreeAnswer olds law direction tree given r → TreeAnswer olds law (turned direction) r (given_back direction tree) tree
+    → TreeAnswer olds law direction tree given r → TreeAnswer olds law (turned_direction direction) r (given_back direction tree) tree
 turned_answer olds law direction (a_leaf e) None (a_leaf r) x = turned_expression olds law direction e None r x
 turned_answer olds law direction (a_leaf e) (Some (a_leaf g)) (a_leaf r) x = turned_expression olds law direction e (Some g) r x
 turned_answer olds law direction (a_network f) None (a_network r) x = turned_network olds law direction f None r x

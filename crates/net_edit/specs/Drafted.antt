@@ -4,6 +4,7 @@ use Rattle.net_meaning.specs.TypedNetwork.{TypedNetwork}
 use Rattle.net_tree.specs.LawStep.{Step, step_of}
 use Rattle.net_tree.specs.declared.law_step.LawStep.{LawStep}
 use Rattle.cert_check.specs.Derives.{Next, Steps}
+use Rattle.cert_check.specs.declared.derivation.TheConstants.{MOST_STEPS}
 
 -- the network that steps began at, the one that they led to, and the steps
 pub record Drafted : Type 0 where
@@ -22,7 +23,7 @@ begun t = record { source = t; net = t; steps = [] }
 -- the steps lead from the source to the network, and there are at most 10,000
 pub record IsLed (d : Drafted) : Type 0 where
   pub lead : Steps d.source d.steps d.net
-  pub few : length d.steps ≤ 10000
+  pub few : length d.steps ≤ MOST_STEPS
 
 -- one step more was taken
 pub record TakesOneMore (old : Drafted) (s : Step) (new : Drafted) : Type 0 where

@@ -10,9 +10,9 @@ use Rattle.net_tree.specs.declared.law_step.Direction.{Direction}
 use Rattle.net_tree.specs.declared.law_step.Direction.TheVariants.{Forward, Backward}
 
 -- the other direction
-abbrev pub turned : Direction → Direction
-turned Forward = Backward
-turned Backward = Forward
+abbrev pub turned_direction : Direction → Direction
+turned_direction Forward = Backward
+turned_direction Backward = Forward
 
 -- what is given on the way back, where this tree stood before: on the way back from a step forward
 -- that tree, else nothing
@@ -25,7 +25,7 @@ abbrev pub undone : Tree Expression → Step → Step
 undone stood s =
     record {
       law = s.law;
-      direction = turned s.direction;
+      direction = turned_direction s.direction;
       position = s.position;
       given = given_back s.direction stood;
     }

@@ -69,7 +69,7 @@ impl Draft {
         ensures net { result.0 ≡ self.net }
         ensures steps { map step_of result.1.items ≡ self.steps }
         ensures lead { Steps self.source self.steps self.net }
-        ensures few { length self.steps ≤ 10000 }
+        ensures few { length self.steps ≤ MOST_STEPS }
     {
         let Draft {
             source: _,

@@ -3,7 +3,7 @@
 ghost use Rattle.std.specs.Prelude.{◌≡◌, IfOk, option_map};
 ghost use Rattle.net_tree.specs.LawStep.{part_of, step_of};
 ghost use Rattle.net_syntax.specs.ChildParts.{seen};
-ghost use Rattle.net_edit.specs.Undoing.{IsUndoing, given_back, turned};
+ghost use Rattle.net_edit.specs.Undoing.{IsUndoing, given_back, turned_direction};
 
 use cert_check::place_in;
 use net_syntax::{TreeRef, TypedNet};
@@ -63,7 +63,7 @@ fn copy_of(alloc: Global, tree: TreeRef) -> Result<Tree, Memory>
 
 /// The other direction.
 fn turned(direction: Direction) -> Direction
-    ensures { result ≡ turned direction }
+    ensures { result ≡ turned_direction direction }
 {
     match direction {
         Direction::Forward => Direction::Backward,

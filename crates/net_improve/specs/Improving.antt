@@ -5,6 +5,7 @@ use Rattle.net_tree.specs.Network.{Network}
 use Rattle.net_meaning.specs.TypedNetwork.{TypedNetwork}
 use Rattle.net_tree.specs.LawStep.{Step}
 use Rattle.cert_check.specs.Derives.{Steps}
+use Rattle.cert_check.specs.declared.derivation.TheConstants.{MOST_STEPS}
 
 -- at most 10,000 steps lead from t to a typed network, which is this one
 pub record Improved (t : TypedNetwork) (net : Network Expression) (steps : List Step) : Type 0
@@ -12,4 +13,4 @@ pub record Improved (t : TypedNetwork) (net : Network Expression) (steps : List 
     pub last : TypedNetwork
     pub ends : last.net ≡ net
     pub lead : Steps t steps last
-    pub few : length steps ≤ 10000
+    pub few : length steps ≤ MOST_STEPS

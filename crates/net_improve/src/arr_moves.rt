@@ -3,7 +3,7 @@
 use crate::build::{arr_pair, unit};
 use crate::cost::cost;
 use crate::moves::Built;
-use crate::sketch::{Clearing, Sketch, Stop};
+use crate::sketch::{Clearing, NoMove, Sketch};
 use expr_improve::{Rewriting, as_then, shared_at};
 use leaf_core::Expr;
 use net_tree::Net;
@@ -36,7 +36,7 @@ impl ArrMove {
     }
 
     /// Makes the move, and tells what it built.
-    pub fn make(self, w: &mut Sketch) -> Result<Built, Stop> {
+    pub fn make(self, w: &mut Sketch) -> Result<Built, NoMove> {
         match self {
             ArrMove::Source => drop_front(w)?,
             ArrMove::Fuse => fuse(w)?,
@@ -48,7 +48,7 @@ impl ArrMove {
 }
 
 /// Drops what stands before a source, or before an `arr` that doesn't use its input.
-fn drop_front(w: &mut Sketch) -> Result<(), Stop> {
+fn drop_front(w: &mut Sketch) -> Result<(), NoMove> {
     match w.net_at(&[1])? {
         Net::After(..) | Net::Repeatedly(..) | Net::Time => w.forward(20, &[]),
         Net::Arr(e) if !hears(e) => {
@@ -57,7 +57,7 @@ fn drop_front(w: &mut Sketch) -> Result<(), Stop> {
             w.forward(25, &[])?;
             w.clear(&[0])
         }
-        _ => Err(Stop::Unfit),
+        _ => Err(NoMove::Unfit),
     }
 }
 
@@ -94,14 +94,14 @@ fn hears(e: &Expr) -> bool {
 }
 
 /// One `arr` of two, parted again where that costs less.
-fn fuse(w: &mut Sketch) -> Result<(), Stop> {
+fn fuse(w: &mut Sketch) -> Result<(), NoMove> {
     w.forward(4, &[])?;
     w.clear(&[0])?;
     split(w, &[])
 }
 
 /// Parts the `arr` at the path, and the one that is then behind it, as long as that costs less.
-fn split(w: &mut Sketch, path: &[u32]) -> Result<(), Stop> {
+fn split(w: &mut Sketch, path: &[u32]) -> Result<(), NoMove> {
     let mut way = path.to_vec(w.alloc)?;
     let parts = match w.clearing {
         Clearing::ByCost => MOST_PARTS,
@@ -123,7 +123,7 @@ fn split(w: &mut Sketch, path: &[u32]) -> Result<(), Stop> {
 }
 
 /// What the `arr` computes twice, in one before it.
-fn share(w: &mut Sketch) -> Result<(), Stop> {
+fn share(w: &mut Sketch) -> Result<(), NoMove> {
     let found = shared_at(w.alloc, w.arr_at(&[])?)?;
     w.part_by(&[], found)
 }

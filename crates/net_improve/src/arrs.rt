@@ -1,7 +1,7 @@
 // What moves do to an `arr`: its expression changed, and parted in two.
 
 use crate::build::{arr, arr_pair, first};
-use crate::sketch::{Clearing, Sketch, Stop};
+use crate::sketch::{Clearing, NoMove, Sketch};
 use expr_improve::{Rewriting, as_left, as_then, improve_expr, joined, normal_expr, seen_through};
 use leaf_core::Expr;
 use net_syntax::TreeRef;
@@ -11,14 +11,14 @@ use std::alloc::Global;
 
 impl Sketch {
     /// Improves the expression at the path.
-    pub fn clear(&mut self, path: &[u32]) -> Result<(), Stop> {
+    pub fn clear(&mut self, path: &[u32]) -> Result<(), NoMove> {
         let clearing = self.clearing;
         let found = cleared(self.alloc, clearing, self.expr_at(path)?)?;
         self.rewrite(path, found)
     }
 
     /// Rewrites the expression at the path as it was found.
-    fn rewrite(&mut self, path: &[u32], found: Rewriting) -> Result<(), Stop> {
+    fn rewrite(&mut self, path: &[u32], found: Rewriting) -> Result<(), NoMove> {
         let Rewriting {
             result: expr,
             steps,
@@ -27,17 +27,17 @@ impl Sketch {
     }
 
     /// Rewrites the expression of the `arr` at the path, where a way was found.
-    pub fn rewrite_arr(&mut self, path: &[u32], found: Option<Rewriting>) -> Result<(), Stop> {
+    pub fn rewrite_arr(&mut self, path: &[u32], found: Option<Rewriting>) -> Result<(), NoMove> {
         match found {
             Some(found) => self.rewrite(&joined(self.alloc, path, &[0])?, found),
-            None => Err(Stop::Unfit),
+            None => Err(NoMove::Unfit),
         }
     }
 
     /// Parts `(arr (then f g))` at the path in two.
-    pub fn part(&mut self, path: &[u32]) -> Result<(), Stop> {
+    pub fn part(&mut self, path: &[u32]) -> Result<(), NoMove> {
         let Expr::Then(f, g) = self.arr_at(path)? else {
-            return Err(Stop::Unfit);
+            return Err(NoMove::Unfit);
         };
         let two = arr_pair(self.alloc, f.get(), g.get())?;
         self.backward(4, path, two)
@@ -45,26 +45,26 @@ impl Sketch {
 
     /// Rewrites the expression of the `arr` at the path to a `then`, where a way was found, and
     /// parts it there.
-    pub fn part_by(&mut self, path: &[u32], found: Option<Rewriting>) -> Result<(), Stop> {
+    pub fn part_by(&mut self, path: &[u32], found: Option<Rewriting>) -> Result<(), NoMove> {
         self.rewrite_arr(path, found)?;
         self.part(path)
     }
 
     /// Parts the `arr` at the path in `(arr f)` and what is left of it behind that.
-    pub fn part_behind(&mut self, path: &[u32], f: &Expr) -> Result<(), Stop> {
+    pub fn part_behind(&mut self, path: &[u32], f: &Expr) -> Result<(), NoMove> {
         let found = behind_other(self.alloc, self.arr_at(path)?, f)?;
         self.part_by(path, found)
     }
 
     /// Makes the `arr` at the path, of the left part alone, `(first (arr h))`.
-    pub fn left_at(&mut self, path: &[u32]) -> Result<(), Stop> {
+    pub fn left_at(&mut self, path: &[u32]) -> Result<(), NoMove> {
         let found = as_left(self.alloc, self.arr_at(path)?)?;
         self.rewrite_arr(path, found)?;
         self.first_arr(path)
     }
 
     /// Makes the `arr` of `(pair (then (fst x) h) (snd x))` at the path `(first (arr h))`.
-    pub fn first_arr(&mut self, path: &[u32]) -> Result<(), Stop> {
+    pub fn first_arr(&mut self, path: &[u32]) -> Result<(), NoMove> {
         let given = first_of_left(self.alloc, self.arr_at(path)?)?;
         self.backward(5, path, given)
     }
@@ -87,12 +87,12 @@ fn behind_other(alloc: Global, e: &Expr, f: &Expr) -> Result<Option<Rewriting>, 
 }
 
 /// `(first (arr h))`, of `(pair (then (fst x) h) (snd x))`.
-fn first_of_left(alloc: Global, e: &Expr) -> Result<NetChild<Expr>, Stop> {
+fn first_of_left(alloc: Global, e: &Expr) -> Result<NetChild<Expr>, NoMove> {
     let Expr::Pair(left, _) = e else {
-        return Err(Stop::Unfit);
+        return Err(NoMove::Unfit);
     };
     match left.get() {
         Expr::Then(_, h) => Ok(first(alloc, arr(alloc, h.get())?)?),
-        _ => Err(Stop::Unfit),
+        _ => Err(NoMove::Unfit),
     }
 }

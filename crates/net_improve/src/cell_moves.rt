@@ -3,7 +3,7 @@
 use crate::build::{map_before_hold, swap};
 use crate::chain::{behind, head, length};
 use crate::moves::Built;
-use crate::sketch::{Sketch, Stop};
+use crate::sketch::{NoMove, Sketch};
 use crate::types::none_told;
 use expr_improve::{as_map, as_part, joined, pair_of, then_of};
 use leaf_core::{Expr, ExprChild, type_of_expr};
@@ -40,7 +40,7 @@ impl CellMove {
     }
 
     /// Makes the move, and tells what it built.
-    pub fn make(self, w: &mut Sketch) -> Result<Built, Stop> {
+    pub fn make(self, w: &mut Sketch) -> Result<Built, NoMove> {
         match self {
             CellMove::HoldNone => {
                 w.forward(19, &[])?;
@@ -56,11 +56,11 @@ impl CellMove {
     }
 }
 
-fn map_back(w: &mut Sketch) -> Result<(), Stop> {
+fn map_back(w: &mut Sketch) -> Result<(), NoMove> {
     let number = match w.net_at(&[0])? {
         Net::After(..) => 21,
         Net::Repeatedly(..) => 22,
-        _ => return Err(Stop::Unfit),
+        _ => return Err(NoMove::Unfit),
     };
     let found = as_map(w.alloc, w.arr_at(&[1])?)?;
     w.rewrite_arr(&[1], found)?;
@@ -68,9 +68,9 @@ fn map_back(w: &mut Sketch) -> Result<(), Stop> {
     w.clear(&[0])
 }
 
-fn map_front(w: &mut Sketch) -> Result<(), Stop> {
+fn map_front(w: &mut Sketch) -> Result<(), NoMove> {
     let Net::AccumBy(..) = w.net_at(&[1])? else {
-        return Err(Stop::Unfit);
+        return Err(NoMove::Unfit);
     };
     let found = as_map(w.alloc, w.arr_at(&[0])?)?;
     w.rewrite_arr(&[0], found)?;
@@ -78,9 +78,9 @@ fn map_front(w: &mut Sketch) -> Result<(), Stop> {
     w.clear(&[0])
 }
 
-fn pair_cells(w: &mut Sketch) -> Result<(), Stop> {
+fn pair_cells(w: &mut Sketch) -> Result<(), NoMove> {
     if !is_swap(w.arr_at(&[1, 0])?) {
-        return Err(Stop::Unfit);
+        return Err(NoMove::Unfit);
     }
     let both = cell_of_both(w.alloc, w.first_at(&[0])?, w.first_at(&[1, 1, 0])?)?;
     if is_swap(w.arr_at(&[1, 1, 1])?) {
@@ -109,17 +109,17 @@ fn cell_of_both(
     alloc: Global,
     first: &Net<Expr>,
     second: &Net<Expr>,
-) -> Result<NetChild<Expr>, Stop> {
+) -> Result<NetChild<Expr>, NoMove> {
     match (first, second) {
         (Net::IPre(c), Net::IPre(d)) => {
             let both = pair_of(alloc, as_part(alloc, c)?, as_part(alloc, d)?)?;
             Ok(NetChild::new(alloc, Net::IPre(both.get().try_copy(alloc)?))?)
         }
-        _ => Err(Stop::Unfit),
+        _ => Err(NoMove::Unfit),
     }
 }
 
-fn pass(w: &mut Sketch) -> Result<(), Stop> {
+fn pass(w: &mut Sketch) -> Result<(), NoMove> {
     w.arr_at(&[0])?;
     let count = length(w.net.get());
     for j in (1..count.saturating_sub(1)).rev() {
@@ -131,7 +131,7 @@ fn pass(w: &mut Sketch) -> Result<(), Stop> {
 
 /// Takes the `arr` behind the cell past it, which stands behind so many stages; more stand behind
 /// both, or none.
-fn pass_one(w: &mut Sketch, stages: usize, more: bool) -> Result<(), Stop> {
+fn pass_one(w: &mut Sketch, stages: usize, more: bool) -> Result<(), NoMove> {
     let mut way = behind(w.alloc, &[], stages)?;
     if more {
         w.regroup(&way)?;
@@ -146,17 +146,17 @@ fn pass_one(w: &mut Sketch, stages: usize, more: bool) -> Result<(), Stop> {
 }
 
 /// Takes the `arr` past the cell, both of which stand at the path.
-fn pass_cell(w: &mut Sketch, path: &[u32]) -> Result<(), Stop> {
+fn pass_cell(w: &mut Sketch, path: &[u32]) -> Result<(), NoMove> {
     let number = match head(w.net_at(path)?) {
         Net::IPre(_) => 11,
         Net::Delay(..) => 26,
-        _ => return Err(Stop::Unfit),
+        _ => return Err(NoMove::Unfit),
     };
     w.forward(number, path)?;
     w.clear(&joined(w.alloc, path, &[1, 0])?)
 }
 
-fn hold_map(w: &mut Sketch) -> Result<(), Stop> {
+fn hold_map(w: &mut Sketch) -> Result<(), NoMove> {
     w.arr_at(&[0])?;
     let given = map_held(w.alloc, w.net_at(&[1, 0])?, w.arr_at(&[1, 1])?)?;
     w.backward(23, &[1], given)?;
@@ -166,9 +166,9 @@ fn hold_map(w: &mut Sketch) -> Result<(), Stop> {
 }
 
 /// The `hold` with g behind it as a map of events before a `hold`.
-fn map_held(alloc: Global, hold: &Net<Expr>, g: &Expr) -> Result<NetChild<Expr>, Stop> {
+fn map_held(alloc: Global, hold: &Net<Expr>, g: &Expr) -> Result<NetChild<Expr>, NoMove> {
     let Net::Hold(c) = hold else {
-        return Err(Stop::Unfit);
+        return Err(NoMove::Unfit);
     };
     let start = then_of(alloc, &as_part(alloc, c)?, g)?;
     let none = none_held(alloc, start.get())?;
@@ -177,7 +177,7 @@ fn map_held(alloc: Global, hold: &Net<Expr>, g: &Expr) -> Result<NetChild<Expr>,
 
 /// `(none T)`, with the type T of what a `hold` starts with, where that is known whatever the
 /// parameters are.
-fn none_held(alloc: Global, start: &Expr) -> Result<ExprChild, Stop> {
+fn none_held(alloc: Global, start: &Expr) -> Result<ExprChild, NoMove> {
     match type_of_expr(alloc, &[], &Ty::Unit, start) {
         Ok(held) => Ok(ExprChild::new(alloc, Expr::NoEvent(held))?),
         Err(_) => none_told(alloc, start),

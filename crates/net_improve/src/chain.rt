@@ -1,7 +1,7 @@
 // Chains of stages, nested to the right.
 
 use crate::build::{copied, first, seq};
-use crate::sketch::{Sketch, Stop};
+use crate::sketch::{NoMove, Sketch};
 use leaf_core::Expr;
 use net_tree::{Net, NetChild};
 use std::alloc::Global;
@@ -10,7 +10,7 @@ use std::alloc::Global;
 const MOST_STAGES: usize = 100_000;
 
 /// The way to the chain behind so many stages.
-pub fn behind(alloc: Global, path: &[u32], stages: usize) -> Result<Vec<u32>, Stop> {
+pub fn behind(alloc: Global, path: &[u32], stages: usize) -> Result<Vec<u32>, NoMove> {
     let mut way = path.to_vec(alloc)?;
     for _ in 0..stages {
         way.push(1)?;
@@ -24,7 +24,7 @@ pub fn stage_way(
     path: &[u32],
     stage: usize,
     count: usize,
-) -> Result<Vec<u32>, Stop> {
+) -> Result<Vec<u32>, NoMove> {
     let mut way = behind(alloc, path, stage)?;
     if stage.saturating_add(1) < count {
         way.push(0)?;
@@ -33,7 +33,7 @@ pub fn stage_way(
 }
 
 /// The first k stages of the chain.
-pub fn front(alloc: Global, chain: &Net<Expr>, k: usize) -> Result<NetChild<Expr>, Stop> {
+pub fn front(alloc: Global, chain: &Net<Expr>, k: usize) -> Result<NetChild<Expr>, NoMove> {
     match chain {
         Net::Seq(f, _) if k == 1 => Ok(f.try_copy()?),
         _ if k == 1 => Ok(copied(alloc, chain)?),
@@ -41,7 +41,7 @@ pub fn front(alloc: Global, chain: &Net<Expr>, k: usize) -> Result<NetChild<Expr
             let rest = front(alloc, rest.get(), k - 1)?;
             Ok(seq(alloc, f.try_copy()?, rest)?)
         }
-        _ => Err(Stop::Unfit),
+        _ => Err(NoMove::Unfit),
     }
 }
 
@@ -83,7 +83,7 @@ pub fn length(chain: &Net<Expr>) -> usize {
 
 impl Sketch {
     /// Nests the chain at the path to the right, by L3.
-    pub fn flatten(&mut self, path: &[u32]) -> Result<(), Stop> {
+    pub fn flatten(&mut self, path: &[u32]) -> Result<(), NoMove> {
         let mut way = path.to_vec(self.alloc)?;
         for _ in 0..MOST_STAGES {
             let Net::Seq(f, _) = self.net_at(&way)? else {
@@ -100,7 +100,7 @@ impl Sketch {
 
     /// Makes k stages of the chain at the path, behind so many, one tree, by L3 backward, and
     /// answers where it stands.
-    pub fn gather(&mut self, path: &[u32], stages: usize, k: usize) -> Result<Vec<u32>, Stop> {
+    pub fn gather(&mut self, path: &[u32], stages: usize, k: usize) -> Result<Vec<u32>, NoMove> {
         let mut way = behind(self.alloc, path, stages)?;
         let Some(_) = rest(self.net_at(&way)?, k) else {
             return Ok(way);
@@ -113,7 +113,7 @@ impl Sketch {
     }
 
     /// Nests to the right again what `gather` made one tree.
-    pub fn scatter(&mut self, path: &[u32]) -> Result<(), Stop> {
+    pub fn scatter(&mut self, path: &[u32]) -> Result<(), NoMove> {
         let mut way = path.to_vec(self.alloc)?;
         for _ in 0..MOST_STAGES {
             let Net::Seq(f, _) = self.net_at(&way)? else {
@@ -129,54 +129,54 @@ impl Sketch {
     }
 
     /// Makes the first two stages of the chain at the path one, by L3 backward.
-    pub fn regroup(&mut self, path: &[u32]) -> Result<(), Stop> {
+    pub fn regroup(&mut self, path: &[u32]) -> Result<(), NoMove> {
         let given = regrouped(self.alloc, self.net_at(path)?)?;
         self.backward(3, path, given)
     }
 
     /// Makes `(>>> (first f) (first g))` at the path `(first (>>> f g))`, by L6 backward.
-    pub fn join_firsts(&mut self, path: &[u32]) -> Result<(), Stop> {
+    pub fn join_firsts(&mut self, path: &[u32]) -> Result<(), NoMove> {
         let given = first_of_both(self.alloc, self.net_at(path)?)?;
         self.backward(6, path, given)
     }
 
     /// Makes `(>>> f (first g))` at the path `(>>> (first g) f)`, by L7 backward.
-    pub fn exchange(&mut self, path: &[u32]) -> Result<(), Stop> {
+    pub fn exchange(&mut self, path: &[u32]) -> Result<(), NoMove> {
         let given = exchanged(self.alloc, self.net_at(path)?)?;
         self.backward(7, path, given)
     }
 }
 
 /// The chain with its first two stages as one.
-fn regrouped(alloc: Global, chain: &Net<Expr>) -> Result<NetChild<Expr>, Stop> {
+fn regrouped(alloc: Global, chain: &Net<Expr>) -> Result<NetChild<Expr>, NoMove> {
     let Net::Seq(f, rest) = chain else {
-        return Err(Stop::Unfit);
+        return Err(NoMove::Unfit);
     };
     let Net::Seq(g, h) = rest.get() else {
-        return Err(Stop::Unfit);
+        return Err(NoMove::Unfit);
     };
     let both = seq(alloc, f.try_copy()?, g.try_copy()?)?;
     Ok(seq(alloc, both, h.try_copy()?)?)
 }
 
 /// `(first (>>> f g))` of `(>>> (first f) (first g))`.
-fn first_of_both(alloc: Global, chain: &Net<Expr>) -> Result<NetChild<Expr>, Stop> {
+fn first_of_both(alloc: Global, chain: &Net<Expr>) -> Result<NetChild<Expr>, NoMove> {
     let Net::Seq(a, b) = chain else {
-        return Err(Stop::Unfit);
+        return Err(NoMove::Unfit);
     };
     match (a.get(), b.get()) {
         (Net::First(f), Net::First(g)) => {
             let both = seq(alloc, f.try_copy()?, g.try_copy()?)?;
             Ok(first(alloc, both)?)
         }
-        _ => Err(Stop::Unfit),
+        _ => Err(NoMove::Unfit),
     }
 }
 
 /// `(>>> g f)` of `(>>> f g)`.
-fn exchanged(alloc: Global, chain: &Net<Expr>) -> Result<NetChild<Expr>, Stop> {
+fn exchanged(alloc: Global, chain: &Net<Expr>) -> Result<NetChild<Expr>, NoMove> {
     match chain {
         Net::Seq(f, g) => Ok(seq(alloc, g.try_copy()?, f.try_copy()?)?),
-        _ => Err(Stop::Unfit),
+        _ => Err(NoMove::Unfit),
     }
 }

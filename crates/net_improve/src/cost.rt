@@ -5,12 +5,12 @@ use expr_improve::{arr_cost, made_of};
 use leaf_core::Expr;
 use net_tree::{Members, Net, NetChild};
 
-/// How deep networks are looked into.
-pub(crate) const MOST_DEEP: u32 = 1_000;
+/// How deep searches look into a network.
+pub const MOST_DEPTH: u32 = 1_000;
 
 /// What a network costs for a sample, in instructions, about.
 pub(crate) fn cost(net: &Net<Expr>) -> u64 {
-    cost_to(net, MOST_DEEP)
+    cost_to(net, MOST_DEPTH)
 }
 
 /// The cost of a network where what stands deeper costs nothing.

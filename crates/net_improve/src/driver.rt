@@ -6,10 +6,10 @@ ghost use Rattle.net_tree.specs.LawStep.{step_of};
 ghost use Rattle.net_improve.specs.Improving.{Improved};
 
 use crate::build::copied;
-use crate::cost::{MOST_DEEP, cost};
+use crate::cost::{MOST_DEPTH, cost};
 use crate::room::count_fitting;
 use crate::search::{MOST_TRIES, improve_net};
-use crate::sketch::{Clearing, Sketch, Stop};
+use crate::sketch::{Clearing, NoMove, Sketch};
 use leaf_core::Expr;
 use net_edit::Draft;
 use net_syntax::TypedNet;
@@ -48,12 +48,12 @@ fn answered(alloc: Global, draft: Draft) -> Result<(Net<Expr>, Vec<LawStep>), Me
 fn searched(alloc: Global, net: &Net<Expr>) -> Result<Sketch, Memory> {
     let mut sketch = Sketch::new(alloc, copied(alloc, net)?, 0, Clearing::ByCost);
     let mut tries = MOST_TRIES;
-    match improve_net(&mut sketch, false, MOST_DEEP, &mut tries) {
-        Ok(()) | Err(Stop::Unfit) => {
+    match improve_net(&mut sketch, false, MOST_DEPTH, &mut tries) {
+        Ok(()) | Err(NoMove::Unfit) => {
             sketch.ends.push(sketch.steps.len())?;
             Ok(sketch)
         }
-        Err(Stop::Memory) => Err(Memory),
+        Err(NoMove::Memory) => Err(Memory),
     }
 }
 
@@ -103,7 +103,7 @@ fn made_again(
             let Sketch { steps, .. } = sketch;
             Ok(Some(steps))
         }
-        Err(Stop::Unfit) => Ok(None),
-        Err(Stop::Memory) => Err(Memory),
+        Err(NoMove::Unfit) => Ok(None),
+        Err(NoMove::Memory) => Err(Memory),
     }
 }

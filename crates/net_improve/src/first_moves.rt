@@ -3,7 +3,7 @@
 use crate::build::{assoc, unassoc, unit};
 use crate::chain::length;
 use crate::moves::Built;
-use crate::sketch::{Sketch, Stop};
+use crate::sketch::{NoMove, Sketch};
 use expr_improve::{
     Rewriting, as_late, as_right, as_then, first_input, on_left, second_input, seen_through,
     then_of,
@@ -57,7 +57,7 @@ impl FirstMove {
     }
 
     /// Makes the move, and tells what it built.
-    pub fn make(self, w: &mut Sketch) -> Result<Built, Stop> {
+    pub fn make(self, w: &mut Sketch) -> Result<Built, NoMove> {
         match self {
             FirstMove::Two => two(w),
             FirstMove::PullFront => pull_front(w),
@@ -72,7 +72,7 @@ impl FirstMove {
     }
 
     /// Makes a move that builds nothing.
-    fn made(self, w: &mut Sketch) -> Result<(), Stop> {
+    fn made(self, w: &mut Sketch) -> Result<(), NoMove> {
         match self {
             FirstMove::BehindArr => behind_arr(w),
             FirstMove::BeforeArr => before_arr(w),
@@ -87,41 +87,41 @@ impl FirstMove {
     }
 }
 
-fn alone(w: &mut Sketch) -> Result<(), Stop> {
+fn alone(w: &mut Sketch) -> Result<(), NoMove> {
     w.forward(5, &[])?;
     w.clear(&[0])
 }
 
-fn behind_arr(w: &mut Sketch) -> Result<(), Stop> {
+fn behind_arr(w: &mut Sketch) -> Result<(), NoMove> {
     w.forward(5, &[1])?;
     w.forward(4, &[])?;
     w.clear(&[0])
 }
 
-fn before_arr(w: &mut Sketch) -> Result<(), Stop> {
+fn before_arr(w: &mut Sketch) -> Result<(), NoMove> {
     w.forward(5, &[0])?;
     w.forward(4, &[])?;
     w.clear(&[0])
 }
 
-fn heard(w: &mut Sketch) -> Result<(), Stop> {
+fn heard(w: &mut Sketch) -> Result<(), NoMove> {
     w.first_at(&[0])?;
     match w.forward(8, &[]) {
         Ok(()) => {}
-        Err(Stop::Unfit) => heard_apart(w)?,
-        Err(Stop::Memory) => return Err(Stop::Memory),
+        Err(NoMove::Unfit) => heard_apart(w)?,
+        Err(NoMove::Memory) => return Err(NoMove::Memory),
     }
     w.flatten(&[])
 }
 
 /// Makes `Heard`, where the `arr` takes the left part and does more with it.
-fn heard_apart(w: &mut Sketch) -> Result<(), Stop> {
+fn heard_apart(w: &mut Sketch) -> Result<(), NoMove> {
     w.part_behind(&[1], first_input(w.alloc)?.get())?;
     w.regroup(&[])?;
     w.forward(8, &[0])
 }
 
-fn unheard(w: &mut Sketch) -> Result<(), Stop> {
+fn unheard(w: &mut Sketch) -> Result<(), NoMove> {
     w.first_at(&[0])?;
     let found = behind_unit_left(w.alloc, w.arr_at(&[1])?)?;
     w.part_by(&[1], found)?;
@@ -157,12 +157,12 @@ fn unit_left(alloc: Global) -> Result<ExprChild, Memory> {
     on_left(alloc, nothing.get())
 }
 
-fn two(w: &mut Sketch) -> Result<Built, Stop> {
+fn two(w: &mut Sketch) -> Result<Built, NoMove> {
     w.join_firsts(&[])?;
     Ok(Built::At(&[0]))
 }
 
-fn pull_front(w: &mut Sketch) -> Result<Built, Stop> {
+fn pull_front(w: &mut Sketch) -> Result<Built, NoMove> {
     w.arr_at(&[0])?;
     w.forward(6, &[1])?;
     w.forward(5, &[1, 0])?;
@@ -171,7 +171,7 @@ fn pull_front(w: &mut Sketch) -> Result<Built, Stop> {
     Ok(Built::At(&[1, 0]))
 }
 
-fn pull_back(w: &mut Sketch) -> Result<Built, Stop> {
+fn pull_back(w: &mut Sketch) -> Result<Built, NoMove> {
     w.arr_at(&[1])?;
     let count = length(w.first_at(&[0])?);
     w.gather(&[0, 0], 0, count.saturating_sub(1))?;
@@ -183,7 +183,7 @@ fn pull_back(w: &mut Sketch) -> Result<Built, Stop> {
     Ok(Built::At(&[0, 0]))
 }
 
-fn right_front(w: &mut Sketch) -> Result<(), Stop> {
+fn right_front(w: &mut Sketch) -> Result<(), NoMove> {
     w.arr_at(&[0])?;
     w.first_at(&[1, 0])?;
     let found = as_right(w.alloc, w.arr_at(&[1, 1])?)?;
@@ -193,7 +193,7 @@ fn right_front(w: &mut Sketch) -> Result<(), Stop> {
     w.clear(&[0, 0])
 }
 
-fn right_back(w: &mut Sketch) -> Result<(), Stop> {
+fn right_back(w: &mut Sketch) -> Result<(), NoMove> {
     w.first_at(&[1, 0])?;
     w.arr_at(&[1, 1])?;
     let found = as_right(w.alloc, w.arr_at(&[0])?)?;
@@ -205,7 +205,7 @@ fn right_back(w: &mut Sketch) -> Result<(), Stop> {
     w.clear(&[1, 0])
 }
 
-fn late(w: &mut Sketch) -> Result<(), Stop> {
+fn late(w: &mut Sketch) -> Result<(), NoMove> {
     w.first_at(&[1, 0])?;
     w.arr_at(&[1, 1])?;
     let found = as_late(w.alloc, w.arr_at(&[0])?)?;
@@ -218,10 +218,10 @@ fn late(w: &mut Sketch) -> Result<(), Stop> {
     w.clear(&[1, 1, 0])
 }
 
-fn nested(w: &mut Sketch) -> Result<(), Stop> {
+fn nested(w: &mut Sketch) -> Result<(), NoMove> {
     w.arr_at(&[0])?;
     let Net::First(_) = w.first_at(&[1, 0])? else {
-        return Err(Stop::Unfit);
+        return Err(NoMove::Unfit);
     };
     let found = behind_assoc(w.alloc, w.arr_at(&[1, 1])?)?;
     w.part_by(&[1, 1], found)?;
@@ -240,13 +240,13 @@ fn behind_assoc(alloc: Global, e: &Expr) -> Result<Option<Rewriting>, Memory> {
     as_then(alloc, e, there.get(), back.get())
 }
 
-fn push_front(w: &mut Sketch) -> Result<Built, Stop> {
+fn push_front(w: &mut Sketch) -> Result<Built, NoMove> {
     w.first_at(&[1])?;
     w.left_at(&[0])?;
     two(w)
 }
 
-fn push_back(w: &mut Sketch) -> Result<Built, Stop> {
+fn push_back(w: &mut Sketch) -> Result<Built, NoMove> {
     w.first_at(&[0])?;
     w.left_at(&[1])?;
     two(w)

@@ -3,7 +3,7 @@
 use crate::build::{loop_pre, seq};
 use crate::chain::{last, length};
 use crate::moves::Built;
-use crate::sketch::{Sketch, Stop};
+use crate::sketch::{NoMove, Sketch};
 use expr_improve::{as_right, joined};
 use leaf_core::Expr;
 use net_tree::{Net, NetChild};
@@ -34,7 +34,7 @@ impl LoopMove {
     }
 
     /// Makes the move, and tells what it built.
-    pub fn make(self, w: &mut Sketch) -> Result<Built, Stop> {
+    pub fn make(self, w: &mut Sketch) -> Result<Built, NoMove> {
         match self {
             LoopMove::Unfirst => {
                 unfirst(w)?;
@@ -50,7 +50,7 @@ impl LoopMove {
 }
 
 /// Takes the stage into the loop by the law, where it then stands at the path.
-fn stage_in(w: &mut Sketch, number: u8, path: &[u32]) -> Result<(), Stop> {
+fn stage_in(w: &mut Sketch, number: u8, path: &[u32]) -> Result<(), NoMove> {
     w.forward(number, &[])?;
     let Net::Arr(_) = w.first_at(path)? else {
         return Ok(());
@@ -59,17 +59,17 @@ fn stage_in(w: &mut Sketch, number: u8, path: &[u32]) -> Result<(), Stop> {
     w.clear(&joined(w.alloc, path, &[0])?)
 }
 
-fn inner(w: &mut Sketch) -> Result<(), Stop> {
+fn inner(w: &mut Sketch) -> Result<(), NoMove> {
     w.forward(16, &[])?;
     w.clear(&[0])
 }
 
-fn turn(w: &mut Sketch) -> Result<(), Stop> {
+fn turn(w: &mut Sketch) -> Result<(), NoMove> {
     let Net::LoopPre(_, body) = w.net_at(&[])? else {
-        return Err(Stop::Unfit);
+        return Err(NoMove::Unfit);
     };
     let Net::Arr(_) = last(body.get()) else {
-        return Err(Stop::Unfit);
+        return Err(NoMove::Unfit);
     };
     let found = as_right(w.alloc, w.arr_at(&[1, 0])?)?;
     w.rewrite_arr(&[1, 0], found)?;
@@ -77,9 +77,9 @@ fn turn(w: &mut Sketch) -> Result<(), Stop> {
     w.clear(&[0])
 }
 
-fn unfirst(w: &mut Sketch) -> Result<(), Stop> {
+fn unfirst(w: &mut Sketch) -> Result<(), NoMove> {
     let Net::LoopPre(_, body) = w.net_at(&[])? else {
-        return Err(Stop::Unfit);
+        return Err(NoMove::Unfit);
     };
     match body.get() {
         Net::First(_) => w.forward(17, &[]),
@@ -91,56 +91,49 @@ fn unfirst(w: &mut Sketch) -> Result<(), Stop> {
             Net::First(_) => first_out(w),
             _ => last_out(w),
         },
-        _ => Err(Stop::Unfit),
+        _ => Err(NoMove::Unfit),
     }
 }
 
 /// The first stage of the loop, which leaves what is fed back alone, goes before it.
-fn first_out(w: &mut Sketch) -> Result<(), Stop> {
-    let given = before_loop(w.alloc, w.net_at(&[])?)?;
+fn first_out(w: &mut Sketch) -> Result<(), NoMove> {
+    let given = out_of_loop(w.alloc, w.net_at(&[])?, true)?;
     w.backward(13, &[], given)
 }
 
-/// `(>>> f (loopPre c g))` of `(loopPre c (>>> (first f) g))`.
-fn before_loop(alloc: Global, net: &Net<Expr>) -> Result<NetChild<Expr>, Stop> {
-    let Net::LoopPre(c, body) = net else {
-        return Err(Stop::Unfit);
-    };
-    let Net::Seq(begin, rest) = body.get() else {
-        return Err(Stop::Unfit);
-    };
-    let Net::First(before) = begin.get() else {
-        return Err(Stop::Unfit);
-    };
-    let inside = loop_pre(alloc, c, rest.try_copy()?)?;
-    Ok(seq(alloc, before.try_copy()?, inside)?)
-}
-
 /// The last stage of the loop, which leaves what is fed back alone, goes behind it.
-fn last_out(w: &mut Sketch) -> Result<(), Stop> {
+fn last_out(w: &mut Sketch) -> Result<(), NoMove> {
     let Net::LoopPre(_, body) = w.net_at(&[])? else {
-        return Err(Stop::Unfit);
+        return Err(NoMove::Unfit);
     };
     let Net::First(_) = last(body.get()) else {
-        return Err(Stop::Unfit);
+        return Err(NoMove::Unfit);
     };
     let count = length(body.get());
     w.gather(&[1], 0, count.saturating_sub(1))?;
-    let given = behind_loop(w.alloc, w.net_at(&[])?)?;
+    let given = out_of_loop(w.alloc, w.net_at(&[])?, false)?;
     w.backward(14, &[], given)
 }
 
-/// `(>>> (loopPre c f) g)` of `(loopPre c (>>> f (first g)))`.
-fn behind_loop(alloc: Global, net: &Net<Expr>) -> Result<NetChild<Expr>, Stop> {
+/// `(>>> f (loopPre c g))` of `(loopPre c (>>> (first f) g))`, where what goes out is the first
+/// stage; else `(>>> (loopPre c f) g)` of `(loopPre c (>>> f (first g)))`.
+fn out_of_loop(alloc: Global, net: &Net<Expr>, is_first: bool) -> Result<NetChild<Expr>, NoMove> {
     let Net::LoopPre(c, body) = net else {
-        return Err(Stop::Unfit);
+        return Err(NoMove::Unfit);
     };
-    let Net::Seq(rest, end) = body.get() else {
-        return Err(Stop::Unfit);
+    let Net::Seq(f, g) = body.get() else {
+        return Err(NoMove::Unfit);
     };
-    let Net::First(behind) = end.get() else {
-        return Err(Stop::Unfit);
+    let (stage, rest) = if is_first { (f, g) } else { (g, f) };
+    let Net::First(out) = stage.get() else {
+        return Err(NoMove::Unfit);
     };
     let inside = loop_pre(alloc, c, rest.try_copy()?)?;
-    Ok(seq(alloc, inside, behind.try_copy()?)?)
+    let out = out.try_copy()?;
+    let (before, behind) = if is_first {
+        (out, inside)
+    } else {
+        (inside, out)
+    };
+    Ok(seq(alloc, before, behind)?)
 }

@@ -4,7 +4,7 @@ use crate::arr_moves::ArrMove;
 use crate::cell_moves::CellMove;
 use crate::first_moves::FirstMove;
 use crate::loop_moves::LoopMove;
-use crate::sketch::{Sketch, Stop};
+use crate::sketch::{NoMove, Sketch};
 use crate::switch_moves::SwitchMove;
 
 /// A move: what it makes of stages that stand behind one another, by steps. It is made only where
@@ -100,7 +100,7 @@ impl Move {
     }
 
     /// Makes the move of the stages, and tells what it built.
-    pub fn make(self, w: &mut Sketch) -> Result<Built, Stop> {
+    pub fn make(self, w: &mut Sketch) -> Result<Built, NoMove> {
         match self {
             Move::Law(number, _) => {
                 w.forward(number, &[])?;

@@ -1,7 +1,7 @@
 // What a certificate has room for.
 
 use cert_check::MOST_STEPS;
-use leaf_expr::MAX_LENGTH;
+use leaf_expr::MOST_LENGTH;
 use net_text::print_cert;
 use net_tree::LawStep;
 use sample_core::Memory;
@@ -17,7 +17,7 @@ pub fn count_fitting(alloc: Global, steps: &[LawStep]) -> Result<usize, Memory> 
     for (count, step) in steps.chunks(1).enumerate() {
         let printed = print_cert(alloc, step)?.len();
         bytes = bytes.saturating_add(printed.saturating_sub(HEAD_BYTES));
-        if count == MOST_STEPS || bytes > MAX_LENGTH {
+        if count == MOST_STEPS || bytes > MOST_LENGTH {
             return Ok(count);
         }
     }

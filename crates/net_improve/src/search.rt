@@ -2,7 +2,7 @@
 
 use crate::chain::{length, stage_way};
 use crate::settle::{Search, settle};
-use crate::sketch::{Sketch, Stop};
+use crate::sketch::{NoMove, Sketch};
 use net_syntax::{TreeRef, child};
 use net_tree::Net;
 
@@ -22,7 +22,7 @@ pub(crate) fn improve_net(
     in_loop: bool,
     depth: u32,
     tries: &mut u32,
-) -> Result<(), Stop> {
+) -> Result<(), NoMove> {
     match sketch.net.get() {
         Net::Seq(..) => improve_stages(sketch, depth, tries)?,
         _ => improve_children(sketch, depth, tries)?,
@@ -33,7 +33,7 @@ pub(crate) fn improve_net(
 
 /// Improves the stages of the chain, from the last to the first.
 #[cycle(search)]
-fn improve_stages(chain: &mut Sketch, depth: u32, tries: &mut u32) -> Result<(), Stop> {
+fn improve_stages(chain: &mut Sketch, depth: u32, tries: &mut u32) -> Result<(), NoMove> {
     chain.flatten(&[])?;
     chain.end_move()?;
     let count = length(chain.net.get());
@@ -46,7 +46,7 @@ fn improve_stages(chain: &mut Sketch, depth: u32, tries: &mut u32) -> Result<(),
 
 /// Improves the children of the network, which is no chain.
 #[cycle(search)]
-fn improve_children(sketch: &mut Sketch, depth: u32, tries: &mut u32) -> Result<(), Stop> {
+fn improve_children(sketch: &mut Sketch, depth: u32, tries: &mut u32) -> Result<(), NoMove> {
     let in_loop = matches!(sketch.net.get(), Net::LoopPre(..));
     for k in 0..MOST_CHILDREN {
         match child(sketch.net.get(), k) {
@@ -69,7 +69,7 @@ fn improve_part(
     in_loop: bool,
     depth: u32,
     tries: &mut u32,
-) -> Result<(), Stop> {
+) -> Result<(), NoMove> {
     if depth == 0 {
         return Ok(());
     }

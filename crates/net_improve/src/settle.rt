@@ -3,7 +3,7 @@
 use crate::chain::{behind, front, head, length, rest, stage_way};
 use crate::cost::{cost_before, is_cell};
 use crate::moves::{Built, MOVES, Move};
-use crate::sketch::{Sketch, Stop};
+use crate::sketch::{NoMove, Sketch};
 use leaf_core::Expr;
 use net_tree::Net;
 
@@ -29,7 +29,7 @@ struct Found {
 
 /// Makes moves in the chain, from its right end to its left one, as long as one pays.
 #[cycle(settle)]
-pub(crate) fn settle(chain: &mut Sketch, search: Search, tries: &mut u32) -> Result<(), Stop> {
+pub(crate) fn settle(chain: &mut Sketch, search: Search, tries: &mut u32) -> Result<(), NoMove> {
     chain.flatten(&[])?;
     chain.end_move()?;
     let mut count = length(chain.net.get());
@@ -60,7 +60,7 @@ fn find(
     place: usize,
     search: Search,
     tries: &mut u32,
-) -> Result<Option<Found>, Stop> {
+) -> Result<Option<Found>, NoMove> {
     let Some(here) = rest(chain.net.get(), place) else {
         return Ok(None);
     };
@@ -74,8 +74,8 @@ fn find(
                     made,
                 }));
             }
-            Ok(None) | Err(Stop::Unfit) => {}
-            Err(Stop::Memory) => return Err(Stop::Memory),
+            Ok(None) | Err(NoMove::Unfit) => {}
+            Err(NoMove::Memory) => return Err(NoMove::Memory),
         }
     }
     Ok(None)
@@ -107,7 +107,7 @@ fn attempt(
     moved: Move,
     search: Search,
     tries: &mut u32,
-) -> Result<Option<Sketch>, Stop> {
+) -> Result<Option<Sketch>, NoMove> {
     let stages = reach(moved, here);
     let window = front(chain.alloc, here, stages)?;
     let mut made = Sketch::new(chain.alloc, window, chain.olds, chain.clearing);
@@ -121,14 +121,14 @@ fn attempt(
 
 /// Makes the move, and improves what it built.
 #[cycle(settle)]
-fn build(made: &mut Sketch, moved: Move, depth: u32, tries: &mut u32) -> Result<(), Stop> {
+fn build(made: &mut Sketch, moved: Move, depth: u32, tries: &mut u32) -> Result<(), NoMove> {
     let built = moved.make(made)?;
     improve_built(made, built, depth, tries)?;
     made.flatten(&[])
 }
 
 /// Whether what was made of the first stages here costs less than they do.
-fn pays(made: &Sketch, here: &Net<Expr>, stages: usize, in_loop: bool) -> Result<bool, Stop> {
+fn pays(made: &Sketch, here: &Net<Expr>, stages: usize, in_loop: bool) -> Result<bool, NoMove> {
     let window = front(made.alloc, here, stages)?;
     let next = rest(here, stages).map(head);
     let before = cost_before(window.get(), next, in_loop);
@@ -136,7 +136,7 @@ fn pays(made: &Sketch, here: &Net<Expr>, stages: usize, in_loop: bool) -> Result
 }
 
 /// Puts what was found in the place of the stages, where so many stand before.
-fn make(chain: &mut Sketch, place: usize, found: Found) -> Result<(), Stop> {
+fn make(chain: &mut Sketch, place: usize, found: Found) -> Result<(), NoMove> {
     let Found {
         moved,
         stages,
@@ -153,7 +153,7 @@ fn make(chain: &mut Sketch, place: usize, found: Found) -> Result<(), Stop> {
 }
 
 /// Makes one `arr` of two with a stage behind them, by L10 in the place of the first step, L4.
-fn fuse(chain: &mut Sketch, place: usize, made: Sketch) -> Result<(), Stop> {
+fn fuse(chain: &mut Sketch, place: usize, made: Sketch) -> Result<(), NoMove> {
     let mut made = made;
     if !made.steps.is_empty() {
         drop(made.steps.remove(0));
@@ -167,7 +167,12 @@ fn fuse(chain: &mut Sketch, place: usize, made: Sketch) -> Result<(), Stop> {
 
 /// Improves the networks that a move built.
 #[cycle(settle)]
-fn improve_built(made: &mut Sketch, built: Built, depth: u32, tries: &mut u32) -> Result<(), Stop> {
+fn improve_built(
+    made: &mut Sketch,
+    built: Built,
+    depth: u32,
+    tries: &mut u32,
+) -> Result<(), NoMove> {
     match built {
         Built::Nothing => Ok(()),
         Built::At(path) => improve_at(made, path, false, depth, tries),
@@ -201,7 +206,7 @@ fn improve_at(
     in_loop: bool,
     depth: u32,
     tries: &mut u32,
-) -> Result<(), Stop> {
+) -> Result<(), NoMove> {
     if depth == 0 || *tries == 0 {
         return Ok(());
     }
@@ -214,7 +219,7 @@ fn improve_at(
 }
 
 /// Improves the expressions of the chain's `arr`s.
-fn clear_stages(chain: &mut Sketch) -> Result<(), Stop> {
+fn clear_stages(chain: &mut Sketch) -> Result<(), NoMove> {
     chain.flatten(&[])?;
     let count = length(chain.net.get());
     for stage in 0..count {

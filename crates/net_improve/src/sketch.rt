@@ -12,14 +12,14 @@ use std::alloc::Global;
 
 /// Why a move isn't made: it doesn't fit what stands there, or a growth was refused.
 #[derive(Clone, Copy)]
-pub enum Stop {
+pub enum NoMove {
     Unfit,
     Memory,
 }
 
-impl<E: OutOfMemory> From<E> for Stop {
-    fn from(_: E) -> Stop {
-        Stop::Memory
+impl<E: OutOfMemory> From<E> for NoMove {
+    fn from(_: E) -> NoMove {
+        NoMove::Memory
     }
 }
 
@@ -71,14 +71,14 @@ impl Sketch {
     }
 
     /// What stands at the path.
-    pub fn at(&self, path: &[u32]) -> Result<Spot<'_>, Stop> {
+    pub fn at(&self, path: &[u32]) -> Result<Spot<'_>, NoMove> {
         let mut spot = Spot {
             tree: TreeRef::Net(self.net.get()),
             olds: self.olds,
         };
         for k in path {
             let Some(inner) = below(spot, *k) else {
-                return Err(Stop::Unfit);
+                return Err(NoMove::Unfit);
             };
             spot = inner;
         }
@@ -86,51 +86,51 @@ impl Sketch {
     }
 
     /// The network at the path, with no step yet.
-    pub fn inner(&self, path: &[u32]) -> Result<Sketch, Stop> {
+    pub fn inner(&self, path: &[u32]) -> Result<Sketch, NoMove> {
         let spot = self.at(path)?;
         match spot.tree {
             TreeRef::Net(net) => {
                 let net = copied(self.alloc, net)?;
                 Ok(Sketch::new(self.alloc, net, spot.olds, self.clearing))
             }
-            TreeRef::Expr(_) => Err(Stop::Unfit),
+            TreeRef::Expr(_) => Err(NoMove::Unfit),
         }
     }
 
     /// The network at the path.
-    pub fn net_at(&self, path: &[u32]) -> Result<&Net<Expr>, Stop> {
+    pub fn net_at(&self, path: &[u32]) -> Result<&Net<Expr>, NoMove> {
         match self.at(path)?.tree {
             TreeRef::Net(net) => Ok(net),
-            TreeRef::Expr(_) => Err(Stop::Unfit),
+            TreeRef::Expr(_) => Err(NoMove::Unfit),
         }
     }
 
     /// The expression at the path.
-    pub fn expr_at(&self, path: &[u32]) -> Result<&Expr, Stop> {
+    pub fn expr_at(&self, path: &[u32]) -> Result<&Expr, NoMove> {
         match self.at(path)?.tree {
             TreeRef::Expr(expr) => Ok(expr),
-            TreeRef::Net(_) => Err(Stop::Unfit),
+            TreeRef::Net(_) => Err(NoMove::Unfit),
         }
     }
 
     /// The expression of the `arr` at the path.
-    pub fn arr_at(&self, path: &[u32]) -> Result<&Expr, Stop> {
+    pub fn arr_at(&self, path: &[u32]) -> Result<&Expr, NoMove> {
         match self.net_at(path)? {
             Net::Arr(expr) => Ok(expr),
-            _ => Err(Stop::Unfit),
+            _ => Err(NoMove::Unfit),
         }
     }
 
     /// The network inside the `first` at the path.
-    pub fn first_at(&self, path: &[u32]) -> Result<&Net<Expr>, Stop> {
+    pub fn first_at(&self, path: &[u32]) -> Result<&Net<Expr>, NoMove> {
         match self.net_at(path)? {
             Net::First(inner) => Ok(inner.get()),
-            _ => Err(Stop::Unfit),
+            _ => Err(NoMove::Unfit),
         }
     }
 
     /// Takes a step, where its law has an answer.
-    pub fn take(&mut self, step: LawStep) -> Result<(), Stop> {
+    pub fn take(&mut self, step: LawStep) -> Result<(), NoMove> {
         match self.after(&step) {
             Ok(net) => {
                 self.net = net;
@@ -145,7 +145,7 @@ impl Sketch {
     }
 
     /// The network with what the step's law answers.
-    fn after(&self, step: &LawStep) -> Result<NetChild<Expr>, Stop> {
+    fn after(&self, step: &LawStep) -> Result<NetChild<Expr>, NoMove> {
         let new = self.answer(step)?;
         let net = self.with_tree(&step.position, &new);
         drop(new);
@@ -153,36 +153,36 @@ impl Sketch {
     }
 
     /// What the step's law answers.
-    fn answer(&self, step: &LawStep) -> Result<Tree, Stop> {
+    fn answer(&self, step: &LawStep) -> Result<Tree, NoMove> {
         let spot = self.at(step.position.path())?;
         match spot.tree {
             TreeRef::Net(net) => {
                 let given = given_net(step)?;
                 match apply_law(self.alloc, step.law, step.direction, net, given, spot.olds)? {
                     Some(new) => Ok(Tree::Net(new)),
-                    None => Err(Stop::Unfit),
+                    None => Err(NoMove::Unfit),
                 }
             }
             TreeRef::Expr(expr) => {
                 let given = given_expr(step)?;
                 match apply_expr(self.alloc, step.law, step.direction, expr, given)? {
                     Some(new) => Ok(Tree::Expr(new)),
-                    None => Err(Stop::Unfit),
+                    None => Err(NoMove::Unfit),
                 }
             }
         }
     }
 
     /// The network with the tree at the position.
-    fn with_tree(&self, position: &Position, new: &Tree) -> Result<NetChild<Expr>, Stop> {
+    fn with_tree(&self, position: &Position, new: &Tree) -> Result<NetChild<Expr>, NoMove> {
         match replace(self.alloc, self.net.get(), position, new)? {
             Some(net) => Ok(NetChild::new(self.alloc, net)?),
-            None => Err(Stop::Unfit),
+            None => Err(NoMove::Unfit),
         }
     }
 
     /// Takes a law of networks forward at the path.
-    pub fn forward(&mut self, number: u8, path: &[u32]) -> Result<(), Stop> {
+    pub fn forward(&mut self, number: u8, path: &[u32]) -> Result<(), NoMove> {
         let position = Position::of_node(self.alloc, path)?;
         self.take(LawStep {
             law: Law::L(number),
@@ -198,7 +198,7 @@ impl Sketch {
         number: u8,
         path: &[u32],
         given: NetChild<Expr>,
-    ) -> Result<(), Stop> {
+    ) -> Result<(), NoMove> {
         let step = step_to(self.alloc, number, path, given.get());
         drop(given);
         self.take(step?)
@@ -210,7 +210,7 @@ impl Sketch {
         path: &[u32],
         new: TreeRef<'_>,
         steps: Vec<LawStep>,
-    ) -> Result<(), Stop> {
+    ) -> Result<(), NoMove> {
         self.put(path, new)?;
         for step in steps {
             let step = below_path(self.alloc, path, step)?;
@@ -220,13 +220,13 @@ impl Sketch {
     }
 
     /// Puts the other one's network at the path, to which its steps lead there.
-    pub fn adopt(&mut self, path: &[u32], inner: Sketch) -> Result<(), Stop> {
+    pub fn adopt(&mut self, path: &[u32], inner: Sketch) -> Result<(), NoMove> {
         let Sketch { net, steps, .. } = inner;
         self.took(path, TreeRef::Net(net.get()), steps)
     }
 
     /// Puts the other one's network at the path, where each of its moves is one of this.
-    pub(crate) fn adopt_moves(&mut self, path: &[u32], inner: Sketch) -> Result<(), Stop> {
+    pub(crate) fn adopt_moves(&mut self, path: &[u32], inner: Sketch) -> Result<(), NoMove> {
         let before = self.steps.len();
         for end in &inner.ends {
             self.ends.push(before.saturating_add(*end))?;
@@ -235,7 +235,7 @@ impl Sketch {
     }
 
     /// Takes a move's steps again.
-    pub(crate) fn make_again(&mut self, steps: Vec<LawStep>) -> Result<(), Stop> {
+    pub(crate) fn make_again(&mut self, steps: Vec<LawStep>) -> Result<(), NoMove> {
         for step in steps {
             self.take_again(step)?;
         }
@@ -244,7 +244,7 @@ impl Sketch {
 
     /// Takes a step again: L3 backward, whose tree has all in it that stands behind, to the tree of
     /// what stands there.
-    fn take_again(&mut self, step: LawStep) -> Result<(), Stop> {
+    fn take_again(&mut self, step: LawStep) -> Result<(), NoMove> {
         match (step.law, step.direction) {
             (Law::L(3), Direction::Backward) => {
                 let done = self.regroup(step.position.path());
@@ -256,7 +256,7 @@ impl Sketch {
     }
 
     /// Ends a move, which stands whether or not those behind it can be made.
-    pub(crate) fn end_move(&mut self) -> Result<(), Stop> {
+    pub(crate) fn end_move(&mut self) -> Result<(), NoMove> {
         let count = self.steps.len();
         let ended = match self.ends.last() {
             Some(end) => *end,
@@ -269,7 +269,7 @@ impl Sketch {
     }
 
     /// Puts the tree at the path.
-    fn put(&mut self, path: &[u32], new: TreeRef<'_>) -> Result<(), Stop> {
+    fn put(&mut self, path: &[u32], new: TreeRef<'_>) -> Result<(), NoMove> {
         let position = Position::of_node(self.alloc, path)?;
         let new = copy_of(self.alloc, new)?;
         let net = self.with_tree(&position, &new);
@@ -313,20 +313,20 @@ fn olds_in(net: &Net<Expr>, k: u32) -> u32 {
 }
 
 /// The network that a step gives.
-fn given_net(step: &LawStep) -> Result<Option<&Net<Expr>>, Stop> {
+fn given_net(step: &LawStep) -> Result<Option<&Net<Expr>>, NoMove> {
     match &step.given {
         None => Ok(None),
         Some(Tree::Net(net)) => Ok(Some(net)),
-        Some(Tree::Expr(_)) => Err(Stop::Unfit),
+        Some(Tree::Expr(_)) => Err(NoMove::Unfit),
     }
 }
 
 /// The expression that a step gives.
-fn given_expr(step: &LawStep) -> Result<Option<&Expr>, Stop> {
+fn given_expr(step: &LawStep) -> Result<Option<&Expr>, NoMove> {
     match &step.given {
         None => Ok(None),
         Some(Tree::Expr(expr)) => Ok(Some(expr)),
-        Some(Tree::Net(_)) => Err(Stop::Unfit),
+        Some(Tree::Net(_)) => Err(NoMove::Unfit),
     }
 }
 

@@ -3,7 +3,7 @@
 use crate::build::seq;
 use crate::chain::{behind, length};
 use crate::moves::Built;
-use crate::sketch::{Sketch, Stop};
+use crate::sketch::{NoMove, Sketch};
 use crate::types::type_told;
 use expr_improve::{Rewriting, as_then, input, pair_of};
 use leaf_core::{Expr, Exprs};
@@ -47,7 +47,7 @@ impl SwitchMove {
     }
 
     /// Makes the move, and tells what it built.
-    pub fn make(self, w: &mut Sketch) -> Result<Built, Stop> {
+    pub fn make(self, w: &mut Sketch) -> Result<Built, NoMove> {
         match self {
             SwitchMove::Never => never(w),
             SwitchMove::NeverMembers => {
@@ -70,21 +70,21 @@ impl SwitchMove {
 }
 
 /// The law of a `switch`, or that of a `dSwitch`.
-fn of_two(net: &Net<Expr>, switch: u8, d_switch: u8) -> Result<u8, Stop> {
+fn of_two(net: &Net<Expr>, switch: u8, d_switch: u8) -> Result<u8, NoMove> {
     match net {
         Net::Switch(..) => Ok(switch),
         Net::DSwitch(..) => Ok(d_switch),
-        _ => Err(Stop::Unfit),
+        _ => Err(NoMove::Unfit),
     }
 }
 
-fn switch_in(w: &mut Sketch) -> Result<Built, Stop> {
+fn switch_in(w: &mut Sketch) -> Result<Built, NoMove> {
     let number = of_two(w.net_at(&[1])?, 27, 28)?;
     w.forward(number, &[])?;
     Ok(Built::Both)
 }
 
-fn switch_out(w: &mut Sketch) -> Result<Built, Stop> {
+fn switch_out(w: &mut Sketch) -> Result<Built, NoMove> {
     let number = match w.net_at(&[0])? {
         Net::RSwitch(..) => 36,
         Net::DrSwitch(..) => 45,
@@ -94,7 +94,7 @@ fn switch_out(w: &mut Sketch) -> Result<Built, Stop> {
     Ok(Built::Both)
 }
 
-fn between(w: &mut Sketch) -> Result<Built, Stop> {
+fn between(w: &mut Sketch) -> Result<Built, NoMove> {
     w.arr_at(&[0])?;
     w.arr_at(&[1, 1])?;
     let number = of_two(w.first_at(&[1, 0])?, 33, 34)?;
@@ -105,7 +105,7 @@ fn between(w: &mut Sketch) -> Result<Built, Stop> {
     Ok(Built::Both)
 }
 
-fn beside(w: &mut Sketch) -> Result<Built, Stop> {
+fn beside(w: &mut Sketch) -> Result<Built, NoMove> {
     if let Net::Arr(_) = w.net_at(&[0])? {
         let number = of_two(w.first_at(&[1])?, 33, 34)?;
         w.forward(number, &[1])?;
@@ -117,7 +117,7 @@ fn beside(w: &mut Sketch) -> Result<Built, Stop> {
     switch_out(w)
 }
 
-fn never(w: &mut Sketch) -> Result<Built, Stop> {
+fn never(w: &mut Sketch) -> Result<Built, NoMove> {
     let number = of_two(w.net_at(&[])?, 31, 32)?;
     let count = length(w.net_at(&[0])?);
     let way = behind(w.alloc, &[0], count.saturating_sub(1))?;
@@ -128,7 +128,7 @@ fn never(w: &mut Sketch) -> Result<Built, Stop> {
 }
 
 /// Parts `(arr (pair e (none C)))` at the path in `(arr e)` and what makes the pair of that.
-fn part_never(w: &mut Sketch, path: &[u32]) -> Result<(), Stop> {
+fn part_never(w: &mut Sketch, path: &[u32]) -> Result<(), NoMove> {
     let found = never_apart(w.alloc, w.arr_at(path)?)?;
     w.part_by(path, found)
 }
@@ -145,9 +145,9 @@ fn never_apart(alloc: Global, e: &Expr) -> Result<Option<Rewriting>, Memory> {
     as_then(alloc, e, value.get(), g.get())
 }
 
-fn members_front(w: &mut Sketch) -> Result<Built, Stop> {
+fn members_front(w: &mut Sketch) -> Result<Built, NoMove> {
     let Net::Par(fs) = w.net_at(&[])? else {
-        return Err(Stop::Unfit);
+        return Err(NoMove::Unfit);
     };
     let given = apart(w.alloc, fs.as_slice())?;
     w.backward(41, &[], given)?;
@@ -155,9 +155,9 @@ fn members_front(w: &mut Sketch) -> Result<Built, Stop> {
 }
 
 /// The stage with which all of two or more members begin, and behind it what is left of them.
-fn apart(alloc: Global, fs: &[Net<Expr>]) -> Result<NetChild<Expr>, Stop> {
+fn apart(alloc: Global, fs: &[Net<Expr>]) -> Result<NetChild<Expr>, NoMove> {
     let [Net::Seq(front, _), _, ..] = fs else {
-        return Err(Stop::Unfit);
+        return Err(NoMove::Unfit);
     };
     let members = Members::new(alloc, rests(alloc, fs, front.get())?)?;
     let members = NetChild::new(alloc, Net::Par(members))?;
@@ -165,23 +165,23 @@ fn apart(alloc: Global, fs: &[Net<Expr>]) -> Result<NetChild<Expr>, Stop> {
 }
 
 /// What is left of the members behind the stage with which they all begin.
-fn rests(alloc: Global, fs: &[Net<Expr>], front: &Net<Expr>) -> Result<Vec<Net<Expr>>, Stop> {
+fn rests(alloc: Global, fs: &[Net<Expr>], front: &Net<Expr>) -> Result<Vec<Net<Expr>>, NoMove> {
     let mut all = Vec::new(alloc);
     for f in fs {
         let Net::Seq(begin, rest) = f else {
-            return Err(Stop::Unfit);
+            return Err(NoMove::Unfit);
         };
         if !same_net(begin.get(), front) {
-            return Err(Stop::Unfit);
+            return Err(NoMove::Unfit);
         }
         all.push(rest.get().try_copy(alloc)?)?;
     }
     Ok(all)
 }
 
-fn members_arr(w: &mut Sketch) -> Result<Built, Stop> {
+fn members_arr(w: &mut Sketch) -> Result<Built, NoMove> {
     let Net::Par(fs) = w.net_at(&[])? else {
-        return Err(Stop::Unfit);
+        return Err(NoMove::Unfit);
     };
     let given = list_of(w.alloc, fs.as_slice())?;
     w.backward(42, &[], given)?;
@@ -190,18 +190,18 @@ fn members_arr(w: &mut Sketch) -> Result<Built, Stop> {
 
 /// The `arr` of the list of what members answer that are all `arr`s, where the form of one tells its
 /// type.
-fn list_of(alloc: Global, fs: &[Net<Expr>]) -> Result<NetChild<Expr>, Stop> {
+fn list_of(alloc: Global, fs: &[Net<Expr>]) -> Result<NetChild<Expr>, NoMove> {
     let all = expressions(alloc, fs)?;
     let element = element_told(alloc, all.as_slice())?;
     Ok(NetChild::new(alloc, Net::Arr(Expr::List(element, all)))?)
 }
 
 /// The expressions of members that are all `arr`s.
-fn expressions(alloc: Global, fs: &[Net<Expr>]) -> Result<Exprs, Stop> {
+fn expressions(alloc: Global, fs: &[Net<Expr>]) -> Result<Exprs, NoMove> {
     let mut all = Vec::new(alloc);
     for f in fs {
         let Net::Arr(e) = f else {
-            return Err(Stop::Unfit);
+            return Err(NoMove::Unfit);
         };
         all.push(e.try_copy(alloc)?)?;
     }
@@ -209,11 +209,11 @@ fn expressions(alloc: Global, fs: &[Net<Expr>]) -> Result<Exprs, Stop> {
 }
 
 /// The type of what all these answer, where the form of one tells it.
-fn element_told(alloc: Global, all: &[Expr]) -> Result<Ty, Stop> {
+fn element_told(alloc: Global, all: &[Expr]) -> Result<Ty, NoMove> {
     for e in all {
         if let Some(element) = type_told(alloc, e)? {
             return Ok(element);
         }
     }
-    Err(Stop::Unfit)
+    Err(NoMove::Unfit)
 }

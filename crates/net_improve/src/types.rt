@@ -1,15 +1,15 @@
 // The type of an expression, where its form tells it.
 
-use crate::sketch::Stop;
+use crate::sketch::NoMove;
 use leaf_core::{Expr, ExprChild, Literal};
 use sample_core::{Memory, Ty, TyChild};
 use std::alloc::Global;
 
 /// `(none T)`, with the type T of the expression's values, where its form tells it.
-pub fn none_told(alloc: Global, e: &Expr) -> Result<ExprChild, Stop> {
+pub fn none_told(alloc: Global, e: &Expr) -> Result<ExprChild, NoMove> {
     match type_told(alloc, e)? {
         Some(told) => Ok(ExprChild::new(alloc, Expr::NoEvent(told))?),
-        None => Err(Stop::Unfit),
+        None => Err(NoMove::Unfit),
     }
 }
 

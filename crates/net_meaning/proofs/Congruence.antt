@@ -11,9 +11,9 @@ use Rattle.net_meaning.specs.Typing.{Arrow, arrow, copies, members}
 use Rattle.net_meaning.specs.Environment.{Environment}
 use Rattle.net_meaning.specs.Sameness.{SameLeaf}
 use Rattle.net_meaning.specs.AlikeEnvironments.{AlikeEnvironments, SameOutputs}
-use Rattle.net_meaning.specs.Congruence.{TwinLeaf, ArrLaw, SequenceLaw, FirstLaw, ParallelLaw, LoopLaw, PreviousLaw, DelayLaw, HoldLaw, AccumulateLaw, AfterLaw, RepeatedlyLaw, SwitchLaw, LateSwitchLaw, RestartLaw, FreezeLaw, FreezeMembersLaw}
+use Rattle.net_meaning.specs.Congruence.{TwinLeaf, ArrLaw, SequenceLaw, FirstLaw, ParallelLaw, LoopLaw, PreviousLaw, DelayLaw, HoldLaw, AccumulateLaw, AfterLaw, RepeatedlyLaw, SameSwitchLaw, SameRestartLaw, SameFreezeLaw, SameFreezeMembersLaw}
 use Rattle.net_meaning.proofs.SameNets.{same-arr, same-loop_pre, same-i_pre, same-delay, same-hold, same-accum_by, same-after, same-repeatedly, same-p_switch, same-typed, same-all_typed}
-use Rattle.net_meaning.proofs.SameForms.{seq_same, first_same, loop_same, switch_same, d_switch_same, r_switch_same, k_switch_same, par_same, p_switch_same, twins_left}
+use Rattle.net_meaning.proofs.SameForms.{seq_same, first_same, loop_same, switch_same, r_switch_same, k_switch_same, par_same, p_switch_same, twins_left}
 use Rattle.net_meaning.proofs.StreamLaws.{same-outputs}
 
 pub leaf_same : (Ps : List TypeTree) (A B : TypeTree) (e s : Expression) → ExpressionTyped e Ps A B → SameValue Ps A e s → SameLeaf value_of Ps A B e s
@@ -71,20 +71,17 @@ pub repeatedly_congruent : RepeatedlyLaw
 repeatedly_congruent Ps Os A C q c d h =
     same-outputs Ps Os (repeatedly q c) (repeatedly q d) A (event_ty C) (same-repeatedly value_of q c d (twin_leaf Ps unit_ty C c d h))
 
-pub switch_congruent : SwitchLaw
-switch_congruent Ps Os A B C f f' t t' p q = switch_same Ps Os A B C f f' t t' p.one_typed q.one_typed p.same q.same
+pub switch_congruent : SameSwitchLaw
+switch_congruent tm Ps Os A B C f f' t t' p q = switch_same tm Ps Os A B C f f' t t' p.one_typed q.one_typed p.same q.same
 
-pub late_switch_congruent : LateSwitchLaw
-late_switch_congruent Ps Os A B C f f' t t' p q = d_switch_same Ps Os A B C f f' t t' p.one_typed q.one_typed p.same q.same
+pub restart_congruent : SameRestartLaw
+restart_congruent tm Ps Os D B C f f' t t' p q = r_switch_same tm Ps Os D B C f f' t t' p.one_typed q.one_typed p.same q.same
 
-pub restart_congruent : RestartLaw
-restart_congruent Ps Os D B C f f' t t' p q = r_switch_same Ps Os D B C f f' t t' p.one_typed q.one_typed p.same q.same
-
-pub freeze_congruent : FreezeLaw
+pub freeze_congruent : SameFreezeLaw
 freeze_congruent Ps Os A B C f f' e e' t t' p q r =
     k_switch_same Ps Os A B C f f' e e' t t' p.one_typed p.other_typed q.one_typed r.one_typed p.same q.same r.same
 
-pub freeze_members_congruent : FreezeMembersLaw
+pub freeze_members_congruent : SameFreezeMembersLaw
 freeze_members_congruent Ps Os A B C D r s fs gs e e' t t' few h hs p q =
     both Ps Os A (p_switch r fs e t) (p_switch s fs e t) (p_switch s gs e' t')
     (same-outputs Ps Os (p_switch r fs e t) (p_switch s fs e t) A (list_ty B)

@@ -8,7 +8,6 @@ pub mod Switched
 pub mod Resumed
 pub mod Switches
 pub mod Restarting
-pub mod LateRestarts
 pub mod Openings
 pub mod RelatedMembers
 pub mod MemberPieces
@@ -30,6 +29,5 @@ pub mod SameOutputs
 pub mod Steps
 pub mod PlainSteps
 pub mod SwitchSteps
-pub mod RestartSteps
 pub mod CellSteps
 pub mod TypingMap

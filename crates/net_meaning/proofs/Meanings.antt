@@ -2,17 +2,16 @@
 use Rattle.std.proofs.Common.{◌≡◌, ℕ, zero, suc, List, [], ◌∷◌, ◌++◌, length, take}
 use Rattle.sample_core.specs.Datum.{Datum, unit}
 use Rattle.net_meaning.specs.SignalFunction.{TimedList, SignalFunction, retime, IsSignalFunction}
-use Rattle.net_tree.specs.Network.{Network, Networks, arr, seq, first, par, loop_pre, initial_out, initial_in, i_pre, delay, hold, accum_by, after, repeatedly, time, integral, switch, d_switch, r_switch, dr_switch, rp_switch, k_switch, p_switch, old, no_members, and_member}
+use Rattle.net_tree.specs.Network.{Network, Networks, arr, seq, first, par, loop_pre, initial_out, initial_in, i_pre, delay, hold, accum_by, after, repeatedly, time, integral, switch, r_switch, rp_switch, k_switch, p_switch, old, no_members, and_member}
 use Rattle.net_meaning.specs.Meaning.{Context, with_param, with_olds, old_at, meaning, meanings}
 use Rattle.net_meaning.specs.Environment.{Environment, context_of, outputs, closed, param, frozen}
 use Rattle.net_meaning.proofs.Cells.{IsSignal-map, IsSignal-values, IsSignal-previous_of, IsSignal-delay_value, IsSignal-latest_event, IsSignal-accumulation, IsSignal-after_value, IsSignal-repeatedly_value, IsSignal-clock, IsSignal-integral_value}
 use Rattle.net_meaning.proofs.Plain.{AllSignals, no_signal, and_signal, IsSignal-sequence, IsSignal-on_left, IsSignal-in_parallel}
 use Rattle.net_meaning.proofs.Feedback.{IsSignal-feedback}
 use Rattle.net_meaning.proofs.Resumed.{IsSignal-resume}
-use Rattle.net_meaning.proofs.Switches.{IsSignal-switching, IsSignal-switching_late, IsSignal-switching_on, IsSignal-switching_all}
+use Rattle.net_meaning.proofs.Switches.{IsSignal-switching, IsSignal-switching_on, IsSignal-switching_all}
 use Rattle.net_meaning.proofs.Restarting.{IsSignal-restarting}
 use Rattle.net_meaning.proofs.Openings.{IsSignal-initial_out, IsSignal-initial_in}
-use Rattle.net_meaning.proofs.LateRestarts.{IsSignal-restarting_late}
 use Rattle.net_meaning.proofs.Collections.{IsSignal-reselecting}
 
 pub AllSignals-append : (fs gs : List SignalFunction) → AllSignals fs → AllSignals gs → AllSignals (fs ++ gs)
@@ -40,11 +39,9 @@ mutual
   IsSignal-meaning val (repeatedly q c) E s = IsSignal-repeatedly_value q (val c E.params unit)
   IsSignal-meaning val time E s = IsSignal-clock
   IsSignal-meaning val integral E s = IsSignal-integral_value
-  IsSignal-meaning val (switch f t) E s = IsSignal-switching (meaning val f E) (λ c. meaning val t (with_param E c)) (IsSignal-meaning val f E s)
+  IsSignal-meaning val (switch tm f t) E s = IsSignal-switching tm (meaning val f E) (λ c. meaning val t (with_param E c)) (IsSignal-meaning val f E s)
       (λ c. IsSignal-meaning val t (with_param E c) s)
-  IsSignal-meaning val (d_switch f t) E s = IsSignal-switching_late (meaning val f E) (λ c. meaning val t (with_param E c)) (IsSignal-meaning val f E s)
-      (λ c. IsSignal-meaning val t (with_param E c) s)
-  IsSignal-meaning val (r_switch f t) E s = IsSignal-restarting (λ c. meaning val t (with_param E c)) (λ c. IsSignal-meaning val t (with_param E c) s)
+  IsSignal-meaning val (r_switch tm f t) E s = IsSignal-restarting tm (λ c. meaning val t (with_param E c)) (λ c. IsSignal-meaning val t (with_param E c) s)
       (meaning val f E) (IsSignal-meaning val f E s)
   IsSignal-meaning val (k_switch f e t) E s =
       IsSignal-switching_on (meaning val f E) (meaning val e E) (λ c o. meaning val t (with_olds (with_param E c) (o ∷ [])))
@@ -57,8 +54,6 @@ mutual
   IsSignal-meaning val (old k) E s = IsSignal-old_at E.olds s k
   IsSignal-meaning val (initial_out c f) E s = IsSignal-initial_out (val c E.params unit) (meaning val f E) (IsSignal-meaning val f E s)
   IsSignal-meaning val (initial_in c f) E s = IsSignal-initial_in (val c E.params unit) (meaning val f E) (IsSignal-meaning val f E s)
-  IsSignal-meaning val (dr_switch f t) E s = IsSignal-restarting_late (λ c. meaning val t (with_param E c))
-      (λ c. IsSignal-meaning val t (with_param E c) s) (meaning val f E) (IsSignal-meaning val f E s)
   IsSignal-meaning val (rp_switch fs m t) E s = IsSignal-reselecting (val m E.params) (λ v. meaning val t (with_param E v))
       (λ v. IsSignal-meaning val t (with_param E v) s) (meanings val fs E) (AllSignals-meanings val fs E s)
 

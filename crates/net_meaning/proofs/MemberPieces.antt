@@ -4,8 +4,7 @@ use Rattle.std.proofs.lemmas.List.{take-append-le, take_at}
 use Rattle.sample_core.specs.Datum.{Datum, left, right, pair, event}
 use Rattle.net_meaning.specs.SignalFunction.{TimedList, pieces, Member, items_of, chosen, moved, by_members}
 use Rattle.net_meaning.proofs.Switched.{take_into_at}
-use Rattle.net_meaning.proofs.Restarting.{IsUncut, uncut_or_cut}
-use Rattle.net_meaning.proofs.LateRestarts.{KeepsPace}
+use Rattle.net_meaning.proofs.Restarting.{IsUncut, uncut_or_cut, KeepsPace}
 use Rattle.net_meaning.proofs.RelatedMembers.{any_values, AllRelated, related-selected, related-moved}
 
 module _ {X Y : Type 0} (give : List (Member X) → TimedList → List Y) (m : Datum → Datum) (t : Datum → X) where

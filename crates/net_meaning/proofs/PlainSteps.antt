@@ -164,15 +164,3 @@ answer-feedback c f sf p x =
     let y : ℕ × Datum = (x.0, pair x.1 (fed_next c f p)) in
     answer_is (loop_pre_function c f) p x (map left (f (fed c f p))) (left (answer f (fed c f p) y))
     (ap (λ ys. map left (f ys)) (fed_push c f sf p x) ∙ ap (map left) (signal-push f sf (fed c f p) y) ∙ map_push left (f (fed c f p)) (answer f (fed c f p) y))
-
-pub fed_next-nil : (c : Datum) (f : SignalFunction) → IsSignalFunction f → fed_next c f [] ≡ c
-fed_next-nil c f sf = ap (λ vs. last_or c (map right vs)) (sf.causal 0 [])
-
-pub fed_next_push : (c : Datum) (f : SignalFunction) → IsSignalFunction f → (p : TimedList) (x : ℕ × Datum)
-    → fed_next c f (p ++ x ∷ []) ≡ right (answer f (fed c f p) (x.0, pair x.1 (fed_next c f p)))
-fed_next_push c f sf p x =
-    let y : ℕ × Datum = (x.0, pair x.1 (fed_next c f p)) in
-    ap (λ ys. last_or c (map right (f ys))) (fed_push c f sf p x)
-    ∙ ap (λ vs. last_or c (map right vs)) (signal-push f sf (fed c f p) y)
-    ∙ ap (last_or c) (map_push right (f (fed c f p)) (answer f (fed c f p) y))
-    ∙ last_or-push c (map right (f (fed c f p))) (right (answer f (fed c f p) y))

@@ -1,8 +1,9 @@
--- `rSwitch` of signals is a signal.
-use Rattle.std.proofs.Common.{◌≡◌, ◌⊎◌, ℕ, zero, suc, ◌+◌, List, [], ◌∷◌, ◌++◌, flat_map, length, take, refl, sym, ap, ◌∙◌, arith, inl, inr, append-nil, append_assoc, length-append, take_all}
-use Rattle.std.proofs.lemmas.List.{take-append-le, take_at}
+-- `rSwitch` and `drSwitch` of signals are signals.
+use Rattle.std.proofs.Common.{◌≡◌, ◌⊎◌, ℕ, zero, suc, ◌+◌, ◌-◌, ◌≤◌, List, [], ◌∷◌, ◌++◌, flat_map, length, take, drop, refl, sym, ap, ap₂, ◌∙◌, arith, inl, inr, append-nil, append_assoc, length-append, length-take, length-drop, take_all}
+use Rattle.std.proofs.lemmas.List.{drop-take, take-append-le, take_at}
 use Rattle.sample_core.specs.Datum.{Datum, left, pair, event}
-use Rattle.net_meaning.specs.SignalFunction.{TimedList, SignalFunction, Pieces, put_sample, pieces, r_switch_function, retime, IsSignalFunction}
+use Rattle.net_tree.specs.Network.{Timing, at_once, delayed}
+use Rattle.net_meaning.specs.SignalFunction.{TimedList, SignalFunction, Pieces, put_sample, pieces, until, lap, each_piece, r_switch_function, retime, IsSignalFunction}
 use Rattle.net_meaning.proofs.Switched.{take_into_at}
 
 -- a sample without an event
@@ -13,87 +14,159 @@ pub uncut_or_cut : (v : Datum) → IsUncut v ⊎ ((a c : Datum) × (v ≡ pair a
 uncut_or_cut (pair a (event c)) = inr (a, c, refl)
 uncut_or_cut _ = inl (λ d p. refl)
 
--- f has seen q of its piece
-abbrev pub from : SignalFunction → (Datum → SignalFunction) → TimedList → TimedList → List Datum
-from f t q xs = f (q ++ (pieces xs).0) ++ flat_map (λ piece. t piece.0 piece.1) (pieces xs).1
+-- as many items as samples, and no look ahead: outputs, or counts
+pub record KeepsPace {Y : Type 0} (f : TimedList → List Y) : Type 0 where
+  pub sized : (xs : TimedList) → length (f xs) ≡ length xs
+  pub causal : (n : ℕ) (xs : TimedList) → f (take n xs) ≡ take n (f xs)
 
-pub from-uncut : (f : SignalFunction) (t : Datum → SignalFunction) (q : TimedList) (d : ℕ) (v : Datum) (xs : TimedList) → IsUncut v
-    → from f t q ((d, v) ∷ xs) ≡ from f t (q ++ (d, left v) ∷ []) xs
-from-uncut f t q d v xs u =
-    ap (λ ps. f (q ++ ps.0) ++ flat_map (λ piece. t piece.0 piece.1) ps.1) (u d (pieces xs))
-    ∙ ap (λ ys. f ys ++ flat_map (λ piece. t piece.0 piece.1) (pieces xs).1) (sym (append_assoc q ((d, left v) ∷ []) (pieces xs).0))
+pub signal_keeps : (f : SignalFunction) → IsSignalFunction f → KeepsPace f
+signal_keeps f sf = record { sized = sf.sized; causal = sf.causal }
 
-pub from-cut : (f : SignalFunction) (t : Datum → SignalFunction) (q : TimedList) (d : ℕ) (a c : Datum) (xs : TimedList)
-    → from f t q ((d, pair a (event c)) ∷ xs) ≡ f q ++ from (t c) t ((d, a) ∷ []) xs
-from-cut f t q d a c xs = ap (λ p. f p ++ from (t c) t ((d, a) ∷ []) xs) (append-nil q)
+-- at most the event's own sample is the one of what ran before
+pub until_first : (tm : Timing) → until tm 0 ≤ 1
+until_first at_once = omega arith
+until_first delayed = omega arith
 
-pub from-nil : (f : SignalFunction) (t : Datum → SignalFunction) (q : TimedList) → from f t q [] ≡ f q
-from-nil f t q = append-nil (f (q ++ [])) ∙ ap f (append-nil q)
+-- that sample, or none
+abbrev pub own : Timing → ℕ × Datum → TimedList
+own tm x = take (until tm 0) (x ∷ [])
 
-module _ (t : Datum → SignalFunction) (st : (c : Datum) → IsSignalFunction (t c)) where
-  pub length-from : (f : SignalFunction) → IsSignalFunction f → (q xs : TimedList) → length (from f t q xs) ≡ length q + length xs
-  length-from f sf q [] = ap length (from-nil f t q) ∙ sf.sized q ∙ (omega arith)
-  length-from f sf q (x ∷ xs) = elim (uncut_or_cut x.1) [
-    | inl u ↦
-        let ih : length (from f t (q ++ (x.0, left x.1) ∷ []) xs) ≡ length (q ++ (x.0, left x.1) ∷ [])
-        + length xs = length-from f sf (q ++ (x.0, left x.1) ∷ []) xs in
-        ap length (from-uncut f t q x.0 x.1 xs u) ∙ (omega (arith, length-append q ((x.0, left x.1) ∷ [])))
-    | inr h ↦
-        let ih : length (from (t h.1) t ((x.0, h.0) ∷ []) xs) ≡ 1 + length xs = length-from (t h.1) (st h.1) ((x.0, h.0) ∷ []) xs in
-        let l : length (f q) ≡ length q = sf.sized q in
-        ap (λ v. length (from f t q ((x.0, v) ∷ xs))) h.2 ∙ ap length (from-cut f t q x.0 h.0 h.1 xs)
-        ∙ (omega (arith, length-append (f q) (from (t h.1) t ((x.0, h.0) ∷ []) xs)))
-  ]
+own-retime : (tm : Timing) (f : SignalFunction) → IsSignalFunction f → (d e : ℕ) (a : Datum) → f (own tm (d, a)) ≡ f (own tm (e, a))
+own-retime at_once f sf d e a = refl
+own-retime delayed f sf d e a = sf.timeless d ((e, a) ∷ [])
 
-  -- the outputs to the samples seen
-  from-front : (f : SignalFunction) → IsSignalFunction f → (q xs : TimedList) → take (length q) (from f t q xs) ≡ f q
-  from-front f sf q xs =
-      let p : TimedList = (pieces xs).0 in
-      let l : length (f (q ++ p)) ≡ length (q ++ p) = sf.sized (q ++ p) in
-      let a : length (q ++ p) ≡ length q + length p = length-append q p in
-      take-append-le (length q) (f (q ++ p)) (flat_map (λ piece. t piece.0 piece.1) (pieces xs).1) (omega arith)
-      ∙ sym (sf.causal (length q) (q ++ p))
-      ∙ ap f (take_at q p (length q) refl)
+-- f has seen q of its piece; its first k outputs aren't put out
+abbrev pub from : {Y : Type 0} → Timing → ℕ → (TimedList → List Y) → (Datum → TimedList → List Y) → TimedList → TimedList → List Y
+from tm k f t q xs = drop k (f (q ++ ((pieces xs).0 ++ lap tm (pieces xs).1))) ++ each_piece tm t (pieces xs).1
 
-  from-take : (f : SignalFunction) → IsSignalFunction f → (q : TimedList) (n : ℕ) (xs : TimedList)
-      → from f t q (take n xs) ≡ take (length q + n) (from f t q xs)
-  from-take f sf q zero xs = let e : length q + 0 ≡ length q = omega arith in from-nil f t q ∙ sym (from-front f sf q xs)
-      ∙ ap (λ k. take k (from f t q xs)) (sym e)
-  from-take f sf q (suc n) [] =
-      let l : length (from f t q []) ≡ length q + 0 = length-from f sf q [] in
-      sym (take_all (length q + suc n) (from f t q []) (omega arith))
-  from-take f sf q (suc n) (x ∷ xs) = elim (uncut_or_cut x.1) [
+module _ {Y : Type 0} (tm : Timing) (k : ℕ) (f : TimedList → List Y) (t : Datum → TimedList → List Y) (q : TimedList) where
+  pub from-uncut : (d : ℕ) (v : Datum) (xs : TimedList) → IsUncut v → from tm k f t q ((d, v) ∷ xs) ≡ from tm k f t (q ++ (d, left v) ∷ []) xs
+  from-uncut d v xs u =
+      ap (λ ps. drop k (f (q ++ (ps.0 ++ lap tm ps.1))) ++ each_piece tm t ps.1) (u d (pieces xs))
+      ∙ ap (λ ys. drop k (f ys) ++ each_piece tm t (pieces xs).1) (sym (append_assoc q ((d, left v) ∷ []) ((pieces xs).0 ++ lap tm (pieces xs).1)))
+
+  pub from-nil : from tm k f t q [] ≡ drop k (f q)
+  from-nil = append-nil (drop k (f (q ++ []))) ∙ ap (λ ys. drop k (f ys)) (append-nil q)
+
+pub from-cut : {Y : Type 0} (tm : Timing) (k : ℕ) (f : TimedList → List Y) (t : Datum → TimedList → List Y) (q : TimedList) (d : ℕ) (a c : Datum) (xs : TimedList)
+    → from tm k f t q ((d, pair a (event c)) ∷ xs) ≡ drop k (f (q ++ own tm (d, a))) ++ from tm (until tm 0) (t c) t ((d, a) ∷ []) xs
+from-cut at_once k f t q d a c xs = refl
+from-cut delayed k f t q d a c xs = refl
+
+module _ {Y : Type 0} (tm : Timing) (t : Datum → TimedList → List Y) (lt : (c : Datum) (xs : TimedList) → length (t c xs) ≡ length xs) where
+  length-from : (k : ℕ) (f : TimedList → List Y) → ((xs : TimedList) → length (f xs) ≡ length xs) → (q xs : TimedList) → k ≤ length q
+      → length (from tm k f t q xs) + k ≡ length q + length xs
+  length-from k f lf q [] l =
+      let e : length (from tm k f t q []) ≡ length (drop k (f q)) = ap length (from-nil tm k f t q) in
+      let s : length (f q) ≡ length q = lf q in
+      omega (arith, length-drop k (f q))
+  length-from k f lf q (x ∷ xs) l = elim (uncut_or_cut x.1) [
     | inl u ↦
         let q' : TimedList = q ++ (x.0, left x.1) ∷ [] in
-        let e : length q' + n ≡ length q + suc n = omega (arith, length-append q ((x.0, left x.1) ∷ [])) in
-        from-uncut f t q x.0 x.1 (take n xs) u ∙ from-take f sf q' n xs ∙ ap (λ k. take k (from f t q' xs)) e
-        ∙ ap (take (length q + suc n)) (sym (from-uncut f t q x.0 x.1 xs u))
+        let lq : length q' ≡ length q + 1 = length-append q ((x.0, left x.1) ∷ []) in
+        let ih : length (from tm k f t q' xs) + k ≡ length q' + length xs = length-from k f lf q' xs (omega arith) in
+        let e : length (from tm k f t q (x ∷ xs)) ≡ length (from tm k f t q' xs) = ap length (from-uncut tm k f t q x.0 x.1 xs u) in
+        omega arith
     | inr h ↦
-        let q' : TimedList = (x.0, h.0) ∷ [] in
-        let e : 1 + n ≡ suc n = omega arith in
-        ap (λ v. from f t q ((x.0, v) ∷ take n xs)) h.2
-        ∙ from-cut f t q x.0 h.0 h.1 (take n xs)
-        ∙ ap (λ vs. f q ++ vs) (from-take (t h.1) (st h.1) q' n xs ∙ ap (λ k. take k (from (t h.1) t q' xs)) e)
-        ∙ sym (take_into_at (f q) (from (t h.1) t q' xs) (length q) (suc n) (sf.sized q))
-        ∙ ap (take (length q + suc n)) (sym (ap (λ v. from f t q ((x.0, v) ∷ xs)) h.2 ∙ from-cut f t q x.0 h.0 h.1 xs))
+        let s : ℕ × Datum = (x.0, h.0) in
+        let q' : TimedList = q ++ own tm s in
+        let lq : length q' ≡ length q + length (own tm s) = length-append q (own tm s) in
+        let le : length (f q') ≡ length q' = lf q' in
+        let over : List Y = from tm (until tm 0) (t h.1) t (s ∷ []) xs in
+        let ih : length over + until tm 0 ≡ 1 + length xs = length-from (until tm 0) (t h.1) (lt h.1) (s ∷ []) xs (until_first tm) in
+        let e : length (from tm k f t q (x ∷ xs)) ≡ length (drop k (f q') ++ over) =
+        ap (λ v. length (from tm k f t q ((x.0, v) ∷ xs))) h.2 ∙ ap length (from-cut tm k f t q x.0 h.0 h.1 xs) in
+        omega (arith, until_first tm, length-take (until tm 0) (s ∷ []), length-append (drop k (f q')) over, length-drop k (f q'))
   ]
 
-  from-retime : (f : SignalFunction) → IsSignalFunction f → (d : ℕ) (xs : TimedList) → from f t [] (retime d xs) ≡ from f t [] xs
-  from-retime f sf d [] = refl
-  from-retime f sf d (x ∷ xs) = elim (uncut_or_cut x.1) [
+  pub length-restarting : (f : TimedList → List Y) → ((xs : TimedList) → length (f xs) ≡ length xs) → (xs : TimedList)
+      → length (r_switch_function tm f t xs) ≡ length xs
+  length-restarting f lf xs = let e : length (from tm 0 f t [] xs) + 0 ≡ 0 + length xs = length-from 0 f lf [] xs (omega arith) in omega arith
+
+module _ {Y : Type 0} (tm : Timing) (t : Datum → TimedList → List Y) (st : (c : Datum) → KeepsPace (t c)) where
+  -- the outputs to the samples seen
+  from-front : (k m : ℕ) (f : TimedList → List Y) → KeepsPace f → (q xs : TimedList) → k + m ≡ length q → take m (from tm k f t q xs) ≡ drop k (f q)
+  from-front k m f sf q xs e =
+      let r : TimedList = (pieces xs).0 ++ lap tm (pieces xs).1 in
+      let l : length (f (q ++ r)) ≡ length (q ++ r) = sf.sized (q ++ r) in
+      let a : length (q ++ r) ≡ length q + length r = length-append q r in
+      take-append-le m (drop k (f (q ++ r))) (each_piece tm t (pieces xs).1) (omega (arith, length-drop k (f (q ++ r))))
+      ∙ sym (drop-take k m (f (q ++ r)))
+      ∙ ap (drop k) (sym (sf.causal (k + m) (q ++ r)) ∙ ap f (take_at q r (k + m) (sym e)))
+
+  from-take : (k m : ℕ) (f : TimedList → List Y) → KeepsPace f → (q : TimedList) (n : ℕ) (xs : TimedList) → k + m ≡ length q
+      → from tm k f t q (take n xs) ≡ take (m + n) (from tm k f t q xs)
+  from-take k m f sf q zero xs e =
+      let z : m + 0 ≡ m = omega arith in
+      from-nil tm k f t q ∙ sym (from-front k m f sf q xs e) ∙ ap (λ j. take j (from tm k f t q xs)) (sym z)
+  from-take k m f sf q (suc n) [] e =
+      let l : length (from tm k f t q []) + k ≡ length q + 0 = length-from tm t (λ c. (st c).sized) k f sf.sized q [] (omega arith) in
+      sym (take_all (m + suc n) (from tm k f t q []) (omega arith))
+  from-take k m f sf q (suc n) (x ∷ xs) e = elim (uncut_or_cut x.1) [
     | inl u ↦
-        from-uncut f t [] d x.1 xs u
-        ∙ ap (λ vs. vs ++ flat_map (λ piece. t piece.0 piece.1) (pieces xs).1) (sf.timeless d ((x.0, left x.1) ∷ (pieces xs).0))
-        ∙ sym (from-uncut f t [] x.0 x.1 xs u)
+        let q' : TimedList = q ++ (x.0, left x.1) ∷ [] in
+        let lq : length q' ≡ length q + 1 = length-append q ((x.0, left x.1) ∷ []) in
+        let z : suc m + n ≡ m + suc n = omega arith in
+        from-uncut tm k f t q x.0 x.1 (take n xs) u ∙ from-take k (suc m) f sf q' n xs (omega arith) ∙ ap (λ j. take j (from tm k f t q' xs)) z
+        ∙ ap (take (m + suc n)) (sym (from-uncut tm k f t q x.0 x.1 xs u))
     | inr h ↦
-        ap (λ v. from f t [] ((d, v) ∷ xs)) h.2
-        ∙ ap (λ vs. f [] ++ (vs ++ flat_map (λ piece. t piece.0 piece.1) (pieces xs).1)) ((st h.1).timeless d ((x.0, h.0) ∷ (pieces xs).0))
-        ∙ ap (λ v. from f t [] ((x.0, v) ∷ xs)) (sym h.2)
+        let s : ℕ × Datum = (x.0, h.0) in
+        let o : ℕ = until tm 0 in
+        let q' : TimedList = q ++ own tm s in
+        let lq : length q' ≡ length q + length (own tm s) = length-append q (own tm s) in
+        let lf : length (f q') ≡ length q' = sf.sized q' in
+        let over : List Y = from tm o (t h.1) t (s ∷ []) xs in
+        let ld : length (drop k (f q')) ≡ m + o = omega (arith, until_first tm, length-take o (s ∷ []), length-drop k (f q')) in
+        let z : (m + o) + (1 - o + n) ≡ m + suc n = omega (arith, until_first tm) in
+        let cut : (ys : TimedList) → from tm k f t q ((x.0, x.1) ∷ ys) ≡ drop k (f q') ++ from tm o (t h.1) t (s ∷ []) ys =
+        λ ys. ap (λ v. from tm k f t q ((x.0, v) ∷ ys)) h.2 ∙ from-cut tm k f t q x.0 h.0 h.1 ys in
+        cut (take n xs)
+        ∙ ap (λ vs. drop k (f q') ++ vs) (from-take o (1 - o) (t h.1) (st h.1) (s ∷ []) n xs (omega (arith, until_first tm)))
+        ∙ sym (take_into_at (drop k (f q')) over (m + o) (1 - o + n) ld)
+        ∙ ap (λ j. take j (drop k (f q') ++ over)) z
+        ∙ ap (take (m + suc n)) (sym (cut xs))
   ]
 
-  pub IsSignal-restarting : (f : SignalFunction) → IsSignalFunction f → IsSignalFunction (r_switch_function f t)
-  IsSignal-restarting f sf = record {
-    sized = λ xs. length-from f sf [] xs ∙ (omega arith);
-    causal = λ n xs. let e : 0 + n ≡ n = omega arith in from-take f sf [] n xs ∙ ap (λ k. take k (r_switch_function f t xs)) e;
-    timeless = from-retime f sf;
+  pub restarting_keeps : (f : TimedList → List Y) → KeepsPace f → KeepsPace (r_switch_function tm f t)
+  restarting_keeps f sf = record {
+    sized = length-restarting tm t (λ c. (st c).sized) f sf.sized;
+    causal = λ n xs. let e : 0 + n ≡ n = omega arith in from-take 0 0 f sf [] n xs (omega arith) ∙ ap (λ k. take k (from tm 0 f t [] xs)) e;
   }
+
+module _ (tm : Timing) (t : Datum → SignalFunction) (st : (c : Datum) → IsSignalFunction (t c)) where
+  from-retime : (f : SignalFunction) → IsSignalFunction f → (d : ℕ) (xs : TimedList) → from tm 0 f t [] (retime d xs) ≡ from tm 0 f t [] xs
+  from-retime f sf d [] = refl
+  from-retime f sf d (x ∷ xs) =
+      let r : TimedList = (pieces xs).0 ++ lap tm (pieces xs).1 in elim (uncut_or_cut x.1) [
+        | inl u ↦
+            from-uncut tm 0 f t [] d x.1 xs u
+            ∙ ap (λ vs. vs ++ each_piece tm t (pieces xs).1) (sf.timeless d ((x.0, left x.1) ∷ r))
+            ∙ sym (from-uncut tm 0 f t [] x.0 x.1 xs u)
+        | inr h ↦
+            ap (λ v. from tm 0 f t [] ((d, v) ∷ xs)) h.2
+            ∙ from-cut tm 0 f t [] d h.0 h.1 xs
+            ∙ ap₂ (λ vs ws. vs ++ (drop (until tm 0) ws ++ each_piece tm t (pieces xs).1)) (own-retime tm f sf d x.0 h.0) ((st h.1).timeless d ((x.0, h.0) ∷ r))
+            ∙ sym (from-cut tm 0 f t [] x.0 h.0 h.1 xs)
+            ∙ ap (λ v. from tm 0 f t [] ((x.0, v) ∷ xs)) (sym h.2)
+      ]
+
+  pub IsSignal-restarting : (f : SignalFunction) → IsSignalFunction f → IsSignalFunction (r_switch_function tm f t)
+  IsSignal-restarting f sf =
+      let k = restarting_keeps tm t (λ c. signal_keeps (t c) (st c)) f (signal_keeps f sf) in
+      record { sized = k.sized; causal = k.causal; timeless = from-retime f sf }
+
+-- what starts at once runs on its piece alone
+lap-at_once : (qs : List (Datum × TimedList)) → lap at_once qs ≡ []
+lap-at_once [] = refl
+lap-at_once (q ∷ qs) = refl
+
+alone : {Y : Type 0} (f : TimedList → List Y) (q : TimedList) (qs : List (Datum × TimedList)) → f (q ++ lap at_once qs) ≡ f q
+alone f q qs = ap f (ap (λ l. q ++ l) (lap-at_once qs) ∙ append-nil q)
+
+each_piece-at_once : {Y : Type 0} (t : Datum → TimedList → List Y) (qs : List (Datum × TimedList)) → each_piece at_once t qs ≡ flat_map (λ p. t p.0 p.1) qs
+each_piece-at_once t [] = refl
+each_piece-at_once t (q ∷ qs) = ap₂ (λ vs ws. vs ++ ws) (alone (t q.0) q.1 qs) (each_piece-at_once t qs)
+
+pub restarting-at_once : {Y : Type 0} (f : TimedList → List Y) (t : Datum → TimedList → List Y) (xs : TimedList)
+    → r_switch_function at_once f t xs ≡ f (pieces xs).0 ++ flat_map (λ p. t p.0 p.1) (pieces xs).1
+restarting-at_once f t xs = ap₂ (λ vs ws. vs ++ ws) (alone f (pieces xs).0 (pieces xs).1) (each_piece-at_once t (pieces xs).1)

@@ -41,13 +41,6 @@ SameAt-after h f f' s hf = record {
   typed = λ xs k. TypedValues-map h (f xs) s (hf.typed xs k);
 }
 
-pub SameAt-before : {A B C : TypeTree} (h : Datum → Datum) (f f' : SignalFunction) → ((v : Datum) → HasType v A → HasType (h v) B) → SameAt B C f f'
-    → SameAt A C (λ xs. f (each_value h xs)) (λ xs. f' (each_value h xs))
-SameAt-before h f f' s hf = record {
-  same = λ xs k. hf.same (each_value h xs) (typed_each_value h xs s k);
-  typed = λ xs k. hf.typed (each_value h xs) (typed_each_value h xs s k);
-}
-
 all_of-same : {A B : TypeTree} (fs gs : List SignalFunction) → AllSameAt A B fs gs → (xs : TimedList) → TypedSamples A xs → all_of fs xs ≡ all_of gs xs
 all_of-same fs gs no_twin xs k = refl
 all_of-same fs gs (and_twin {fs = fs'} {gs = gs'} sf sg h a) xs k = ap₂ (λ r rs. r ∷ rs) (h.same xs k) (all_of-same fs' gs' a xs k)

@@ -8,22 +8,21 @@ use Rattle.leaf_core.specs.ExpressionValue.{value_of}
 use Rattle.leaf_core.specs.ExpressionTyping.{ExpressionTyped}
 use Rattle.leaf_core.proofs.Soundness.{typed_value}
 use Rattle.net_meaning.specs.SignalFunction.{TimedList, SignalFunction, IsSignalFunction, loop_pre_function, initial_out_function, initial_in_function, watch, collect, route, route_each, freeze_all, resume}
-use Rattle.net_tree.specs.Network.{Network, Networks, seq, first, par, loop_pre, switch, d_switch, r_switch, k_switch, p_switch, no_members, and_member}
+use Rattle.net_tree.specs.Network.{Timing, Network, Networks, seq, first, par, loop_pre, switch, r_switch, k_switch, p_switch, no_members, and_member}
 use Rattle.net_meaning.specs.Meaning.{Context, with_param, with_olds, old_at, meaning, meanings}
 use Rattle.net_meaning.specs.Environment.{Environment, param, frozen, context_of, param_typed, frozen_typed}
 use Rattle.net_meaning.specs.Typing.{Arrow, arrow, OldAt, old_here, old_after, copies, members, TypedSamples, AllTyped, AnyType, no_members_typed, and_member_typed}
 use Rattle.net_meaning.specs.TypedNetwork.{outputs_of, NetTyped}
 use Rattle.net_meaning.specs.Sameness.{SameAt, AllSameAt, no_twin, and_twin, AllOlds, no_olds, and_old}
 use Rattle.net_meaning.specs.AlikeEnvironments.{EnvironmentTyped, AlikeEnvironments, SameOutputs}
-use Rattle.net_meaning.specs.Congruence.{TwinLeaf, TwinMembers, no_twins, and_twins, InitialOutLaw, InitialInLaw, LateRestartLaw, CollectionLaw}
+use Rattle.net_meaning.specs.Congruence.{TwinLeaf, TwinMembers, no_twins, and_twins, InitialOutLaw, InitialInLaw, SameCollectionLaw}
 use Rattle.net_meaning.proofs.Openings.{SameAt-initial_out, SameAt-initial_in}
-use Rattle.net_meaning.proofs.LateRestarts.{SameAt-restarting_late}
 use Rattle.net_meaning.proofs.Collections.{SameAt-reselecting}
 use Rattle.net_meaning.specs.SwitchLaws.{route_in, freeze_members}
 use Rattle.net_meaning.proofs.Meanings.{IsSignal-meaning, AllSignals-context_of}
 use Rattle.net_meaning.proofs.Resumed.{IsSignal-resume}
 use Rattle.net_meaning.proofs.SameAt.{SameAt-sequence, SameAt-on_left, SameAt-in_parallel, SameAt-feedback, SameAt-resume, SameAt-watching, SameAt-switch_at}
-use Rattle.net_meaning.proofs.SameSwitches.{SameAt-switching, SameAt-switching_late, SameAt-restarting, SameRoute, typed_route, AllSameAt-routes, AllOlds-frozen_all, AllOlds-append}
+use Rattle.net_meaning.proofs.SameSwitches.{SameAt-switching, SameAt-restarting, SameRoute, typed_route, AllSameAt-routes, AllOlds-frozen_all, AllOlds-append}
 use Rattle.net_meaning.proofs.SwitchedOutputs.{frozen_in}
 use Rattle.net_meaning.proofs.TypedMeanings.{holds, alike_from_equal}
 use Rattle.net_meaning.proofs.StreamLaws.{outputs-typed}
@@ -105,27 +104,19 @@ loop_same Ps Os A B C c f f' dc df sf E F a xs j =
     (same_at Ps Os (pair_ty A C) (pair_ty B C) f f' E F df sf a)).same xs j
     ∙ ap (λ ps. loop_pre_function (value_of c ps unit) (outputs_of f' F) xs) a.same_params
 
-pub switch_same : (Ps : List TypeTree) (Os : List Arrow) (A B C : TypeTree) (f f' t t' : Network Expression) → NetTyped Ps Os f A (pair_ty B (event_ty C))
-    → NetTyped (Ps ++ C ∷ []) Os t A B → SameOutputs Ps Os A f f' → SameOutputs (Ps ++ C ∷ []) Os A t t'
-    → SameOutputs Ps Os A (switch f t) (switch f' t')
-switch_same Ps Os A B C f f' t t' df dt sf st E F a xs j =
-    (SameAt-switching (outputs_of f E) (outputs_of f' F) (λ c. outputs_of t (param E c)) (λ c. outputs_of t' (param F c))
+pub switch_same : (tm : Timing) (Ps : List TypeTree) (Os : List Arrow) (A B C : TypeTree) (f f' t t' : Network Expression)
+    → NetTyped Ps Os f A (pair_ty B (event_ty C)) → NetTyped (Ps ++ C ∷ []) Os t A B → SameOutputs Ps Os A f f' → SameOutputs (Ps ++ C ∷ []) Os A t t'
+    → SameOutputs Ps Os A (switch tm f t) (switch tm f' t')
+switch_same tm Ps Os A B C f f' t t' df dt sf st E F a xs j =
+    (SameAt-switching tm (outputs_of f E) (outputs_of f' F) (λ c. outputs_of t (param E c)) (λ c. outputs_of t' (param F c)) (signal_of f E) (signal_of f' F)
     (same_at Ps Os A (pair_ty B (event_ty C)) f f' E F df sf a)
     (λ c h. same_at (Ps ++ C ∷ []) Os A B t t' (param E c) (param F c) dt st (alike_param Ps Os E F C c a h))).same xs j
 
-pub d_switch_same : (Ps : List TypeTree) (Os : List Arrow) (A B C : TypeTree) (f f' t t' : Network Expression) → NetTyped Ps Os f A (pair_ty B (event_ty C))
-    → NetTyped (Ps ++ C ∷ []) Os t A B → SameOutputs Ps Os A f f' → SameOutputs (Ps ++ C ∷ []) Os A t t'
-    → SameOutputs Ps Os A (d_switch f t) (d_switch f' t')
-d_switch_same Ps Os A B C f f' t t' df dt sf st E F a xs j =
-    (SameAt-switching_late (outputs_of f E) (outputs_of f' F) (λ c. outputs_of t (param E c)) (λ c. outputs_of t' (param F c)) (signal_of f E) (signal_of f' F)
-    (same_at Ps Os A (pair_ty B (event_ty C)) f f' E F df sf a)
-    (λ c h. same_at (Ps ++ C ∷ []) Os A B t t' (param E c) (param F c) dt st (alike_param Ps Os E F C c a h))).same xs j
-
-pub r_switch_same : (Ps : List TypeTree) (Os : List Arrow) (D B C : TypeTree) (f f' t t' : Network Expression) → NetTyped Ps Os f D B
+pub r_switch_same : (tm : Timing) (Ps : List TypeTree) (Os : List Arrow) (D B C : TypeTree) (f f' t t' : Network Expression) → NetTyped Ps Os f D B
     → NetTyped (Ps ++ C ∷ []) Os t D B → SameOutputs Ps Os D f f' → SameOutputs (Ps ++ C ∷ []) Os D t t'
-    → SameOutputs Ps Os (pair_ty D (event_ty C)) (r_switch f t) (r_switch f' t')
-r_switch_same Ps Os D B C f f' t t' df dt sf st E F a xs j =
-    (SameAt-restarting {C = C} (outputs_of f E) (outputs_of f' F) (λ c. outputs_of t (param E c)) (λ c. outputs_of t' (param F c))
+    → SameOutputs Ps Os (pair_ty D (event_ty C)) (r_switch tm f t) (r_switch tm f' t')
+r_switch_same tm Ps Os D B C f f' t t' df dt sf st E F a xs j =
+    (SameAt-restarting {C = C} tm (outputs_of f E) (outputs_of f' F) (λ c. outputs_of t (param E c)) (λ c. outputs_of t' (param F c))
     (same_at Ps Os D B f f' E F df sf a)
     (λ c h. same_at (Ps ++ C ∷ []) Os D B t t' (param E c) (param F c) dt st (alike_param Ps Os E F C c a h))).same xs j
 
@@ -174,13 +165,7 @@ initial_in_congruent Ps Os A B c d f f' h p E F a xs j =
     (same_at Ps Os A B f f' E F p.one_typed p.same a)).same xs j
     ∙ ap (λ v. initial_in_function v (outputs_of f' F) xs) (constant_same Ps Os A c d E F h a)
 
-pub late_restart_congruent : LateRestartLaw
-late_restart_congruent Ps Os D B C f f' t t' p q E F a xs j =
-    (SameAt-restarting_late {C = C} (outputs_of f E) (outputs_of f' F) (λ c. outputs_of t (param E c)) (λ c. outputs_of t' (param F c))
-    (same_at Ps Os D B f f' E F p.one_typed p.same a)
-    (λ c h. same_at (Ps ++ C ∷ []) Os D B t t' (param E c) (param F c) q.one_typed q.same (alike_param Ps Os E F C c a h))).same xs j
-
-pub collection_congruent : CollectionLaw
+pub collection_congruent : SameCollectionLaw
 collection_congruent Ps Os D B C V fs gs m n t t' hs h q E F a xs j =
     (SameAt-reselecting D B C V (value_of m (scope E).params) (value_of n (scope F).params) (λ v. outputs_of t (param E v)) (λ v. outputs_of t' (param F v))
     (λ c i. (

@@ -3,18 +3,17 @@ use Rattle.std.proofs.Common.{◌≡◌, ℕ, suc, ◌≤◌, List, [], ◌∷�
 use Rattle.std.proofs.lemmas.Simd.{map-map}
 use Rattle.sample_core.specs.Datum.{Datum, unit, pair, no_event}
 use Rattle.net_meaning.specs.SignalFunction.{TimedList, SignalFunction, values, last_or, prefixes, by_past, loop_pre_function, initial_out_function, initial_in_function, if_event, i_pre_value, delay_value, latest_event, fold_events, accum_by_value, after_value, repeatedly_value, time_value, integral_value, time_at, times}
-use Rattle.net_tree.specs.Network.{Network, Networks, arr, seq, first, par, loop_pre, initial_out, initial_in, i_pre, delay, hold, accum_by, after, repeatedly, time, integral, switch, d_switch, r_switch, dr_switch, rp_switch, k_switch, p_switch, old, no_members, and_member}
+use Rattle.net_tree.specs.Network.{Timing, Network, Networks, arr, seq, first, par, loop_pre, initial_out, initial_in, i_pre, delay, hold, accum_by, after, repeatedly, time, integral, switch, r_switch, rp_switch, k_switch, p_switch, old, no_members, and_member}
 use Rattle.net_meaning.specs.Meaning.{Context, old_at, meaning, meanings}
 use Rattle.sample_core.specs.TypeTree.{TypeTree, unit_ty, int_ty, pair_ty, event_ty, list_ty}
 use Rattle.sample_core.specs.HasType.{HasType, unit_has, pair_has, no_event_has, event_has, TypedParams, no_params, and_param}
-use Rattle.net_meaning.specs.Typing.{TypedValues, no_value, and_value, TypedSamples, no_sample, and_sample, Arrow, OldAt, old_here, old_after, copies, members, LeafTyping, Typed, AllTyped, arr_typed, seq_typed, first_typed, par_typed, loop_typed, i_pre_typed, delay_typed, hold_typed, accum_typed, after_typed, repeatedly_typed, time_typed, integral_typed, switch_typed, d_switch_typed, r_switch_typed, k_switch_typed, p_switch_typed, old_typed, initial_out_typed, initial_in_typed, dr_switch_typed, rp_switch_typed, no_members_typed, and_member_typed}
+use Rattle.net_meaning.specs.Typing.{TypedValues, no_value, and_value, TypedSamples, no_sample, and_sample, Arrow, OldAt, old_here, old_after, copies, members, LeafTyping, Typed, AllTyped, arr_typed, seq_typed, first_typed, par_typed, loop_typed, i_pre_typed, delay_typed, hold_typed, accum_typed, after_typed, repeatedly_typed, time_typed, integral_typed, switch_typed, r_switch_typed, k_switch_typed, p_switch_typed, old_typed, initial_out_typed, initial_in_typed, rp_switch_typed, no_members_typed, and_member_typed}
 use Rattle.net_meaning.proofs.Plain.{AllSignals, no_signal, and_signal}
 use Rattle.net_meaning.proofs.Meanings.{IsSignal-meaning}
 use Rattle.net_meaning.proofs.TypedLists.{TypedValues-map, typed_values, typed_last, typed_by_past, typed_previous_of, typed_latest_by, typed_latest_event, typed_fold_events, typed_if_event, typed_when, typed_wrapped, typed_integral_value}
 use Rattle.net_meaning.proofs.SameAt.{SameAt-one, SameAt-sequence, SameAt-on_left, SameAt-in_parallel, SameAt-feedback}
-use Rattle.net_meaning.proofs.SameSwitches.{SameAt-switching, SameAt-switching_late, SameAt-restarting, SameAt-switching_on, SameAt-switching_all, AllOlds-append}
+use Rattle.net_meaning.proofs.SameSwitches.{SameAt-switching, SameAt-restarting, SameAt-switching_on, SameAt-switching_all, AllOlds-append}
 use Rattle.net_meaning.proofs.Openings.{SameAt-initial_out, SameAt-initial_in}
-use Rattle.net_meaning.proofs.LateRestarts.{SameAt-restarting_late}
 use Rattle.net_meaning.proofs.Collections.{SameAt-reselecting}
 use Rattle.net_meaning.specs.Sameness.{SameAt, no_twin, and_twin, AllOlds, no_olds, and_old, context, LeavesTyped, SameLeaf, SameNet, SameNets}
 
@@ -122,19 +121,21 @@ module _ {L : Type 0} (val : L → List Datum → Datum → Datum) where
   same-integral =
       record { here = λ ps os os' k a. SameAt-one (by_past integral_value) (λ xs j. typed_by_past integral_value xs (λ p l. typed_integral_value p) j) }
 
-  pub same-switch : {Ps : List TypeTree} {Os : List Arrow} {A B C : TypeTree} (f f' t t' : Network L) → SameNet val Ps Os A (pair_ty B (event_ty C)) f f'
-      → SameNet val (Ps ++ C ∷ []) Os A B t t' → SameNet val Ps Os A B (switch f t) (switch f' t')
-  same-switch {Ps = Ps} {C = C} f f' t t' hf ht =
-      record {
-        here = λ ps os os' k a. SameAt-switching _ _ _ _ (hf.here ps os os' k a)
-            (λ c i. ht.here (ps ++ c ∷ []) os os' (TypedParams-append Ps (C ∷ []) ps (c ∷ []) k (and_param i no_params)) a);
-      }
+  pub same-switch : {Ps : List TypeTree} {Os : List Arrow} {A B C : TypeTree} (tm : Timing) (f f' t t' : Network L)
+      → SameNet val Ps Os A (pair_ty B (event_ty C)) f f' → SameNet val (Ps ++ C ∷ []) Os A B t t'
+      → SameNet val Ps Os A B (switch tm f t) (switch tm f' t')
+  same-switch {Ps = Ps} {C = C} tm f f' t t' hf ht = record {
+    here = λ ps os os' k a.
+        SameAt-switching tm _ _ _ _ (IsSignal-meaning val f (context ps os) (signals_left os os' a))
+        (IsSignal-meaning val f' (context ps os') (signals_right os os' a)) (hf.here ps os os' k a)
+        (λ c i. ht.here (ps ++ c ∷ []) os os' (TypedParams-append Ps (C ∷ []) ps (c ∷ []) k (and_param i no_params)) a);
+  }
 
-  pub same-r_switch : {Ps : List TypeTree} {Os : List Arrow} {D B C : TypeTree} (f f' t t' : Network L) → SameNet val Ps Os D B f f'
-      → SameNet val (Ps ++ C ∷ []) Os D B t t' → SameNet val Ps Os (pair_ty D (event_ty C)) B (r_switch f t) (r_switch f' t')
-  same-r_switch {Ps = Ps} {C = C} f f' t t' hf ht =
+  pub same-r_switch : {Ps : List TypeTree} {Os : List Arrow} {D B C : TypeTree} (tm : Timing) (f f' t t' : Network L) → SameNet val Ps Os D B f f'
+      → SameNet val (Ps ++ C ∷ []) Os D B t t' → SameNet val Ps Os (pair_ty D (event_ty C)) B (r_switch tm f t) (r_switch tm f' t')
+  same-r_switch {Ps = Ps} {C = C} tm f f' t t' hf ht =
       record {
-        here = λ ps os os' k a. SameAt-restarting _ _ _ _ (hf.here ps os os' k a)
+        here = λ ps os os' k a. SameAt-restarting tm _ _ _ _ (hf.here ps os os' k a)
             (λ c i. ht.here (ps ++ c ∷ []) os os' (TypedParams-append Ps (C ∷ []) ps (c ∷ []) k (and_param i no_params)) a);
       }
 
@@ -154,14 +155,6 @@ module _ {L : Type 0} (val : L → List Datum → Datum → Datum) where
         (SameAt-initial_in (val c ps unit) _ _ (const_typed hc ps k) (hf.here ps os os' k a));
   }
 
-  pub same-dr_switch : {Ps : List TypeTree} {Os : List Arrow} {D B C : TypeTree} (f f' t t' : Network L) → SameNet val Ps Os D B f f'
-      → SameNet val (Ps ++ C ∷ []) Os D B t t' → SameNet val Ps Os (pair_ty D (event_ty C)) B (dr_switch f t) (dr_switch f' t')
-  same-dr_switch {Ps = Ps} {C = C} f f' t t' hf ht =
-      record {
-        here = λ ps os os' k a. SameAt-restarting_late _ _ _ _ (hf.here ps os os' k a)
-            (λ c i. ht.here (ps ++ c ∷ []) os os' (TypedParams-append Ps (C ∷ []) ps (c ∷ []) k (and_param i no_params)) a);
-      }
-
   pub same-rp_switch : {Ps : List TypeTree} {Os : List Arrow} {D B C V : TypeTree} (fs fs' : Networks L) (m m' : L) (t t' : Network L)
       → SameNets val Ps Os D B fs fs' → SameLeaf val Ps C (pair_ty (list_ty int_ty) (list_ty V)) m m' → SameNet val (Ps ++ V ∷ []) Os D B t t'
       → SameNet val Ps Os (pair_ty D (event_ty C)) (list_ty B) (rp_switch fs m t) (rp_switch fs' m' t')
@@ -172,15 +165,6 @@ module _ {L : Type 0} (val : L → List Datum → Datum → Datum) where
         (λ v. IsSignal-meaning val t (context (ps ++ v ∷ []) os) (signals_left os os' a))
         (λ v i. ht.here (ps ++ v ∷ []) os os' (TypedParams-append Ps (V ∷ []) ps (v ∷ []) k (and_param i no_params)) a)
         _ _ (hfs.here ps os os' k a);
-  }
-
-  pub same-d_switch : {Ps : List TypeTree} {Os : List Arrow} {A B C : TypeTree} (f f' t t' : Network L) → SameNet val Ps Os A (pair_ty B (event_ty C)) f f'
-      → SameNet val (Ps ++ C ∷ []) Os A B t t' → SameNet val Ps Os A B (d_switch f t) (d_switch f' t')
-  same-d_switch {Ps = Ps} {C = C} f f' t t' hf ht = record {
-    here = λ ps os os' k a.
-        SameAt-switching_late _ _ _ _ (IsSignal-meaning val f (context ps os) (signals_left os os' a))
-        (IsSignal-meaning val f' (context ps os') (signals_right os os' a)) (hf.here ps os os' k a)
-        (λ c i. ht.here (ps ++ c ∷ []) os os' (TypedParams-append Ps (C ∷ []) ps (c ∷ []) k (and_param i no_params)) a);
   }
 
   pub same-k_switch : {Ps : List TypeTree} {Os : List Arrow} {A B C : TypeTree} (f f' e e' t t' : Network L) → SameNet val Ps Os A B f f'
@@ -277,12 +261,10 @@ module _ {L : Type 0} (val : L → List Datum → Datum → Datum) where
       same-typed Ps Os net A B (repeatedly_typed {q = q} {c = c} {C = C} low high h m) = same-repeatedly q c c (same-leaf T lt c Ps unit_ty C h)
       same-typed Ps Os net A B time_typed = same-time
       same-typed Ps Os net A B integral_typed = same-integral
-      same-typed Ps Os net A B (switch_typed {f = f} {t = t} {C = C} df dt) =
-          same-switch f f t t (same-typed Ps Os f A (pair_ty B (event_ty C)) df) (same-typed (Ps ++ C ∷ []) Os t A B dt)
-      same-typed Ps Os net A B (d_switch_typed {f = f} {t = t} {C = C} df dt) =
-          same-d_switch f f t t (same-typed Ps Os f A (pair_ty B (event_ty C)) df) (same-typed (Ps ++ C ∷ []) Os t A B dt)
-      same-typed Ps Os net A B (r_switch_typed {f = f} {t = t} {D = D} {C = C} df dt) =
-          same-r_switch f f t t (same-typed Ps Os f D B df) (same-typed (Ps ++ C ∷ []) Os t D B dt)
+      same-typed Ps Os net A B (switch_typed {tm = tm} {f = f} {t = t} {C = C} df dt) =
+          same-switch tm f f t t (same-typed Ps Os f A (pair_ty B (event_ty C)) df) (same-typed (Ps ++ C ∷ []) Os t A B dt)
+      same-typed Ps Os net A B (r_switch_typed {tm = tm} {f = f} {t = t} {D = D} {C = C} df dt) =
+          same-r_switch tm f f t t (same-typed Ps Os f D B df) (same-typed (Ps ++ C ∷ []) Os t D B dt)
       same-typed Ps Os net A B (k_switch_typed {f = f} {e = e} {t = t} {C = C} df m de dt) =
           same-k_switch f f e e t t (same-typed Ps Os f A B df) (same-typed Ps Os e (pair_ty A B) (event_ty C) de)
           (same-typed (Ps ++ C ∷ []) (Os ++ record { input = A; output = B } ∷ []) t A B dt)
@@ -295,8 +277,6 @@ module _ {L : Type 0} (val : L → List Datum → Datum → Datum) where
           same-initial_out c c f f (same-leaf T lt c Ps unit_ty B h) (same-typed Ps Os f A B df)
       same-typed Ps Os net A B (initial_in_typed {c = c} {f = f} h df) =
           same-initial_in c c f f (same-leaf T lt c Ps unit_ty A h) (same-typed Ps Os f A B df)
-      same-typed Ps Os net A B (dr_switch_typed {f = f} {t = t} {D = D} {C = C} df dt) =
-          same-dr_switch f f t t (same-typed Ps Os f D B df) (same-typed (Ps ++ C ∷ []) Os t D B dt)
       same-typed Ps Os net A B (rp_switch_typed {fs = fs} {m = m} {t = t} {D = D} {B = B'} {C = C} {V = V} some l ds h dt n) =
           same-rp_switch fs fs m m t t (same-all_typed Ps Os fs D B' ds) (same-leaf T lt m Ps C (pair_ty (list_ty int_ty) (list_ty V)) h)
           (same-typed (Ps ++ V ∷ []) Os t D B' dt)

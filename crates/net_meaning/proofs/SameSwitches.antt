@@ -1,15 +1,16 @@
 -- The switches of signals that agree on typed lists agree there.
-use Rattle.std.proofs.Common.{◌≡◌, ℕ, suc, ◌+◌, ◌≤◌, ◌<◌, pos, List, ◌∷◌, ◌++◌, flat_map, length, take, drop, refl, sym, ap, ap₂, ◌∙◌, arith, subst, subst₂, w64}
+use Rattle.std.proofs.Common.{◌≡◌, ℕ, suc, ◌+◌, ◌≤◌, ◌<◌, pos, List, [], ◌∷◌, ◌++◌, length, take, drop, refl, sym, ap, ap₂, ◌∙◌, arith, subst, subst₂, w64}
 use Rattle.std.proofs.lemmas.Int.{fits_signed_from_abs}
 use Rattle.sample_core.specs.Datum.{Datum, left, right, pair, int}
-use Rattle.net_meaning.specs.SignalFunction.{TimedList, SignalFunction, each_value, lefts, rights, watch, switch_function, d_switch_function, k_switch_function, p_switch_function, r_switch_function, pieces, resume, route, route_each, freeze_all, collect, IsSignalFunction}
+use Rattle.net_tree.specs.Network.{Timing}
+use Rattle.net_meaning.specs.SignalFunction.{TimedList, SignalFunction, each_value, lefts, rights, watch, until, lap, each_piece, switch_function, k_switch_function, p_switch_function, r_switch_function, pieces, resume, route, route_each, freeze_all, collect, IsSignalFunction}
 use Rattle.sample_core.specs.TypeTree.{TypeTree, int_ty, pair_ty, event_ty, list_ty}
 use Rattle.sample_core.specs.HasType.{HasType, int_has, pair_has}
 use Rattle.net_meaning.specs.Typing.{TypedValues, no_value, TypedSamples, no_sample, and_sample, Arrow, copies}
 use Rattle.net_meaning.proofs.Plain.{IsSignal-before}
 use Rattle.net_meaning.proofs.Resumed.{IsSignal-resume}
-use Rattle.net_meaning.proofs.Switches.{late, lately, switching_late-is}
-use Rattle.net_meaning.proofs.TypedLists.{typed_left, typed_right, typed_each_value, typed_append, typed_take, typed_drop, TypedPieces, no_piece, and_piece, typed_pieces}
+use Rattle.net_meaning.proofs.Switches.{late, lately, switching-is}
+use Rattle.net_meaning.proofs.TypedLists.{typed_left, typed_right, typed_each_value, typed_append, typed_take, typed_drop, samples_append, samples_take, TypedPieces, no_piece, and_piece, typed_pieces}
 use Rattle.net_meaning.proofs.SameAt.{SameAt-after, SameAt-watching, SameAt-in_parallel, SameAt-resume, SameAt-switch_at}
 use Rattle.net_meaning.specs.Sameness.{SameAt, AllSameAt, no_twin, and_twin, AllOlds, no_olds, and_old}
 
@@ -23,41 +24,46 @@ SameAt-rights f f' h = SameAt-after right f f' (λ v k. typed_right k) h
 abbrev pub SameFor : TypeTree → TypeTree → TypeTree → (Datum → SignalFunction) → (Datum → SignalFunction) → Type 0
 SameFor A B C t t' = (c : Datum) → HasType c C → SameAt A B (t c) (t' c)
 
-pub SameAt-switching : {A B C : TypeTree} (f f' : SignalFunction) (t t' : Datum → SignalFunction) → SameAt A (pair_ty B (event_ty C)) f f' → SameFor A B C t t'
-    → SameAt A B (switch_function f t) (switch_function f' t')
-SameAt-switching f f' t t' hf ht = SameAt-switch_at (lefts f) (lefts f') (rights f) (rights f') (λ c p d. t c) (λ c p d. t' c) (SameAt-lefts f f' hf)
-    (SameAt-rights f f' hf) (λ c p d k j. ht c k)
-
-pub SameAt-late : {A B : TypeTree} (g g' h h' : SignalFunction) → SameAt A B g g' → SameAt A B h h' → SameAt A B (late g h) (late g' h')
-SameAt-late g g' h h' sg sh = record {
-  same = λ xs k. ap₂ (λ vs ws. take 1 vs ++ drop 1 ws) (sg.same xs k) (sh.same xs k);
-  typed = λ xs k. typed_append (take 1 (g xs)) (drop 1 (h xs)) (typed_take 1 (g xs) (sg.typed xs k)) (typed_drop 1 (h xs) (sh.typed xs k));
+pub SameAt-late : {A B : TypeTree} (tm : Timing) (g g' h h' : SignalFunction) → SameAt A B g g' → SameAt A B h h' → SameAt A B (late tm g h) (late tm g' h')
+SameAt-late tm g g' h h' sg sh = record {
+  same = λ xs k. ap₂ (λ vs ws. take (until tm 0) vs ++ drop (until tm 0) ws) (sg.same xs k) (sh.same xs k);
+  typed = λ xs k. typed_append (take (until tm 0) (g xs)) (drop (until tm 0) (h xs)) (typed_take (until tm 0) (g xs) (sg.typed xs k))
+      (typed_drop (until tm 0) (h xs) (sh.typed xs k));
 }
 
-pub SameAt-switching_late : {A B C : TypeTree} (f f' : SignalFunction) (t t' : Datum → SignalFunction) → IsSignalFunction f → IsSignalFunction f'
-    → SameAt A (pair_ty B (event_ty C)) f f' → SameFor A B C t t' → SameAt A B (d_switch_function f t) (d_switch_function f' t')
-SameAt-switching_late {A = A} {B = B} f f' t t' sf sf' hf ht =
-    subst₂ (SameAt A B) (sym (switching_late-is f t sf)) (sym (switching_late-is f' t' sf'))
-    (SameAt-switch_at (lefts f) (lefts f') (rights f) (rights f') (lately f t) (lately f' t') (SameAt-lefts f f' hf) (SameAt-rights f f' hf)
-    (λ c p d k j. SameAt-late (resume (lefts f) p d) (resume (lefts f') p d) (t c) (t' c) (SameAt-resume (lefts f) (lefts f') (SameAt-lefts f f' hf) p d j)
-    (ht c k)))
+pub SameAt-switching : {A B C : TypeTree} (tm : Timing) (f f' : SignalFunction) (t t' : Datum → SignalFunction) → IsSignalFunction f → IsSignalFunction f'
+    → SameAt A (pair_ty B (event_ty C)) f f' → SameFor A B C t t' → SameAt A B (switch_function tm f t) (switch_function tm f' t')
+SameAt-switching {A = A} {B = B} tm f f' t t' sf sf' hf ht =
+    subst₂ (SameAt A B) (sym (switching-is tm f t sf)) (sym (switching-is tm f' t' sf'))
+    (SameAt-switch_at (lefts f) (lefts f') (rights f) (rights f') (lately tm f t) (lately tm f' t') (SameAt-lefts f f' hf) (SameAt-rights f f' hf)
+    (λ c p d k j. SameAt-late tm (resume (lefts f) p d) (resume (lefts f') p d) (t c) (t' c)
+    (SameAt-resume (lefts f) (lefts f') (SameAt-lefts f f' hf) p d j) (ht c k)))
 
-module _ {D B C : TypeTree} (f f' : SignalFunction) (t t' : Datum → SignalFunction) (hf : SameAt D B f f') (ht : SameFor D B C t t') where
-  flat-same : (qs : List (Datum × TimedList)) → TypedPieces D C qs → flat_map (λ piece. t piece.0 piece.1) qs ≡ flat_map (λ piece. t' piece.0 piece.1) qs
-  flat-same qs no_piece = refl
-  flat-same qs (and_piece {q = q} {qs = qs'} k j ks) = ap₂ (λ vs ws. vs ++ ws) ((ht q.0 k).same q.1 j) (flat-same qs' ks)
+module _ {D B C : TypeTree} (tm : Timing) (f f' : SignalFunction) (t t' : Datum → SignalFunction) (hf : SameAt D B f f') (ht : SameFor D B C t t') where
+  -- a piece, and what it goes on to
+  typed_run : (q : TimedList) (qs : List (Datum × TimedList)) → TypedSamples D q → TypedPieces D C qs → TypedSamples D (q ++ lap tm qs)
+  typed_run q qs j no_piece = samples_append q [] j no_sample
+  typed_run q qs j (and_piece {q = r} k i ks) = samples_append q (take (until tm 0) r.1) j (samples_take (until tm 0) r.1 i)
 
-  typed_flat : (qs : List (Datum × TimedList)) → TypedPieces D C qs → TypedValues B (flat_map (λ piece. t piece.0 piece.1) qs)
-  typed_flat qs no_piece = no_value
-  typed_flat qs (and_piece {q = q} {qs = qs'} k j ks) =
-      typed_append (t q.0 q.1) (flat_map (λ piece. t piece.0 piece.1) qs') ((ht q.0 k).typed q.1 j) (typed_flat qs' ks)
+  pieces-same : (qs : List (Datum × TimedList)) → TypedPieces D C qs → each_piece tm t qs ≡ each_piece tm t' qs
+  pieces-same qs no_piece = refl
+  pieces-same qs (and_piece {q = q} {qs = qs'} k j ks) =
+      ap₂ (λ vs ws. drop (until tm 0) vs ++ ws) ((ht q.0 k).same (q.1 ++ lap tm qs') (typed_run q.1 qs' j ks)) (pieces-same qs' ks)
 
-  pub SameAt-restarting : SameAt (pair_ty D (event_ty C)) B (r_switch_function f t) (r_switch_function f' t')
+  typed_outputs : (qs : List (Datum × TimedList)) → TypedPieces D C qs → TypedValues B (each_piece tm t qs)
+  typed_outputs qs no_piece = no_value
+  typed_outputs qs (and_piece {q = q} {qs = qs'} k j ks) =
+      let r : TimedList = q.1 ++ lap tm qs' in
+      typed_append (drop (until tm 0) (t q.0 r)) (each_piece tm t qs')
+      (typed_drop (until tm 0) (t q.0 r) ((ht q.0 k).typed r (typed_run q.1 qs' j ks))) (typed_outputs qs' ks)
+
+  pub SameAt-restarting : SameAt (pair_ty D (event_ty C)) B (r_switch_function tm f t) (r_switch_function tm f' t')
   SameAt-restarting = record {
     same = λ xs k. let h : TypedSamples D (pieces xs).0 × TypedPieces D C (pieces xs).1 = typed_pieces xs k in
-        ap₂ (λ vs ws. vs ++ ws) (hf.same (pieces xs).0 h.0) (flat-same (pieces xs).1 h.1);
+        ap₂ (λ vs ws. vs ++ ws) (hf.same ((pieces xs).0 ++ lap tm (pieces xs).1) (typed_run (pieces xs).0 (pieces xs).1 h.0 h.1)) (pieces-same (pieces xs).1 h.1);
     typed = λ xs k. let h : TypedSamples D (pieces xs).0 × TypedPieces D C (pieces xs).1 = typed_pieces xs k in
-        typed_append (f (pieces xs).0) (flat_map (λ piece. t piece.0 piece.1) (pieces xs).1) (hf.typed (pieces xs).0 h.0) (typed_flat (pieces xs).1 h.1);
+        let r : TimedList = (pieces xs).0 ++ lap tm (pieces xs).1 in
+        typed_append (f r) (each_piece tm t (pieces xs).1) (hf.typed r (typed_run (pieces xs).0 (pieces xs).1 h.0 h.1)) (typed_outputs (pieces xs).1 h.1);
   }
 
 pub AllOlds-append : (Os Qs : List Arrow) (fs gs hs ks : List SignalFunction) → AllOlds Os fs gs → AllOlds Qs hs ks → AllOlds (Os ++ Qs) (fs ++ hs) (gs ++ ks)

@@ -8,10 +8,6 @@ pub last_or-push : {A : Type 0} (d : A) (xs : List A) (y : A) → last_or d (xs 
 last_or-push d [] y = refl
 last_or-push d (x ∷ xs) y = last_or-push x xs y
 
-pub last_or-append : {A : Type 0} (d : A) (xs ys : List A) (y : A) → last_or d (xs ++ y ∷ ys) ≡ last_or d (y ∷ ys)
-last_or-append d [] ys y = refl
-last_or-append d (x ∷ xs) ys y = last_or-append x xs ys y
-
 one_item : (vs : List Datum) → length vs ≡ 1 → vs ≡ last_or unit vs ∷ []
 one_item [] e = absurd (omega arith)
 one_item (v ∷ []) e = refl

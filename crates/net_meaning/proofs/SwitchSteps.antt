@@ -1,20 +1,17 @@
 -- The answers of a switch: before its event as its parts; from the event on what takes over.
-use Rattle.std.proofs.Common.{◌≡◌, ℕ, suc, List, [], ◌∷◌, ◌++◌, length, take, drop, refl, sym, ap, ◌∙◌, arith, Option, Some, None, append_assoc, subst}
+use Rattle.std.proofs.Common.{◌≡◌, ℕ, suc, List, [], ◌∷◌, ◌++◌, length, take, drop, refl, sym, ap, ◌∙◌, arith, Option, Some, None, append_assoc}
 use Rattle.std.proofs.lemmas.List.{take_at, drop_at}
-use Rattle.sample_core.specs.Datum.{Datum, unit, event, right}
-use Rattle.net_meaning.specs.SignalFunction.{TimedList, SignalFunction, last_or, first_event, later, step_of, switch_at, d_switch_function, resume, lefts, rights, IsSignalFunction, answer}
+use Rattle.sample_core.specs.Datum.{Datum, unit, event}
+use Rattle.net_tree.specs.Network.{Timing, at_once, delayed}
+use Rattle.net_meaning.specs.SignalFunction.{TimedList, SignalFunction, last_or, first_event, later, step_of, switch_at, resume, IsSignalFunction, answer}
 use Rattle.net_meaning.proofs.Events.{IsPlain}
 use Rattle.net_meaning.proofs.Switched.{switch_at-none, switch_at-some}
-use Rattle.net_meaning.proofs.Switches.{lately, late, switching_late-is, IsSignal-lefts, IsSignal-rights}
-use Rattle.net_meaning.proofs.PlainSteps.{answer-after}
+use Rattle.net_meaning.proofs.Switches.{late}
 use Rattle.net_meaning.proofs.Steps.{last_or-push, signal-push, signal-append}
 
 later-none : (o : Option (ℕ × Datum)) → later o ≡ None → o ≡ None
 later-none None e = refl
 later-none (Some p) e = cc
-
-event-none : (c : Datum) (vs : List Datum) → first_event (event c ∷ vs) ≡ None → first_event vs ≡ None
-event-none c vs e = cc
 
 -- an event behind values without one
 pub first_event-append : (vs : List Datum) (c : Datum) (ws : List Datum) → first_event vs ≡ None → first_event (vs ++ event c ∷ ws) ≡ Some (length vs, c)
@@ -101,22 +98,15 @@ answer-resume f sf p d z q x =
     ∙ ap (last_or unit) (drop_at (f p) (drop (length p) (f r) ++ v ∷ []) (length p) (sf.sized p))
     ∙ last_or-push unit (drop (length p) (f r)) v
 
--- `dSwitch` at its event: the output is still f's
-pub GoesOn-switching_late : (f : SignalFunction) (t : Datum → SignalFunction) → IsSignalFunction f → (p : TimedList) (x : ℕ × Datum) (c : Datum)
-    → first_event (rights f p) ≡ None → right (answer f p x) ≡ event c → GoesOn (d_switch_function f t) p (lately f t c p x.0) x
-GoesOn-switching_late f t sf p x c i a =
-    let a' : answer (rights f) p x ≡ event c = answer-after right f sf p x ∙ a in
-    subst (λ g. GoesOn g p (lately f t c p x.0) x) (sym (switching_late-is f t sf))
-    (GoesOn-switch_at (lefts f) (rights f) (lately f t) (IsSignal-lefts f sf) (IsSignal-rights f sf) p x c i a')
-
-pub answer-late_first : (g h : SignalFunction) → IsSignalFunction g → IsSignalFunction h → (x : ℕ × Datum) → answer (late g h) [] x ≡ answer g [] x
+pub answer-late_first : (g h : SignalFunction) → IsSignalFunction g → IsSignalFunction h → (x : ℕ × Datum) → answer (late delayed g h) [] x ≡ answer g [] x
 answer-late_first g h sg sh x =
     ap (λ vs. last_or unit (take 1 vs ++ drop 1 (h (x ∷ [])))) (signal-push g sg [] x ∙ ap (λ vs. vs ++ answer g [] x ∷ []) (sg.causal 0 []))
     ∙ ap (λ vs. last_or unit (answer g [] x ∷ drop 1 vs)) (signal-push h sh [] x ∙ ap (λ vs. vs ++ answer h [] x ∷ []) (sh.causal 0 []))
 
-pub answer-late : (g h : SignalFunction) → IsSignalFunction h → (x : ℕ × Datum) (q : TimedList) (y : ℕ × Datum)
-    → answer (late g h) (x ∷ q) y ≡ answer h (x ∷ q) y
-answer-late g h sh x q y =
+pub answer-late : (tm : Timing) (g h : SignalFunction) → IsSignalFunction h → (x : ℕ × Datum) (q : TimedList) (y : ℕ × Datum)
+    → answer (late tm g h) (x ∷ q) y ≡ answer h (x ∷ q) y
+answer-late at_once g h sh x q y = refl
+answer-late delayed g h sh x q y =
     let l : length (h (x ∷ q)) ≡ suc (length q) = sh.sized (x ∷ q) in
     ap (λ vs. last_or unit (take 1 (g (x ∷ q ++ y ∷ [])) ++ drop 1 vs)) (signal-push h sh (x ∷ q) y)
     ∙ last_dropped (take 1 (g (x ∷ q ++ y ∷ []))) (h (x ∷ q)) (answer h (x ∷ q) y) (length q) l

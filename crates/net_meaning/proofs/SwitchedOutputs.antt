@@ -12,17 +12,15 @@ use Rattle.net_meaning.specs.Meaning.{with_olds, meaning, meanings}
 use Rattle.net_meaning.specs.Typing.{members}
 use Rattle.net_meaning.specs.Environment.{Environment, param, frozen, context_of}
 use Rattle.net_meaning.specs.TypedNetwork.{outputs_of}
-use Rattle.net_meaning.specs.SwitchLaws.{route_in, freeze_members, members_in, SwitchLaw, SwitchLateLaw, RestartLaw, FreezeLaw, FreezeMembersLaw, ResumeLaw, KeptNumbersLaw, LateRestartLaw, CollectionLaw, Runner, runners, runner_outputs}
+use Rattle.net_meaning.specs.SwitchLaws.{route_in, freeze_members, members_in, SwitchLaw, RestartLaw, FreezeLaw, FreezeMembersLaw, ResumeLaw, KeptNumbersLaw, LateRestartLaw, CollectionLaw, Runner, runners, runner_outputs}
+use Rattle.net_meaning.proofs.Restarting.{restarting-at_once}
 use Rattle.net_meaning.proofs.MappedMembers.{lift, new_members-map, by_members-map}
 
 pub switch_outputs : SwitchLaw
-switch_outputs f t E xs = refl
-
-pub switch_late_outputs : SwitchLateLaw
-switch_late_outputs f t E xs = refl
+switch_outputs tm f t E xs = refl
 
 pub restart_outputs : RestartLaw
-restart_outputs f t E xs = refl
+restart_outputs f t E xs = restarting-at_once (outputs_of f E) (λ c. outputs_of t (param E c)) xs
 
 pub late_restart_outputs : LateRestartLaw
 late_restart_outputs f t E xs = refl

@@ -1,9 +1,10 @@
 -- The switches of signals are signals.
-use Rattle.std.proofs.Common.{◌≡◌, ℕ, zero, suc, ◌+◌, ◌≤◌, ◌<◌, List, [], ◌∷◌, ◌++◌, length, take, drop, refl, sym, ap, ◌∙◌, arith, append-nil, append_assoc, length-take, take-append-drop, take-add, subst}
+use Rattle.std.proofs.Common.{◌≡◌, ℕ, zero, suc, ◌+◌, ◌≤◌, ◌<◌, List, [], ◌∷◌, ◌++◌, length, take, drop, refl, sym, ap, ap₂, ◌∙◌, arith, append-nil, append_assoc, length-take, take-append-drop, take-add, subst}
 use Rattle.std.proofs.lemmas.List.{drop_all}
 use mathlib.Core.Path.{fun_ext}
 use Rattle.sample_core.specs.Datum.{Datum, left, right}
-use Rattle.net_meaning.specs.SignalFunction.{TimedList, SignalFunction, step_of, lefts, rights, switch_at, switch_function, d_switch_function, k_switch_function, p_switch_function, resume, retime, route, route_each, freeze_all, collect, watch, IsSignalFunction}
+use Rattle.net_tree.specs.Network.{Timing, at_once, delayed}
+use Rattle.net_meaning.specs.SignalFunction.{TimedList, SignalFunction, step_of, lefts, rights, until, switch_at, switch_function, k_switch_function, p_switch_function, resume, retime, route, route_each, freeze_all, collect, watch, IsSignalFunction}
 use Rattle.net_meaning.proofs.Events.{Outlook, never, once, outlook}
 use Rattle.net_meaning.proofs.Zips.{retime-each_value}
 use Rattle.net_meaning.proofs.Plain.{IsSignal-after, IsSignal-before, IsSignal-watching, IsSignal-in_parallel, AllSignals, no_signal, and_signal}
@@ -15,14 +16,6 @@ IsSignal-lefts f sf = IsSignal-after left f sf
 
 pub IsSignal-rights : (f : SignalFunction) → IsSignalFunction f → IsSignalFunction (rights f)
 IsSignal-rights f sf = IsSignal-after right f sf
-
-pub IsContinuation-switching : (t : Datum → SignalFunction) → ((c : Datum) → IsSignalFunction (t c)) → IsContinuation (λ c p d. t c)
-IsContinuation-switching t st = record { signal = λ c p d. st c; past = λ c p d d'. refl; fresh = λ c d d'. refl }
-
-pub IsSignal-switching : (f : SignalFunction) (t : Datum → SignalFunction) → IsSignalFunction f → ((c : Datum) → IsSignalFunction (t c))
-    → IsSignalFunction (switch_function f t)
-IsSignal-switching f t sf st = IsSignal-switch_at (lefts f) (rights f) (λ c p d. t c) (IsSignal-lefts f sf) (IsSignal-rights f sf)
-    (IsContinuation-switching t st)
 
 -- what is resumed at once goes on as it was
 resume-split : (f : SignalFunction) → IsSignalFunction f → (p r : TimedList) → resume f p (step_of r) r ≡ drop (length p) (f (p ++ r))
@@ -37,9 +30,9 @@ resume-here f sf n xs l =
     let e : length (take n xs) ≡ n = omega (arith, length-take n xs) in
     resume-split f sf (take n xs) (drop n xs) ∙ ap (λ ys. drop (length (take n xs)) (f ys)) (take-append-drop n xs) ∙ ap (λ k. drop k (f xs)) e
 
--- the first output of g, then those of h
-abbrev pub late : SignalFunction → SignalFunction → SignalFunction
-late g h xs = take 1 (g xs) ++ drop 1 (h xs)
+-- the outputs of h, but g's until it is heard
+abbrev pub late : Timing → SignalFunction → SignalFunction → SignalFunction
+late tm g h xs = take (until tm 0) (g xs) ++ drop (until tm 0) (h xs)
 
 late_lists : (n : ℕ) (vs ws : List Datum) → length vs ≡ length ws → take 1 (take n vs) ++ drop 1 (take n ws) ≡ take n (take 1 vs ++ drop 1 ws)
 late_lists zero vs ws e = refl
@@ -54,50 +47,50 @@ length-late_lists [] (w ∷ ws) e = absurd (omega arith)
 length-late_lists (v ∷ vs) [] e = absurd (omega arith)
 length-late_lists (v ∷ vs) (w ∷ ws) e = refl
 
-pub IsSignal-late : (g h : SignalFunction) → IsSignalFunction g → IsSignalFunction h → IsSignalFunction (late g h)
-IsSignal-late g h sg sh = record {
+pub IsSignal-late : (tm : Timing) (g h : SignalFunction) → IsSignalFunction g → IsSignalFunction h → IsSignalFunction (late tm g h)
+IsSignal-late at_once g h sg sh = sh
+IsSignal-late delayed g h sg sh = record {
   sized = λ xs. length-late_lists (g xs) (h xs) (sg.sized xs ∙ sym (sh.sized xs)) ∙ sh.sized xs;
-  causal = λ n xs. ap (λ vs. take 1 vs ++ drop 1 (h (take n xs))) (sg.causal n xs) ∙ ap (λ ws. take 1 (take n (g xs)) ++ drop 1 ws) (sh.causal n xs)
-      ∙ late_lists n (g xs) (h xs) (sg.sized xs ∙ sym (sh.sized xs));
-  timeless = λ d xs. ap (λ vs. take 1 vs ++ drop 1 (h (retime d xs))) (sg.timeless d xs) ∙ ap (λ ws. take 1 (g xs) ++ drop 1 ws) (sh.timeless d xs);
+  causal = λ n xs. ap₂ (λ vs ws. take 1 vs ++ drop 1 ws) (sg.causal n xs) (sh.causal n xs) ∙ late_lists n (g xs) (h xs) (sg.sized xs ∙ sym (sh.sized xs));
+  timeless = λ d xs. ap₂ (λ vs ws. take 1 vs ++ drop 1 ws) (sg.timeless d xs) (sh.timeless d xs);
 }
 
--- what takes over in `dSwitch`
-abbrev pub lately : SignalFunction → (Datum → SignalFunction) → Datum → TimedList → ℕ → SignalFunction
-lately f t c p d = late (resume (lefts f) p d) (t c)
+until_is : (tm : Timing) (n : ℕ) → until tm n ≡ n + until tm 0
+until_is at_once n = omega arith
+until_is delayed n = omega arith
 
-pub IsContinuation-lately : (f : SignalFunction) (t : Datum → SignalFunction) → IsSignalFunction f → ((c : Datum) → IsSignalFunction (t c))
-    → IsContinuation (lately f t)
-IsContinuation-lately f t sf st = record {
-  signal = λ c p d. IsSignal-late (resume (lefts f) p d) (t c) (IsSignal-resume (lefts f) (IsSignal-lefts f sf) p d) (st c);
-  past = λ c p d d'. ap (λ g. late g (t c)) (resume-past (lefts f) (IsSignal-lefts f sf) p d d');
-  fresh = λ c d d'. ap (λ g. late g (t c)) (resume-fresh (lefts f) (IsSignal-lefts f sf) d ∙ sym (resume-fresh (lefts f) (IsSignal-lefts f sf) d'));
-}
+-- what takes over
+abbrev pub lately : Timing → SignalFunction → (Datum → SignalFunction) → Datum → TimedList → ℕ → SignalFunction
+lately tm f t c p d = late tm (resume (lefts f) p d) (t c)
 
-switching_late-at : (f : SignalFunction) (t : Datum → SignalFunction) → IsSignalFunction f → (xs : TimedList) → Outlook (rights f xs)
-    → d_switch_function f t xs ≡ switch_at (lefts f) (rights f) (lately f t) xs
-switching_late-at f t sf xs (never i) = rw i.is
-switching_late-at f t sf xs (once n c i) =
-    let w : n < length (rights f xs) = i.within in
-    let l : length (rights f xs) ≡ length xs = (IsSignal-rights f sf).sized xs in
-    let h : n ≤ length xs = omega arith in
-    let one : n + 1 ≡ suc n = omega arith in
-    let rest : List Datum = drop 1 (t c (drop n xs)) in
-    rw i.is (
-    ap (λ k. take k (lefts f xs) ++ rest) (sym one)
-    ∙ ap (λ vs. vs ++ rest) (take-add n 1 (lefts f xs))
-    ∙ append_assoc (take n (lefts f xs)) (take 1 (drop n (lefts f xs))) rest
-    ∙ ap (λ vs. take n (lefts f xs) ++ (take 1 vs ++ rest)) (sym (resume-here (lefts f) (IsSignal-lefts f sf) n xs h)))
+module _ (tm : Timing) (f : SignalFunction) (t : Datum → SignalFunction) (sf : IsSignalFunction f) where
+  IsContinuation-lately : ((c : Datum) → IsSignalFunction (t c)) → IsContinuation (lately tm f t)
+  IsContinuation-lately st = record {
+    signal = λ c p d. IsSignal-late tm (resume (lefts f) p d) (t c) (IsSignal-resume (lefts f) (IsSignal-lefts f sf) p d) (st c);
+    past = λ c p d d'. ap (λ g. late tm g (t c)) (resume-past (lefts f) (IsSignal-lefts f sf) p d d');
+    fresh = λ c d d'. ap (λ g. late tm g (t c)) (resume-fresh (lefts f) (IsSignal-lefts f sf) d ∙ sym (resume-fresh (lefts f) (IsSignal-lefts f sf) d'));
+  }
 
--- `dSwitch` is a switch too
-pub switching_late-is : (f : SignalFunction) (t : Datum → SignalFunction) → IsSignalFunction f
-    → d_switch_function f t ≡ switch_at (lefts f) (rights f) (lately f t)
-switching_late-is f t sf = fun_ext (λ xs. switching_late-at f t sf xs (outlook (rights f xs)))
+  switching-at : (xs : TimedList) → Outlook (rights f xs) → switch_function tm f t xs ≡ switch_at (lefts f) (rights f) (lately tm f t) xs
+  switching-at xs (never i) = rw i.is
+  switching-at xs (once n c i) =
+      let w : n < length (rights f xs) = i.within in
+      let l : length (rights f xs) ≡ length xs = (IsSignal-rights f sf).sized xs in
+      let h : n ≤ length xs = omega arith in
+      let o : ℕ = until tm 0 in
+      let rest : List Datum = drop o (t c (drop n xs)) in
+      rw i.is (
+      ap (λ k. take k (lefts f xs) ++ rest) (until_is tm n)
+      ∙ ap (λ vs. vs ++ rest) (take-add n o (lefts f xs))
+      ∙ append_assoc (take n (lefts f xs)) (take o (drop n (lefts f xs))) rest
+      ∙ ap (λ vs. take n (lefts f xs) ++ (take o vs ++ rest)) (sym (resume-here (lefts f) (IsSignal-lefts f sf) n xs h)))
 
-pub IsSignal-switching_late : (f : SignalFunction) (t : Datum → SignalFunction) → IsSignalFunction f → ((c : Datum) → IsSignalFunction (t c))
-    → IsSignalFunction (d_switch_function f t)
-IsSignal-switching_late f t sf st = subst IsSignalFunction (sym (switching_late-is f t sf))
-    (IsSignal-switch_at (lefts f) (rights f) (lately f t) (IsSignal-lefts f sf) (IsSignal-rights f sf) (IsContinuation-lately f t sf st))
+  pub switching-is : switch_function tm f t ≡ switch_at (lefts f) (rights f) (lately tm f t)
+  switching-is = fun_ext (λ xs. switching-at xs (outlook (rights f xs)))
+
+  pub IsSignal-switching : ((c : Datum) → IsSignalFunction (t c)) → IsSignalFunction (switch_function tm f t)
+  IsSignal-switching st = subst IsSignalFunction (sym switching-is)
+      (IsSignal-switch_at (lefts f) (rights f) (lately tm f t) (IsSignal-lefts f sf) (IsSignal-rights f sf) (IsContinuation-lately st))
 
 pub IsContinuation-switching_on : (f : SignalFunction) (t : Datum → SignalFunction → SignalFunction) → IsSignalFunction f
     → ((c : Datum) (o : SignalFunction) → IsSignalFunction o → IsSignalFunction (t c o)) → IsContinuation (λ c p d. t c (resume f p d))

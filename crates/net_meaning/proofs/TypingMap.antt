@@ -2,7 +2,7 @@
 use Rattle.std.proofs.Common.{List}
 use Rattle.net_tree.specs.Network.{Network, Networks}
 use Rattle.sample_core.specs.TypeTree.{TypeTree}
-use Rattle.net_meaning.specs.Typing.{Arrow, LeafTyping, Typed, AllTyped, arr_typed, seq_typed, first_typed, par_typed, loop_typed, i_pre_typed, delay_typed, hold_typed, accum_typed, after_typed, repeatedly_typed, time_typed, integral_typed, switch_typed, d_switch_typed, r_switch_typed, k_switch_typed, p_switch_typed, old_typed, initial_out_typed, initial_in_typed, dr_switch_typed, rp_switch_typed, no_members_typed, and_member_typed}
+use Rattle.net_meaning.specs.Typing.{Arrow, LeafTyping, Typed, AllTyped, arr_typed, seq_typed, first_typed, par_typed, loop_typed, i_pre_typed, delay_typed, hold_typed, accum_typed, after_typed, repeatedly_typed, time_typed, integral_typed, switch_typed, r_switch_typed, k_switch_typed, p_switch_typed, old_typed, initial_out_typed, initial_in_typed, rp_switch_typed, no_members_typed, and_member_typed}
 
 module _ {L : Type 0} {T U : LeafTyping L} {M N : TypeTree → Type 0} (u : (e : L) (Ps : List TypeTree) (A B : TypeTree) → T e Ps A B
     → U e Ps A B) (v : (A : TypeTree) → M A → N A) where
@@ -22,14 +22,12 @@ module _ {L : Type 0} {T U : LeafTyping L} {M N : TypeTree → Type 0} (u : (e :
     map_typed time_typed = time_typed
     map_typed integral_typed = integral_typed
     map_typed (switch_typed f t) = switch_typed (map_typed f) (map_typed t)
-    map_typed (d_switch_typed f t) = d_switch_typed (map_typed f) (map_typed t)
     map_typed (r_switch_typed f t) = r_switch_typed (map_typed f) (map_typed t)
     map_typed (k_switch_typed f m e t) = k_switch_typed (map_typed f) (v _ m) (map_typed e) (map_typed t)
     map_typed (p_switch_typed l k m h fs n e t) = p_switch_typed l k (v _ m) (u _ _ _ _ h) (map_all_typed fs) (v _ n) (map_typed e) (map_typed t)
     map_typed (old_typed o) = old_typed o
     map_typed (initial_out_typed h f) = initial_out_typed (u _ _ _ _ h) (map_typed f)
     map_typed (initial_in_typed h f) = initial_in_typed (u _ _ _ _ h) (map_typed f)
-    map_typed (dr_switch_typed f t) = dr_switch_typed (map_typed f) (map_typed t)
     map_typed (rp_switch_typed l k fs h t m) = rp_switch_typed l k (map_all_typed fs) (u _ _ _ _ h) (map_typed t) (v _ m)
 
     pub map_all_typed : {Ps : List TypeTree} {Os : List Arrow} {fs : Networks L} {A B : TypeTree} → AllTyped T M Ps Os fs A B → AllTyped U N Ps Os fs A B

@@ -2,7 +2,7 @@
 use Rattle.std.proofs.Common.{◌≡◌, ℕ, ◌≤◌, List, refl, sym, ap, subst, arith}
 use Rattle.net_tree.specs.Network.{Network, Networks}
 use Rattle.sample_core.specs.TypeTree.{TypeTree, unit_ty, int_ty, pair_ty, event_ty, list_ty}
-use Rattle.net_meaning.specs.Typing.{Arrow, OldAt, old_here, old_after, members, LeafTyping, Typed, AllTyped, arr_typed, seq_typed, first_typed, par_typed, loop_typed, i_pre_typed, delay_typed, hold_typed, accum_typed, after_typed, repeatedly_typed, time_typed, integral_typed, switch_typed, d_switch_typed, r_switch_typed, k_switch_typed, p_switch_typed, old_typed, initial_out_typed, initial_in_typed, dr_switch_typed, rp_switch_typed, no_members_typed, and_member_typed}
+use Rattle.net_meaning.specs.Typing.{Arrow, OldAt, old_here, old_after, members, LeafTyping, Typed, AllTyped, arr_typed, seq_typed, first_typed, par_typed, loop_typed, i_pre_typed, delay_typed, hold_typed, accum_typed, after_typed, repeatedly_typed, time_typed, integral_typed, switch_typed, r_switch_typed, k_switch_typed, p_switch_typed, old_typed, initial_out_typed, initial_in_typed, rp_switch_typed, no_members_typed, and_member_typed}
 
 old_unique : (Os : List Arrow) (k : ℕ) (o q : Arrow) → OldAt Os k o → OldAt Os k q → o ≡ q
 old_unique Os k o q old_here old_here = refl
@@ -34,8 +34,6 @@ module _ {L : Type 0} (T : LeafTyping L) {M : TypeTree → Type 0} (lu : (e : L)
     unique Ps Os net A B B' integral_typed integral_typed = refl
     unique Ps Os net A B B' (switch_typed {f = f} {C = C} df dt) (switch_typed {C = D} kf kt) =
         ap pair_left (unique Ps Os f A (pair_ty B (event_ty C)) (pair_ty B' (event_ty D)) df kf)
-    unique Ps Os net A B B' (d_switch_typed {f = f} {C = C} df dt) (d_switch_typed {C = D} kf kt) =
-        ap pair_left (unique Ps Os f A (pair_ty B (event_ty C)) (pair_ty B' (event_ty D)) df kf)
     unique Ps Os net A B B' (r_switch_typed {f = f} {D = D} df dt) (r_switch_typed kf kt) = unique Ps Os f D B B' df kf
     unique Ps Os net A B B' (k_switch_typed {f = f} df m de dt) (k_switch_typed kf n ke kt) = unique Ps Os f A B B' df kf
     unique Ps Os net A B B' (p_switch_typed {r = r} {fs = fs} {B = X} {D = D} some l m h ds n de dt)
@@ -45,7 +43,6 @@ module _ {L : Type 0} (T : LeafTyping L) {M : TypeTree → Type 0} (lu : (e : L)
         ap (λ o. o.output) (old_unique Os n (record { input = A; output = B }) (record { input = A; output = B' }) i j)
     unique Ps Os net A B B' (initial_out_typed {f = f} h df) (initial_out_typed k kf) = unique Ps Os f A B B' df kf
     unique Ps Os net A B B' (initial_in_typed {f = f} h df) (initial_in_typed k kf) = unique Ps Os f A B B' df kf
-    unique Ps Os net A B B' (dr_switch_typed {f = f} {D = D} df dt) (dr_switch_typed kf kt) = unique Ps Os f D B B' df kf
     unique Ps Os net A B B' (rp_switch_typed {fs = fs} {D = D} {B = X} some l ds h dt m) (rp_switch_typed {B = Y} some' l' ks k kt n) =
         ap list_ty (all_unique Ps Os fs D X Y some ds ks)
 

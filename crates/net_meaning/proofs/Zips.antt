@@ -72,8 +72,3 @@ gather-take (suc n) (x ∷ xs) rows = rw (heads-take, tails-take) (ap (λ vs. li
 pub gather-retime : (d : ℕ) (xs : TimedList) (rows : List (List Datum)) → gather (retime d xs) rows ≡ gather xs rows
 gather-retime d [] rows = refl
 gather-retime d (x ∷ xs) rows = refl
-
-pub pair_samples-is : (xs : TimedList) (ys : List Datum) → pair_samples xs ys ≡ with_values xs (pairs (values xs) ys)
-pair_samples-is [] ys = refl
-pair_samples-is (x ∷ xs) [] = refl
-pair_samples-is (x ∷ xs) (y ∷ ys) = ap (λ zs. (x.0, pair x.1 y) ∷ zs) (pair_samples-is xs ys)

@@ -7,7 +7,7 @@ use Rattle.sample_core.specs.TypeTree.{TypeTree, unit_ty, int_ty, pair_ty, event
 use Rattle.leaf_core.specs.Expression.{Expression}
 use Rattle.leaf_core.specs.ExpressionTyping.{ExpressionTyped}
 use Rattle.leaf_core.specs.SameValue.{SameValue}
-use Rattle.net_tree.specs.Network.{Network, Networks, arr, seq, first, par, loop_pre, initial_out, initial_in, i_pre, delay, hold, accum_by, after, repeatedly, switch, d_switch, r_switch, dr_switch, rp_switch, k_switch, p_switch, no_members, and_member}
+use Rattle.net_tree.specs.Network.{Timing, Network, Networks, arr, seq, first, par, loop_pre, initial_out, initial_in, i_pre, delay, hold, accum_by, after, repeatedly, switch, r_switch, rp_switch, k_switch, p_switch, no_members, and_member}
 use Rattle.net_meaning.specs.Typing.{Arrow, arrow, copies, members}
 use Rattle.net_meaning.specs.TypedNetwork.{NetTyped}
 use Rattle.net_meaning.specs.AlikeEnvironments.{SameOutputs}
@@ -92,30 +92,24 @@ abbrev pub RepeatedlyLaw : Type 0
 RepeatedlyLaw = (Ps : List TypeTree) (Os : List Arrow) (A C : TypeTree) (q : ℕ) (c d : Expression)
     → TwinLeaf Ps unit_ty C c d → SameOutputs Ps Os A (repeatedly q c) (repeatedly q d)
 
--- `switch`: of its network, and of its continuation under the event's value
-abbrev pub SwitchLaw : Type 0
-SwitchLaw = (Ps : List TypeTree) (Os : List Arrow) (A B C : TypeTree) (f f' t t' : Network Expression)
-    → Twin Ps Os A (pair_ty B (event_ty C)) f f' → Twin (Ps ++ C ∷ []) Os A B t t'
-    → SameOutputs Ps Os A (switch f t) (switch f' t')
-
--- `dSwitch`: the same
-abbrev pub LateSwitchLaw : Type 0
-LateSwitchLaw = (Ps : List TypeTree) (Os : List Arrow) (A B C : TypeTree)
+-- `switch`, `dSwitch`: of its network, and of its continuation under the event's value
+abbrev pub SameSwitchLaw : Type 0
+SameSwitchLaw = (tm : Timing) (Ps : List TypeTree) (Os : List Arrow) (A B C : TypeTree)
     (f f' t t' : Network Expression)
     → Twin Ps Os A (pair_ty B (event_ty C)) f f' → Twin (Ps ++ C ∷ []) Os A B t t'
-    → SameOutputs Ps Os A (d_switch f t) (d_switch f' t')
+    → SameOutputs Ps Os A (switch tm f t) (switch tm f' t')
 
--- `rSwitch`: of what runs first, and of what each event starts under its value
-abbrev pub RestartLaw : Type 0
-RestartLaw = (Ps : List TypeTree) (Os : List Arrow) (D B C : TypeTree)
+-- `rSwitch`, `drSwitch`: of what runs first, and of what each event starts under its value
+abbrev pub SameRestartLaw : Type 0
+SameRestartLaw = (tm : Timing) (Ps : List TypeTree) (Os : List Arrow) (D B C : TypeTree)
     (f f' t t' : Network Expression)
     → Twin Ps Os D B f f' → Twin (Ps ++ C ∷ []) Os D B t t'
-    → SameOutputs Ps Os (pair_ty D (event_ty C)) (r_switch f t) (r_switch f' t')
+    → SameOutputs Ps Os (pair_ty D (event_ty C)) (r_switch tm f t) (r_switch tm f' t')
 
 -- `kSwitch`: of its network, of what watches it, and of its continuation under the event's value and
 -- the network that was frozen
-abbrev pub FreezeLaw : Type 0
-FreezeLaw = (Ps : List TypeTree) (Os : List Arrow) (A B C : TypeTree)
+abbrev pub SameFreezeLaw : Type 0
+SameFreezeLaw = (Ps : List TypeTree) (Os : List Arrow) (A B C : TypeTree)
     (f f' e e' t t' : Network Expression) → Twin Ps Os A B f f'
     → Twin Ps Os (pair_ty A B) (event_ty C) e e'
     → Twin (Ps ++ C ∷ []) (Os ++ arrow A B ∷ []) A B t t'
@@ -123,8 +117,8 @@ FreezeLaw = (Ps : List TypeTree) (Os : List Arrow) (A B C : TypeTree)
 
 -- `pSwitch`: of its route, of its members, of what watches them, and of its continuation under the
 -- event's value and the members that were frozen
-abbrev pub FreezeMembersLaw : Type 0
-FreezeMembersLaw = (Ps : List TypeTree) (Os : List Arrow) (A B C D : TypeTree) (r s : Expression)
+abbrev pub SameFreezeMembersLaw : Type 0
+SameFreezeMembersLaw = (Ps : List TypeTree) (Os : List Arrow) (A B C D : TypeTree) (r s : Expression)
     (fs gs : Networks Expression) (e e' t t' : Network Expression)
     → members fs ≤ 64 → TwinLeaf Ps (pair_ty A int_ty) D r s → TwinMembers Ps Os D B fs gs
     → Twin Ps Os (pair_ty A (list_ty B)) (event_ty C) e e'
@@ -143,16 +137,9 @@ InitialInLaw = (Ps : List TypeTree) (Os : List Arrow) (A B : TypeTree) (c d : Ex
     (f f' : Network Expression) → TwinLeaf Ps unit_ty A c d → Twin Ps Os A B f f'
     → SameOutputs Ps Os A (initial_in c f) (initial_in d f')
 
--- `drSwitch`: of what runs first, and of what each event starts under its value
-abbrev pub LateRestartLaw : Type 0
-LateRestartLaw = (Ps : List TypeTree) (Os : List Arrow) (D B C : TypeTree)
-    (f f' t t' : Network Expression)
-    → Twin Ps Os D B f f' → Twin (Ps ++ C ∷ []) Os D B t t'
-    → SameOutputs Ps Os (pair_ty D (event_ty C)) (dr_switch f t) (dr_switch f' t')
-
 -- `rpSwitchB`: of its members, of its choice, and of what that starts under a value
-abbrev pub CollectionLaw : Type 0
-CollectionLaw = (Ps : List TypeTree) (Os : List Arrow) (D B C V : TypeTree)
+abbrev pub SameCollectionLaw : Type 0
+SameCollectionLaw = (Ps : List TypeTree) (Os : List Arrow) (D B C V : TypeTree)
     (fs gs : Networks Expression) (m n : Expression) (t t' : Network Expression)
     → TwinMembers Ps Os D B fs gs
     → TwinLeaf Ps C (pair_ty (list_ty int_ty) (list_ty V)) m n

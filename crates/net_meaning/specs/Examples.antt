@@ -4,7 +4,7 @@ use Rattle.sample_core.specs.Datum.{Datum, unit, bool, int, pair, no_event, even
 use Rattle.sample_core.specs.TypeTree.{unit_ty, int_ty}
 use Rattle.leaf_core.specs.Expression.{Expression, input, param, unit_expr, bool_expr, int_expr, pair_expr, fst, snd, neg, add, mul, less, equal, not_expr, and_expr, if_expr, no_event_expr, event_expr, list_expr, expressions_of}
 use Rattle.net_meaning.specs.SignalFunction.{TimedList}
-use Rattle.net_tree.specs.Network.{Network, arr, seq, first, par, loop_pre, initial_out, initial_in, i_pre, delay, hold, accum_by, after, repeatedly, time, integral, switch, d_switch, r_switch, dr_switch, rp_switch, k_switch, p_switch, old, networks_of}
+use Rattle.net_tree.specs.Network.{Network, arr, seq, first, par, loop_pre, initial_out, initial_in, i_pre, delay, hold, accum_by, after, repeatedly, time, integral, at_once, delayed, switch, r_switch, rp_switch, k_switch, p_switch, old, networks_of}
 use Rattle.net_tree.specs.Height.{height}
 use Rattle.net_tree.specs.Weight.{weight}
 use Rattle.net_meaning.specs.TypedNetwork.{stream_of}
@@ -84,21 +84,21 @@ TimeWraps =
 
 -- `switch` outputs its continuation at the event's sample
 abbrev pub SwitchAtOnce : Type 0
-SwitchAtOnce = stream_of (switch above_nine add_param) one_then_twenty ≡ n 1 ∷ n 40 ∷ n 23 ∷ []
+SwitchAtOnce = stream_of (switch at_once above_nine add_param) one_then_twenty ≡ n 1 ∷ n 40 ∷ n 23 ∷ []
 
 -- `dSwitch` puts it out from the sample after
 abbrev pub SwitchLate : Type 0
-SwitchLate = stream_of (d_switch above_nine add_param) one_then_twenty ≡ n 1 ∷ n 20 ∷ n 23 ∷ []
+SwitchLate = stream_of (switch delayed above_nine add_param) one_then_twenty ≡ n 1 ∷ n 20 ∷ n 23 ∷ []
 
 -- but starts it at the event's sample
 abbrev pub StartedAtTheEvent : Type 0
-StartedAtTheEvent = stream_of (d_switch above_nine time) one_then_twenty ≡ n 1 ∷ n 20 ∷ n 1 ∷ []
+StartedAtTheEvent = stream_of (switch delayed above_nine time) one_then_twenty ≡ n 1 ∷ n 20 ∷ n 1 ∷ []
 
 -- `(switch F (switch (arr (pair x (event (neg (p 0))))) (arr (add x (p 1)))))`: two switches in one
 -- sample
 abbrev pub switch_twice : Network Expression
-switch_twice = switch above_nine
-    (switch (arr (pair_expr input (event_expr (neg (param 0))))) (arr (add input (param 1))))
+switch_twice = switch at_once above_nine
+    (switch at_once (arr (pair_expr input (event_expr (neg (param 0))))) (arr (add input (param 1))))
 
 -- 3 added to -20
 abbrev pub SwitchTwice : Type 0
@@ -110,7 +110,7 @@ SwitchTwiceWeight = weight switch_twice [] ≡ 5
 
 -- `(rSwitch (iPre 0) (iPre (p 0)))`
 abbrev pub restart : Network Expression
-restart = r_switch (i_pre (num 0)) (i_pre (param 0))
+restart = r_switch at_once (i_pre (num 0)) (i_pre (param 0))
 
 -- each event starts the continuation anew
 abbrev pub RestartAtEvents : Type 0
@@ -126,7 +126,7 @@ RestartAtTheFirst = stream_of restart
 -- `(kSwitch time E (switch (arr (pair -1 (if (equal x 2) (event unit) (none Unit)))) (old 0)))`
 abbrev pub freeze_clock : Network Expression
 freeze_clock = k_switch time (at_left 1)
-    (switch
+    (switch at_once
     (arr
     (pair_expr (int_expr (negsuc 0))
     (if_expr (equal input (num 2)) (event_expr unit_expr) (no_event_expr unit_ty)))) (old 0))
@@ -174,7 +174,7 @@ IntegralWraps = stream_of integral ((0, n 9223372036854775807) ∷ (2, n 0) ∷ 
 
 -- `(rSwitch time time)`: at each event the clock starts anew
 abbrev pub RestartClock : Type 0
-RestartClock = stream_of (r_switch time time)
+RestartClock = stream_of (r_switch at_once time time)
     ((0, pair unit no_event) ∷ (4, pair unit no_event) ∷ (5, pair unit (event unit))
     ∷ (6, pair unit no_event) ∷ (7, pair unit (event unit)) ∷ (1, pair unit no_event) ∷ []) ≡ n 0
     ∷ n 4 ∷ n 0 ∷ n 6 ∷ n 0 ∷ n 1 ∷ []
@@ -262,7 +262,7 @@ two_events = (0, pair (n 5) no_event) ∷ (1, pair (n 6) (event (n 9)))
 
 -- `(drSwitch (iPre 0) (iPre (p 0)))`
 abbrev pub restart_late : Network Expression
-restart_late = dr_switch (i_pre (num 0)) (i_pre (param 0))
+restart_late = r_switch delayed (i_pre (num 0)) (i_pre (param 0))
 
 -- at each event what ran before still outputs
 abbrev pub RestartLate : Type 0
@@ -279,7 +279,7 @@ RestartLateWeight = weight restart_late [] ≡ 4
 
 -- `(drSwitch (iPre 0) (>>> (arr x) (iPre (p 0))))`
 abbrev pub restart_two_late : Network Expression
-restart_two_late = dr_switch (i_pre (num 0)) (seq (arr input) (i_pre (param 0)))
+restart_two_late = r_switch delayed (i_pre (num 0)) (seq (arr input) (i_pre (param 0)))
 
 -- the same outputs
 abbrev pub RestartTwoLate : Type 0

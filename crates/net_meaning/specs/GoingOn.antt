@@ -3,7 +3,7 @@ use Rattle.std.specs.Prelude.{◌≡◌, ℕ, negsuc, List, [], ◌∷◌}
 use Rattle.sample_core.specs.Datum.{Datum, pair, no_event, event, list, list_of}
 use Rattle.sample_core.specs.TypeTree.{unit_ty, int_ty}
 use Rattle.leaf_core.specs.Expression.{Expression, input, param, unit_expr, int_expr, pair_expr, fst, add, mul, less, equal, if_expr, no_event_expr, event_expr, nth}
-use Rattle.net_tree.specs.Network.{Network, arr, seq, par, initial_out, initial_in, i_pre, time, integral, switch, r_switch, dr_switch, rp_switch, k_switch, old, networks_of}
+use Rattle.net_tree.specs.Network.{Network, arr, seq, par, initial_out, initial_in, i_pre, time, integral, at_once, delayed, switch, r_switch, rp_switch, k_switch, old, networks_of}
 use Rattle.net_tree.specs.Weight.{weight}
 use Rattle.net_meaning.specs.TypedNetwork.{stream_of}
 use Rattle.net_meaning.specs.Examples.{n, minus, num, add_param, numbers, int_list}
@@ -18,7 +18,7 @@ with_event k c = pair (n k) (event (n c))
 
 -- `(drSwitch (arr (mul x 10)) (>>> (arr (add x (p 0))) (iPre (p 0))))`
 abbrev pub restart_at_each : Network Expression
-restart_at_each = dr_switch (arr (mul input (num 10))) (seq add_param (i_pre (param 0)))
+restart_at_each = r_switch delayed (arr (mul input (num 10))) (seq add_param (i_pre (param 0)))
 
 -- events at three samples, also at the first
 abbrev pub RestartAtEach : Type 0
@@ -63,7 +63,7 @@ collect_under = rp_switch (networks_of (add_param ∷ []))
 -- (>>> C (arr (nth x 1 -1)))))`, C the collection
 abbrev pub restarted_collection : Network Expression
 restarted_collection =
-    r_switch (arr input)
+    r_switch at_once (arr input)
     (seq
     (arr
     (pair_expr (add input (param 0))
@@ -106,8 +106,8 @@ ResumedOpeningsWeight = weight resumed_openings [] ≡ 13
 -- (arr (add (mul 100 (p 1)) (add x (p 0))))))`
 abbrev pub late_under : Network Expression
 late_under =
-    switch (arr (pair_expr (fst input) (event_expr (num 4))))
-    (dr_switch add_param (arr (add (mul (num 100) (param 1)) (add input (param 0)))))
+    switch at_once (arr (pair_expr (fst input) (event_expr (num 4))))
+    (r_switch delayed add_param (arr (add (mul (num 100) (param 1)) (add input (param 0)))))
 
 -- what starts has the outer value and its own
 abbrev pub LateUnder : Type 0
@@ -147,7 +147,7 @@ ResumedCollectionWeight = weight resumed_collection [] ≡ 133
 abbrev pub resumed_twice : Network Expression
 resumed_twice =
     k_switch
-    (dr_switch time (seq integral (arr (add input (mul (num 1000) (param 0)))))) at_seven
+    (r_switch delayed time (seq integral (arr (add input (mul (num 1000) (param 0)))))) at_seven
     (seq (par (networks_of (old 0 ∷ old 0 ∷ [])))
     (arr
     (add (nth input (num 0) (num 0)) (mul (num 1000000) (nth input (num 1) (num 0))))))
@@ -165,7 +165,7 @@ ResumedTwiceWeight = weight resumed_twice [] ≡ 31
 -- `(rpSwitchB (col (drSwitch (iPre 0) (iPre (p 0)))) (pair x (list Int)) (arr (fst x)))`
 abbrev pub restarted_member : Network Expression
 restarted_member =
-    rp_switch (networks_of (dr_switch (i_pre (num 0)) (i_pre (param 0)) ∷ []))
+    rp_switch (networks_of (r_switch delayed (i_pre (num 0)) (i_pre (param 0)) ∷ []))
     (pair_expr input (int_list [])) (arr (fst input))
 
 -- one member goes on as two, which an event then starts anew

@@ -1,8 +1,8 @@
 -- What a network denotes.
 use Rattle.std.specs.Prelude.{ℕ, List, [], ◌∷◌, ◌++◌, map, get_or}
 use Rattle.sample_core.specs.Datum.{Datum, unit}
-use Rattle.net_meaning.specs.SignalFunction.{SignalFunction, values, by_past, i_pre_value, delay_value, latest_event, accum_by_value, after_value, repeatedly_value, time_value, integral_value, seq_function, first_function, par_function, loop_pre_function, switch_function, d_switch_function, r_switch_function, dr_switch_function, initial_out_function, initial_in_function, rp_switch_function, k_switch_function, p_switch_function}
-use Rattle.net_tree.specs.Network.{Network, Networks, arr, seq, first, par, loop_pre, initial_out, initial_in, i_pre, delay, hold, accum_by, after, repeatedly, time, integral, switch, d_switch, r_switch, dr_switch, rp_switch, k_switch, p_switch, old, no_members, and_member}
+use Rattle.net_meaning.specs.SignalFunction.{SignalFunction, values, by_past, i_pre_value, delay_value, latest_event, accum_by_value, after_value, repeatedly_value, time_value, integral_value, seq_function, first_function, par_function, loop_pre_function, switch_function, r_switch_function, initial_out_function, initial_in_function, rp_switch_function, k_switch_function, p_switch_function}
+use Rattle.net_tree.specs.Network.{Network, Networks, arr, seq, first, par, loop_pre, initial_out, initial_in, i_pre, delay, hold, accum_by, after, repeatedly, time, integral, switch, r_switch, rp_switch, k_switch, p_switch, old, no_members, and_member}
 
 -- what is in scope: the parameters, and what the frozen networks denote once resumed
 pub record Context : Type 0 where
@@ -38,12 +38,10 @@ abbrev mutual
   meaning val (repeatedly q c) E = by_past (repeatedly_value q (val c E.params unit))
   meaning val time E = by_past time_value
   meaning val integral E = by_past integral_value
-  meaning val (switch f t) E =
-      switch_function (meaning val f E) (λ c. meaning val t (with_param E c))
-  meaning val (d_switch f t) E =
-      d_switch_function (meaning val f E) (λ c. meaning val t (with_param E c))
-  meaning val (r_switch f t) E =
-      r_switch_function (meaning val f E) (λ c. meaning val t (with_param E c))
+  meaning val (switch tm f t) E =
+      switch_function tm (meaning val f E) (λ c. meaning val t (with_param E c))
+  meaning val (r_switch tm f t) E =
+      r_switch_function tm (meaning val f E) (λ c. meaning val t (with_param E c))
   meaning val (k_switch f e t) E =
       k_switch_function (meaning val f E) (meaning val e E)
       (λ c o. meaning val t (with_olds (with_param E c) (o ∷ [])))
@@ -54,8 +52,6 @@ abbrev mutual
   meaning val (initial_out c f) E =
       initial_out_function (val c E.params unit) (meaning val f E)
   meaning val (initial_in c f) E = initial_in_function (val c E.params unit) (meaning val f E)
-  meaning val (dr_switch f t) E =
-      dr_switch_function (meaning val f E) (λ c. meaning val t (with_param E c))
   meaning val (rp_switch fs m t) E =
       rp_switch_function (val m E.params) (meanings val fs E)
       (λ v. meaning val t (with_param E v))

@@ -4,8 +4,8 @@ use Rattle.std.specs.Prelude.{◌≡◌, ℕ, suc, ◌<◌, ◌≤◌, List, ◌
 use Rattle.sample_core.specs.Datum.{Datum, left, right}
 use Rattle.leaf_core.specs.Expression.{Expression}
 use Rattle.leaf_core.specs.ExpressionValue.{value_of}
-use Rattle.net_meaning.specs.SignalFunction.{TimedList, pair_samples, first_event, cut_at, step_of, pieces, route, collect, resume, next_sample, each_late, gather, Member, new_members, by_members}
-use Rattle.net_tree.specs.Network.{Network, Networks, switch, d_switch, r_switch, dr_switch, rp_switch, k_switch, p_switch, old, no_members, and_member}
+use Rattle.net_meaning.specs.SignalFunction.{TimedList, pair_samples, first_event, cut_at, step_of, pieces, route, collect, resume, until, lap, each_piece, gather, Member, new_members, by_members}
+use Rattle.net_tree.specs.Network.{Timing, at_once, delayed, Network, Networks, switch, r_switch, rp_switch, k_switch, p_switch, old, no_members, and_member}
 use Rattle.net_meaning.specs.Meaning.{meanings}
 use Rattle.net_meaning.specs.Typing.{members}
 use Rattle.net_meaning.specs.Environment.{Environment, param, frozen, context_of}
@@ -27,34 +27,28 @@ freeze_members E r i no_members p d F = F
 freeze_members E r i (and_member f fs) p d F =
     freeze_members E r (suc i) fs p d (frozen F f E (route (route_in E r) i p) d)
 
--- `switch`: the first event of f's second components is where t takes over
+-- `switch`, `dSwitch`: the first event of f's second components is where t takes over, and is heard,
+-- or where it starts, and is heard from the next sample on
 abbrev pub SwitchLaw : Type 0
-SwitchLaw = (f t : Network Expression) (E : Environment Expression) (xs : TimedList)
-    → outputs_of (switch f t) E xs
+SwitchLaw = (tm : Timing) (f t : Network Expression) (E : Environment Expression) (xs : TimedList)
+    → outputs_of (switch tm f t) E xs
     ≡ cut_at (first_event (map right (outputs_of f E xs))) (map left (outputs_of f E xs))
-    (λ n c. take n (map left (outputs_of f E xs)) ++ outputs_of t (param E c) (drop n xs))
-
--- `dSwitch`: at that sample the output is still f's
-abbrev pub SwitchLateLaw : Type 0
-SwitchLateLaw = (f t : Network Expression) (E : Environment Expression) (xs : TimedList)
-    → outputs_of (d_switch f t) E xs
-    ≡ cut_at (first_event (map right (outputs_of f E xs))) (map left (outputs_of f E xs))
-    (λ n c. take (suc n) (map left (outputs_of f E xs))
-    ++ drop 1 (outputs_of t (param E c) (drop n xs)))
+    (λ n c. take (until tm n) (map left (outputs_of f E xs))
+    ++ drop (until tm 0) (outputs_of t (param E c) (drop n xs)))
 
 -- `rSwitch`: f on the samples before the first event, t anew from each event on
 abbrev pub RestartLaw : Type 0
 RestartLaw = (f t : Network Expression) (E : Environment Expression) (xs : TimedList)
-    → outputs_of (r_switch f t) E xs ≡ outputs_of f E (pieces xs).0
+    → outputs_of (r_switch at_once f t) E xs ≡ outputs_of f E (pieces xs).0
     ++ flat_map (λ piece. outputs_of t (param E piece.0) piece.1) (pieces xs).1
 
 -- `drSwitch`: the same pieces, each with the first sample of the next; what t first outputs on its
 -- piece isn't heard
 abbrev pub LateRestartLaw : Type 0
 LateRestartLaw = (f t : Network Expression) (E : Environment Expression) (xs : TimedList)
-    → outputs_of (dr_switch f t) E xs
-    ≡ outputs_of f E ((pieces xs).0 ++ next_sample (pieces xs).1)
-    ++ each_late (λ c. outputs_of t (param E c)) (pieces xs).1
+    → outputs_of (r_switch delayed f t) E xs
+    ≡ outputs_of f E ((pieces xs).0 ++ lap delayed (pieces xs).1)
+    ++ each_piece delayed (λ c. outputs_of t (param E c)) (pieces xs).1
 
 -- a network in an environment of its own
 abbrev pub Runner : Type 0

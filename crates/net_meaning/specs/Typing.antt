@@ -3,7 +3,7 @@ use Rattle.std.specs.Prelude.{ℕ, zero, suc, ◌≤◌, List, [], ◌∷◌, �
 use Rattle.sample_core.specs.Datum.{Datum}
 use Rattle.sample_core.specs.TypeTree.{TypeTree, unit_ty, int_ty, pair_ty, event_ty, list_ty}
 use Rattle.sample_core.specs.HasType.{HasType}
-use Rattle.net_tree.specs.Network.{Network, Networks, arr, seq, first, par, loop_pre, initial_out, initial_in, i_pre, delay, hold, accum_by, after, repeatedly, time, integral, switch, d_switch, r_switch, dr_switch, rp_switch, k_switch, p_switch, old, no_members, and_member}
+use Rattle.net_tree.specs.Network.{Timing, Network, Networks, arr, seq, first, par, loop_pre, initial_out, initial_in, i_pre, delay, hold, accum_by, after, repeatedly, time, integral, switch, r_switch, rp_switch, k_switch, p_switch, old, no_members, and_member}
 
 -- a frozen network's input and output
 pub record Arrow : Type 0 where
@@ -74,15 +74,14 @@ mutual
     time_typed : {Ps : List TypeTree} {Os : List Arrow} {A : TypeTree}
         → Typed T M Ps Os time A int_ty
     integral_typed : {Ps : List TypeTree} {Os : List Arrow} → Typed T M Ps Os integral int_ty int_ty
-    switch_typed : {Ps : List TypeTree} {Os : List Arrow} {f t : Network L} {A B C : TypeTree}
+    switch_typed : {Ps : List TypeTree} {Os : List Arrow} {tm : Timing} {f t : Network L}
+        {A B C : TypeTree}
         → Typed T M Ps Os f A (pair_ty B (event_ty C)) → Typed T M (Ps ++ C ∷ []) Os t A B
-        → Typed T M Ps Os (switch f t) A B
-    d_switch_typed : {Ps : List TypeTree} {Os : List Arrow} {f t : Network L} {A B C : TypeTree}
-        → Typed T M Ps Os f A (pair_ty B (event_ty C)) → Typed T M (Ps ++ C ∷ []) Os t A B
-        → Typed T M Ps Os (d_switch f t) A B
-    r_switch_typed : {Ps : List TypeTree} {Os : List Arrow} {f t : Network L} {D B C : TypeTree}
+        → Typed T M Ps Os (switch tm f t) A B
+    r_switch_typed : {Ps : List TypeTree} {Os : List Arrow} {tm : Timing} {f t : Network L}
+        {D B C : TypeTree}
         → Typed T M Ps Os f D B → Typed T M (Ps ++ C ∷ []) Os t D B
-        → Typed T M Ps Os (r_switch f t) (pair_ty D (event_ty C)) B
+        → Typed T M Ps Os (r_switch tm f t) (pair_ty D (event_ty C)) B
     k_switch_typed : {Ps : List TypeTree} {Os : List Arrow} {f e t : Network L} {A B C : TypeTree}
         → Typed T M Ps Os f A B → M (pair_ty A B) → Typed T M Ps Os e (pair_ty A B) (event_ty C)
         → Typed T M (Ps ++ C ∷ []) (Os ++ arrow A B ∷ []) t A B
@@ -102,9 +101,6 @@ mutual
     initial_in_typed : {Ps : List TypeTree} {Os : List Arrow} {c : L} {f : Network L}
         {A B : TypeTree}
         → T c Ps unit_ty A → Typed T M Ps Os f A B → Typed T M Ps Os (initial_in c f) A B
-    dr_switch_typed : {Ps : List TypeTree} {Os : List Arrow} {f t : Network L} {D B C : TypeTree}
-        → Typed T M Ps Os f D B → Typed T M (Ps ++ C ∷ []) Os t D B
-        → Typed T M Ps Os (dr_switch f t) (pair_ty D (event_ty C)) B
     rp_switch_typed : {Ps : List TypeTree} {Os : List Arrow} {fs : Networks L} {m : L}
         {t : Network L} {D B C V : TypeTree}
         → 1 ≤ members fs → members fs ≤ 64 → AllTyped T M Ps Os fs D B

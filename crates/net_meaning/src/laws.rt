@@ -1,10 +1,28 @@
 // Laws of what networks denote: each function is a law, and does nothing.
 
-ghost use Rattle.net_meaning.specs.Congruence as Same;
+ghost use Rattle.net_meaning.specs.Congruence.{
+  ArrLaw,
+  SequenceLaw,
+  FirstLaw,
+  ParallelLaw,
+  LoopLaw,
+  PreviousLaw,
+  DelayLaw,
+  HoldLaw,
+  AccumulateLaw,
+  AfterLaw,
+  RepeatedlyLaw,
+  SameSwitchLaw,
+  SameRestartLaw,
+  SameFreezeLaw,
+  SameFreezeMembersLaw,
+  InitialOutLaw,
+  InitialInLaw,
+  SameCollectionLaw,
+};
 ghost use Rattle.net_meaning.specs.Laws.{LengthLaw, CausalLaw, RetimeLaw};
 ghost use Rattle.net_meaning.specs.SwitchLaws.{
   SwitchLaw,
-  SwitchLateLaw,
   RestartLaw,
   FreezeLaw,
   FreezeMembersLaw,
@@ -90,7 +108,6 @@ pub fn stream_laws()
 /// What the switches and resumed networks output, by the environments that their parts run in.
 pub fn switching_laws()
     ensures switch { SwitchLaw }
-    ensures switch_late { SwitchLateLaw }
     ensures restart { RestartLaw }
     ensures freeze { FreezeLaw }
     ensures freeze_members { FreezeMembersLaw }
@@ -171,24 +188,22 @@ pub fn weight_examples()
 
 /// Each form outputs the same in alike environments where its parts do: one law a form.
 pub fn congruence_laws()
-    ensures arr { Same.ArrLaw }
-    ensures sequence { Same.SequenceLaw }
-    ensures first { Same.FirstLaw }
-    ensures parallel { Same.ParallelLaw }
-    ensures loop_pre { Same.LoopLaw }
-    ensures previous { Same.PreviousLaw }
-    ensures delay { Same.DelayLaw }
-    ensures hold { Same.HoldLaw }
-    ensures accumulate { Same.AccumulateLaw }
-    ensures after { Same.AfterLaw }
-    ensures repeatedly { Same.RepeatedlyLaw }
-    ensures switch { Same.SwitchLaw }
-    ensures late_switch { Same.LateSwitchLaw }
-    ensures restart { Same.RestartLaw }
-    ensures freeze { Same.FreezeLaw }
-    ensures freeze_members { Same.FreezeMembersLaw }
-    ensures initial_out { Same.InitialOutLaw }
-    ensures initial_in { Same.InitialInLaw }
-    ensures late_restart { Same.LateRestartLaw }
-    ensures collection { Same.CollectionLaw }
+    ensures arr { ArrLaw }
+    ensures sequence { SequenceLaw }
+    ensures first { FirstLaw }
+    ensures parallel { ParallelLaw }
+    ensures loop_pre { LoopLaw }
+    ensures previous { PreviousLaw }
+    ensures delay { DelayLaw }
+    ensures hold { HoldLaw }
+    ensures accumulate { AccumulateLaw }
+    ensures after { AfterLaw }
+    ensures repeatedly { RepeatedlyLaw }
+    ensures switch { SameSwitchLaw }
+    ensures restart { SameRestartLaw }
+    ensures freeze { SameFreezeLaw }
+    ensures freeze_members { SameFreezeMembersLaw }
+    ensures initial_out { InitialOutLaw }
+    ensures initial_in { InitialInLaw }
+    ensures collection { SameCollectionLaw }
 {}

@@ -7,7 +7,7 @@ use Rattle.leaf_core.specs.Expression.{Expression, Expressions, no_more, and_the
 use Rattle.leaf_core.specs.Inside.{Inside, one, two, three, row, inside_of}
 use Rattle.leaf_core.specs.Parts.{element, with_element, part_inside, inside_with, refilled, part, with_part, part_at, with_part_at}
 use Rattle.leaf_core.proofs.PartTypes.{inner}
-use Rattle.net_tree.specs.Network.{Network, Networks, arr, seq, first, par, loop_pre, i_pre, delay, hold, accum_by, after, repeatedly, switch, d_switch, r_switch, k_switch, p_switch, initial_out, initial_in, dr_switch, rp_switch, no_members, and_member}
+use Rattle.net_tree.specs.Network.{Network, Networks, arr, seq, first, par, loop_pre, i_pre, delay, hold, accum_by, after, repeatedly, switch, r_switch, k_switch, p_switch, initial_out, initial_in, rp_switch, no_members, and_member}
 use Rattle.net_tree.specs.Place.{◌>>=◌, Tree, a_network, a_leaf, member, child, child_network, collection_child, PSwitchChild, p_switch_child, member_child, event_child, continuation_child, no_child}
 use Rattle.net_syntax.specs.Placed.{Bound, Placed, placed, placed_at, bound_in, bound_behind, bound_started, with_member, with_child, with_p_switch_child, with_collection_child, replaced}
 use Rattle.net_opt.specs.Order.{LeftOf, lower, deeper}
@@ -326,12 +326,10 @@ child_put (accum_by g z) zero (a_leaf s) = put_first (accum_by g z) (accum_by s 
 child_put (accum_by g z) (suc zero) (a_leaf s) = put_second (accum_by g z) (accum_by g s) (a_leaf s) refl refl (refl, refl)
 child_put (after q c) zero (a_leaf s) = put_first (after q c) (after q s) (a_leaf s) refl refl
 child_put (repeatedly q c) zero (a_leaf s) = put_first (repeatedly q c) (repeatedly q s) (a_leaf s) refl refl
-child_put (switch f t) zero (a_network s) = put_first (switch f t) (switch s t) (a_network s) refl refl
-child_put (switch f t) (suc zero) (a_network s) = put_second (switch f t) (switch f s) (a_network s) refl refl (refl, refl)
-child_put (d_switch f t) zero (a_network s) = put_first (d_switch f t) (d_switch s t) (a_network s) refl refl
-child_put (d_switch f t) (suc zero) (a_network s) = put_second (d_switch f t) (d_switch f s) (a_network s) refl refl (refl, refl)
-child_put (r_switch f t) zero (a_network s) = put_first (r_switch f t) (r_switch s t) (a_network s) refl refl
-child_put (r_switch f t) (suc zero) (a_network s) = put_second (r_switch f t) (r_switch f s) (a_network s) refl refl (refl, refl)
+child_put (switch tm f t) zero (a_network s) = put_first (switch tm f t) (switch tm s t) (a_network s) refl refl
+child_put (switch tm f t) (suc zero) (a_network s) = put_second (switch tm f t) (switch tm f s) (a_network s) refl refl (refl, refl)
+child_put (r_switch tm f t) zero (a_network s) = put_first (r_switch tm f t) (r_switch tm s t) (a_network s) refl refl
+child_put (r_switch tm f t) (suc zero) (a_network s) = put_second (r_switch tm f t) (r_switch tm f s) (a_network s) refl refl (refl, refl)
 child_put (k_switch f e t) zero (a_network s) = put_first (k_switch f e t) (k_switch s e t) (a_network s) refl refl
 child_put (k_switch f e t) (suc zero) (a_network s) = put_second (k_switch f e t) (k_switch f s t) (a_network s) refl refl (refl, refl)
 child_put (k_switch f e t) (suc (suc zero)) (a_network s) = put_third (k_switch f e t) (k_switch f e s) (a_network s) refl refl (refl, refl) (refl, refl)
@@ -341,8 +339,6 @@ child_put (initial_out c f) zero (a_leaf s) = put_first (initial_out c f) (initi
 child_put (initial_out c f) (suc zero) (a_network s) = put_second (initial_out c f) (initial_out c s) (a_network s) refl refl (refl, refl)
 child_put (initial_in c f) zero (a_leaf s) = put_first (initial_in c f) (initial_in s f) (a_leaf s) refl refl
 child_put (initial_in c f) (suc zero) (a_network s) = put_second (initial_in c f) (initial_in c s) (a_network s) refl refl (refl, refl)
-child_put (dr_switch f t) zero (a_network s) = put_first (dr_switch f t) (dr_switch s t) (a_network s) refl refl
-child_put (dr_switch f t) (suc zero) (a_network s) = put_second (dr_switch f t) (dr_switch f s) (a_network s) refl refl (refl, refl)
 child_put (rp_switch fs m t) k s = collection_put fs m t k (p_switch_child fs k) refl s
 child_put _ k s = tt
 

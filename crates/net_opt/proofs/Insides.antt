@@ -5,7 +5,7 @@ use Rattle.leaf_core.specs.Expression.{Expression, Expressions, no_more, and_the
 use Rattle.leaf_core.specs.Inside.{Inside, one, two, three, row, inside_of, inside_nodes}
 use Rattle.leaf_core.specs.Parts.{element, part_inside, part}
 use Rattle.leaf_core.proofs.InsideLaws.{nodes_inside}
-use Rattle.net_tree.specs.Network.{Network, Networks, network_size, networks_size, arr, seq, first, par, loop_pre, i_pre, delay, hold, accum_by, after, repeatedly, switch, d_switch, r_switch, k_switch, p_switch, initial_out, initial_in, dr_switch, rp_switch, no_members, and_member}
+use Rattle.net_tree.specs.Network.{Network, Networks, network_size, networks_size, arr, seq, first, par, loop_pre, i_pre, delay, hold, accum_by, after, repeatedly, switch, r_switch, k_switch, p_switch, initial_out, initial_in, rp_switch, no_members, and_member}
 use Rattle.net_meaning.specs.Typing.{members}
 use Rattle.net_tree.specs.Place.{Tree, a_network, a_leaf, member, child, child_network, collection_child, PSwitchChild, p_switch_child, member_child, event_child, continuation_child, no_child}
 use Rattle.net_tree.specs.FormParts.{FormParts, leaves, fed, routed, collection, parts_of}
@@ -100,12 +100,10 @@ child_fits (accum_by g z) zero = omega arith
 child_fits (accum_by g z) (suc zero) = omega arith
 child_fits (after q c) zero = omega arith
 child_fits (repeatedly q c) zero = omega arith
-child_fits (switch f t) zero = (omega arith, omega arith)
-child_fits (switch f t) (suc zero) = (omega arith, omega arith)
-child_fits (d_switch f t) zero = (omega arith, omega arith)
-child_fits (d_switch f t) (suc zero) = (omega arith, omega arith)
-child_fits (r_switch f t) zero = (omega arith, omega arith)
-child_fits (r_switch f t) (suc zero) = (omega arith, omega arith)
+child_fits (switch tm f t) zero = (omega arith, omega arith)
+child_fits (switch tm f t) (suc zero) = (omega arith, omega arith)
+child_fits (r_switch tm f t) zero = (omega arith, omega arith)
+child_fits (r_switch tm f t) (suc zero) = (omega arith, omega arith)
 child_fits (k_switch f e t) zero = (omega arith, omega arith)
 child_fits (k_switch f e t) (suc zero) = (omega arith, omega arith)
 child_fits (k_switch f e t) (suc (suc zero)) = (omega arith, omega arith)
@@ -115,8 +113,6 @@ child_fits (initial_out c f) zero = omega arith
 child_fits (initial_out c f) (suc zero) = (omega arith, omega arith)
 child_fits (initial_in c f) zero = omega arith
 child_fits (initial_in c f) (suc zero) = (omega arith, omega arith)
-child_fits (dr_switch f t) zero = (omega arith, omega arith)
-child_fits (dr_switch f t) (suc zero) = (omega arith, omega arith)
 child_fits (rp_switch fs m t) k = collection_fits fs m t k (p_switch_child fs k) (behind fs k)
 child_fits _ k = tt
 

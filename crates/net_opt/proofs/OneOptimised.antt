@@ -20,6 +20,7 @@ use Rattle.net_opt.specs.Optimising.{MayTake, NoneLeft, NoStepBy, FirstIn, First
 use Rattle.net_opt.specs.Order.{Before, on_the_way, before_at, before_below}
 use Rattle.net_opt.specs.Search.{Takes}
 use Rattle.net_opt.proofs.Tried.{no_kind_net, no_kind_leaf}
+use Rattle.net_opt.specs.declared.optimiser.TheConstants.{MOST_TAKEN}
 
 -- of two positions that are different one comes before the other
 data Order (p q : List ℕ) : Type 0 where
@@ -129,11 +130,11 @@ one_way n t u v ss us (first_then {u = y} {s = s} {ss = more} i x xs) (first_the
     one_way (n - 1) z u v more rest (subst (λ q. FirstSteps q more u) next xs) ws (ended_behind n s more u a) (ended_behind n r rest v b) in
     (behind.0, λ k. step k ∷ behind.1 k)
 
-ended : (t u : TypedNetwork) (ss : List Step) → Exhausts t ss u → Ended 1000 ss u
+ended : (t u : TypedNetwork) (ss : List Step) → Exhausts t ss u → Ended MOST_TAKEN ss u
 ended t u ss e = record { may = e.may_be_taken; few = e.few; none_left = e.none_left }
 
 pub one_optimised : OneOptimisedLaw
 one_optimised t f g ss us a b =
     let both : (a.last ≡ b.last) × (ss ≡ us) =
-    one_way 1000 t a.last b.last ss us a.exhausts.first b.exhausts.first (ended t a.last ss a.exhausts) (ended t b.last us b.exhausts) in
+    one_way MOST_TAKEN t a.last b.last ss us a.exhausts.first b.exhausts.first (ended t a.last ss a.exhausts) (ended t b.last us b.exhausts) in
     (sym a.ends ∙ ap (λ w. w.net) both.0 ∙ b.ends, both.1)

@@ -21,6 +21,7 @@ use Rattle.net_types.proofs.Sizes.{few_inside}
 use Rattle.cert_check.proofs.FewBound.{few_bound}
 use Rattle.net_opt.specs.Optimising.{NoneLeft, FirstTriedLaw}
 use Rattle.net_tree.specs.LawStep.{Step, step_of}
+use Rattle.net_tree.specs.declared.measure.TheConstants.{MOST_SIZE}
 use Rattle.net_opt.specs.Order.{LeftOf, lower, deeper, Before, on_the_way, before_at, before_below, onward}
 use Rattle.net_opt.specs.Search.{Passed, PassedAt, PassedWithin, Settled, FirstAt, FirstWithin, Takes, FoundStep}
 use Rattle.net_opt.specs.Walk.{Limited, Reached}
@@ -124,7 +125,7 @@ record Within (k : ℕ) (u c : Tree Expression) : Type 0 where
   lower : rank c < rank u
   low : k ≤ 5000001
 
-child_within : (k : ℕ) (f : Network Expression) (c : Tree Expression) → network_size f ≤ 5000000 → (S : Standing) → ChildFits (network_size f) k c → ChildThere S f k c
+child_within : (k : ℕ) (f : Network Expression) (c : Tree Expression) → network_size f ≤ MOST_SIZE → (S : Standing) → ChildFits (network_size f) k c → ChildThere S f k c
     → Within k (a_network f) c
 child_within k f (a_network g) l S s d = record {
   limited = (omega (arith, l, s.0), record { params = d.place.params; olds = d.place.olds; input = d.place.input; output = d.output; typed = d.typed });

@@ -10,6 +10,7 @@ use Rattle.net_tree.specs.declared.law_step.Law.TheVariants as L
 use Rattle.net_tree.specs.declared.law_step.Direction.TheVariants.{Forward}
 use Rattle.cert_check.specs.Derives.{Next, Steps}
 use Rattle.net_opt.specs.Order.{Before}
+use Rattle.net_opt.specs.declared.optimiser.TheConstants.{MOST_TAKEN}
 
 -- the numbers of the laws of networks that are tried, in this order
 abbrev pub network_laws : List ℕ
@@ -74,8 +75,8 @@ pub record Exhausts (t : TypedNetwork) (steps : List Step) (u : TypedNetwork) : 
   pub lead : Steps t steps u
   pub first : FirstSteps t steps u
   pub may_be_taken : All MayTake steps
-  pub few : length steps ≤ 1000
-  pub none_left : length steps < 1000 → NoneLeft u
+  pub few : length steps ≤ MOST_TAKEN
+  pub none_left : length steps < MOST_TAKEN → NoneLeft u
 
 -- such steps lead to this network
 pub record Optimised (t : TypedNetwork) (net : Network Expression) (steps : List Step) : Type 0

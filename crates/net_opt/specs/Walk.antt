@@ -5,6 +5,7 @@ use Rattle.leaf_core.specs.Expression.{Expression, nodes_in}
 use Rattle.net_tree.specs.Network.{Network, network_size}
 use Rattle.net_meaning.specs.NetworkLimits.{NetTypedWithin, WithinLimits}
 use Rattle.net_tree.specs.Place.{Tree, a_network, a_leaf}
+use Rattle.net_tree.specs.declared.measure.TheConstants.{MOST_SIZE}
 use Rattle.net_syntax.specs.Placed.{Placed, placed_at}
 use Rattle.net_meaning.specs.Typing.{Arrow}
 use Rattle.net_meaning.specs.TypedNetwork.{TypedNetwork}
@@ -20,7 +21,7 @@ pub record TypedSomewhere (f : Network Expression) : Type 0 where
 
 -- a network with few others inside; an expression with few parts
 abbrev pub Limited : Tree Expression → Type 0
-Limited (a_network f) = (network_size f ≤ 5000000) × TypedSomewhere f
+Limited (a_network f) = (network_size f ≤ MOST_SIZE) × TypedSomewhere f
 Limited (a_leaf e) = nodes_in e ≤ 100000
 
 -- this stands at the position of the network, which is within the limits

@@ -1,134 +1,265 @@
--- The expressions that the walk over a network finds are those of its typing.
-use Rattle.std.proofs.Common.{◌≡◌, ◌≢◌, ℕ, suc, ◌≤◌, List, [], ◌∷◌, ◌++◌, map, Ok, Some, None, refl, sym, ap, ◌∙◌, subst, append-nil, append_assoc, arith}
-use Rattle.sample_core.specs.TypeTree.{TypeTree, unit_ty, int_ty, pair_ty, event_ty, list_ty}
+-- The expressions that the walk over a network adds are those of its typing.
+use Rattle.std.proofs.Common.{◌≡◌, ℕ, zero, suc, ◌+◌, ◌<◌, List, [], ◌∷◌, ◌++◌, Option, Some, None, IfSome, option_map, Ok, Err, refl, sym, ap, ap₂, ◌∙◌, subst, append-nil, append_assoc, arith}
+use Rattle.std.specs.Result.{result_ok}
+use Rattle.std.proofs.lemmas.Option.{none-some, same_Some}
 use Rattle.sample_core.specs.TypeView.{type_of}
+use Rattle.sample_core.specs.TypeTree.{TypeTree, unit_ty, int_ty, pair_ty, event_ty, list_ty}
 use Rattle.leaf_core.specs.Expression.{Expression}
 use Rattle.leaf_core.specs.ExpressionTyping.{ExpressionTyped}
 use Rattle.leaf_core.specs.TypeLimits.{TypeFits}
 use Rattle.leaf_core.specs.ExpressionLimits.{ExpressionTypedWithin}
 use Rattle.leaf_core.specs.KeyTree.{KeyTree}
-use Rattle.leaf_core.specs.ExpressionCheck.{type_answer}
+use Rattle.leaf_core.specs.ExpressionCheck.{TypeAnswer}
 use Rattle.leaf_core.proofs.Exactness.{type_answer-exact}
-use Rattle.net_syntax.specs.ArrowView.{arrow_of}
-use Rattle.net_tree.specs.Network.{Network, Networks}
-use Rattle.net_meaning.specs.Typing.{Arrow, arrow, copies, OldAt, old_here, old_after, members, LeafTyping, Typed, AllTyped, arr_typed, seq_typed, first_typed, par_typed, loop_typed, i_pre_typed, delay_typed, hold_typed, accum_typed, after_typed, repeatedly_typed, time_typed, integral_typed, switch_typed, d_switch_typed, r_switch_typed, k_switch_typed, p_switch_typed, old_typed, initial_out_typed, initial_in_typed, dr_switch_typed, rp_switch_typed, no_members_typed, and_member_typed}
+use Rattle.leaf_core.proofs.Uniqueness.{one_type}
+use Rattle.net_tree.specs.Network.{Network, Networks, p_switch, rp_switch, no_members, and_member}
+use Rattle.net_tree.specs.Place.{Tree, a_network, a_leaf, member, child, child_network}
+use Rattle.net_tree.specs.FormParts.{parts_of}
+use Rattle.net_meaning.specs.Typing.{Arrow, members, LeafTyping, Typed, AllTyped, arr_typed, seq_typed, first_typed, par_typed, loop_typed, i_pre_typed, delay_typed, hold_typed, accum_typed, after_typed, repeatedly_typed, time_typed, integral_typed, switch_typed, r_switch_typed, k_switch_typed, p_switch_typed, old_typed, initial_out_typed, initial_in_typed, rp_switch_typed, no_members_typed, and_member_typed}
 use Rattle.net_meaning.specs.TypedNetwork.{TypedNetwork}
 use Rattle.net_meaning.specs.NetworkLimits.{NetTypedWithin}
-use Rattle.net_tree.specs.Place.{◌>>=◌}
 use Rattle.net_syntax.specs.Leaves.{Need, need_at, leaves_by, member_leaves_by, LeavesOf}
-use Rattle.net_syntax.specs.LeafWalk.{Found, Adds, and_then, only, type_in, find_type, find_leaf, find_choice, started_of, old_of, event_of, find, find_members, find_others, find_routed, find_at}
-use Rattle.net_syntax.specs.NeedView.{need_of}
+use Rattle.net_syntax.specs.FoundType.{Finds}
+use Rattle.net_syntax.specs.LeafWalk.{tree_leaves, Lists, ListsChild, NotTyped, Walked}
 use Rattle.net_syntax.specs.declared.needs.Walk.{Walk}
-use Rattle.net_syntax.proofs.LeafWalks.{few_inner}
+use Rattle.net_syntax.specs.declared.output.Untyped.{Untyped}
+use Rattle.net_syntax.specs.declared.output.Untyped.TheVariants.{NoType, Memory}
+use Rattle.net_syntax.specs.ChildParts.{child_count, seen}
+use Rattle.net_syntax.specs.declared.place.TreeRef.{TreeRef}
+use Rattle.net_syntax.specs.Standing.{Standing, standing, TreeWithin, ChildStands, in_arr, first_in_seq, second_in_seq, in_first, in_par, constant_in_loop, network_in_loop, in_i_pre, in_delay, in_hold, step_in_accum, start_in_accum, in_after, in_repeatedly, network_in_switch, continuation_in_switch, network_in_r_switch, continuation_in_r_switch, network_in_k_switch, event_in_k_switch, continuation_in_k_switch, constant_in_initial_out, network_in_initial_out, constant_in_initial_in, network_in_initial_in, route_in_p_switch, member_in_p_switch, event_in_p_switch, continuation_in_p_switch, member_in_rp_switch, choice_in_rp_switch, continuation_in_rp_switch}
+use Rattle.net_syntax.specs.StandingWalk.{leaf_type, inside, standing_of}
+use Rattle.net_syntax.proofs.Children.{event_is, continuation_is}
+use Rattle.net_syntax.proofs.NeedPlaces.{child_is_member, child_in_collection, choice_is_child, started_is_child}
+use Rattle.net_syntax.proofs.FoundTypes.{ChildThere, child_there, MembersWithin, forget, forget_all}
+use Rattle.net_syntax.proofs.OneList.{listed, through}
+use Rattle.net_syntax.proofs.OnePlace.{populated, one_place}
 use Rattle.net_meaning.proofs.TypingMap.{map_typed, map_all_typed}
 
+ok_of : {r : TypeAnswer} {B : TypeTree} → result_ok r ≡ Some B → r ≡ Ok B
+ok_of {r = Ok C} {B = B} e = ap Ok (same_Some C B e)
+ok_of {r = Err f} {B = B} e = absurd (none-some B e)
+
 -- the type that the checking walk answers is the expression's
-pub answered_key : (Ps : List TypeTree) (A B : TypeTree) (e : Expression)
-    (k : KeyTree) → k ≡ record { expr = e; params = Ps; input = A } → type_answer Ps A e ≡ Ok B → ∥ ExpressionTyped k.expr k.params k.input B ∥₁
-answered_key Ps A B e k is h =
-    subst (λ o. ∥ ExpressionTyped o.expr o.params o.input B ∥₁) (sym is) ∣ ((type_answer-exact Ps A e B).0 h).checked.given ∣₁
+pub answered_key : (S : Standing) (A B : TypeTree) (e : Expression)
+    (k : KeyTree) → k ≡ record { expr = e; params = S.params; input = A } → leaf_type S A e ≡ Some B → ∥ ExpressionTyped k.expr k.params k.input B ∥₁
+answered_key S A B e k is h =
+    subst (λ o. ∥ ExpressionTyped o.expr o.params o.input B ∥₁) (sym is) ∣ ((type_answer-exact S.params A e B).0 (ok_of h)).checked.given ∣₁
 
-type_is : (Ps : List TypeTree) (e : Expression) (A B : TypeTree) → ExpressionTypedWithin e Ps A B → find_type Ps e A ≡ Some (B, [])
-type_is Ps e A B h = ap type_in ((type_answer-exact Ps A e B).1 h)
+-- two typings of a tree within the limits give one list
+one_list_of : (at : List ℕ) (k : ℕ) (R : Standing) (c : Tree Expression) (B C : TypeTree) (d : TreeWithin R c B) (e : TreeWithin R c C)
+    → tree_leaves at k R c B d ≡ tree_leaves at k R c C e
+one_list_of at k R (a_network f) B C d e = listed (λ e Ps A B. ExpressionTypedWithin e Ps A B) TypeFits
+    (λ e Ps A B C h i. one_type e Ps A B C h.checked.given i.checked.given) R.params R.olds (at ++ k ∷ []) f R.input C B e d
+one_list_of at k R (a_leaf e) B C d i =
+    ap (λ Z. need_at at k e R.params R.input Z ∷ []) (one_type e R.params R.input B C d.checked.given i.checked.given)
 
-leaf_is : (Ps : List TypeTree) (at : List ℕ) (k : ℕ) (e : Expression) (A B : TypeTree) → ExpressionTypedWithin e Ps A B
-    → find_leaf Ps at k e A ≡ Some (B, need_at at k e Ps A B ∷ [])
-leaf_is Ps at k e A B h = ap (λ o. o >>= (λ x. Some (x.0, need_at at k e Ps A x.0 ∷ []))) (type_is Ps e A B h)
+-- the same of the tree under another name
+one_list_as : (at : List ℕ) (k : ℕ) (Q R : Standing) (x c : Tree Expression) (B C : TypeTree) → Q ≡ R → x ≡ c → (d : TreeWithin Q x B) (e : TreeWithin R c C)
+    → tree_leaves at k Q x B d ≡ tree_leaves at k R c C e
+one_list_as at k Q R x c B C place same d e =
+    through {F = λ Z. TreeWithin Z x B} (λ Z d. tree_leaves at k Z x B d) place d
+    (λ m. through {F = λ y. TreeWithin R y B} (λ y d. tree_leaves at k R y B d) same m (λ n. one_list_of at k R c B C n e))
 
-then_is : (w : Found) (k : TypeTree → Found) (A B : TypeTree) (ns ms : List Need) → w ≡ Some (A, ns) → k A ≡ Some (B, ms) → and_then w k ≡ Some (B, ns ++ ms)
-then_is w k A B ns ms is js = ap (λ o. and_then o k) is ∙ ap (λ o. o >>= (λ y. Some (y.0, ns ++ y.1))) js
+-- the lists up to a number, joined
+abbrev pub joined : (ℕ → List Need) → ℕ → List Need
+joined X zero = []
+joined X (suc k) = joined X k ++ X k
 
--- a part, and then its type alone
-only_is : (w : Found) (k : TypeTree → Found) (A B : TypeTree) (ns : List Need) → w ≡ Some (A, ns) → k A ≡ only B → and_then w k ≡ Some (B, ns)
-only_is w k A B ns is js = then_is w k A B ns [] is js ∙ ap (λ o. Some (B, o)) (append-nil ns)
+joined_first : (X : ℕ → List Need) (n : ℕ) → joined X (suc n) ≡ X 0 ++ joined (λ k. X (suc k)) n
+joined_first X zero = sym (append-nil (X 0))
+joined_first X (suc n) = ap (λ o. o ++ X (suc n)) (joined_first X n) ∙ append_assoc (X 0) (joined (λ k. X (suc k)) n) (X (suc n))
 
-old_is : (Os : List Arrow) (k : ℕ) (A B : TypeTree) → OldAt Os k (arrow A B) → old_of Os k ≡ only B
-old_is Os k A B old_here = refl
-old_is Os k A B (old_after o) = old_is _ _ A B o
+-- the expressions of child k, where there is one
+abbrev pub child_leaves : (S : Standing) (f : Network Expression) (at : List ℕ) (k : ℕ) (o : Option (Tree Expression)) → IfSome o (ChildThere S f k)
+    → List Need
+child_leaves S f at k None t = []
+child_leaves S f at k (Some c) t = tree_leaves at k t.place c t.output t.typed
 
--- of what an event in the input starts anew
-restarted_is : (Ps : List TypeTree) (Os : List Arrow) (at : List ℕ) (f t : Network Expression) (D B C : TypeTree) (ns ms : List Need)
-    → find Ps Os (at ++ 0 ∷ []) f D ≡ Some (B, ns) → find (Ps ++ C ∷ []) Os (at ++ 1 ∷ []) t D ≡ Some (B, ms)
-    → and_then (find Ps Os (at ++ 0 ∷ []) f D) (λ X. and_then (event_of (event_ty C)) (λ Z. find (Ps ++ Z ∷ []) Os (at ++ 1 ∷ []) t D)) ≡ Some (B, ns ++ ms)
-restarted_is Ps Os at f t D B C ns ms is js =
-    then_is (find Ps Os (at ++ 0 ∷ []) f D) (λ X. and_then (event_of (event_ty C)) (λ Z. find (Ps ++ Z ∷ []) Os (at ++ 1 ∷ []) t D)) B B ns ms is
-    (then_is (event_of (event_ty C)) (λ Z. find (Ps ++ Z ∷ []) Os (at ++ 1 ∷ []) t D) C B [] ms refl js)
+-- those of the first n children
+abbrev pub upto : {Ps : List TypeTree} {Os : List Arrow} {f : Network Expression} {A B : TypeTree} → List ℕ → NetTypedWithin Ps Os f A B → ℕ → List Need
+upto {Ps = Ps} {Os = Os} {f = f} {A = A} at d n = joined (λ k. child_leaves (standing Ps Os A) f at k (child f k) (child_there d k)) n
 
-choice_is : (Ps : List TypeTree) (at : List ℕ) (k : ℕ) (m : Expression) (C V : TypeTree) → ExpressionTypedWithin m Ps C (pair_ty (list_ty int_ty) (list_ty V))
-    → find_choice Ps at k m (event_ty C) ≡ Some (V, need_at at k m Ps C (pair_ty (list_ty int_ty) (list_ty V)) ∷ [])
-choice_is Ps at k m C V h =
-    then_is (event_of (event_ty C)) (λ X. and_then (find_leaf Ps at k m X) started_of) C V [] _ refl
-    (only_is _ started_of (pair_ty (list_ty int_ty) (list_ty V)) V _ (leaf_is Ps at k m C (pair_ty (list_ty int_ty) (list_ty V)) h) refl)
+-- they are those of any typing of the child where it stands
+child_is_listed : {Ps : List TypeTree} {Os : List Arrow} {f : Network Expression} {A B : TypeTree} (at : List ℕ) (k : ℕ) (c : Tree Expression) (R : Standing)
+    (C : TypeTree) (d : NetTypedWithin Ps Os f A B) → child f k ≡ Some c → ChildStands Ps Os A f k R → (e : TreeWithin R c C)
+    → child_leaves (standing Ps Os A) f at k (child f k) (child_there d k) ≡ tree_leaves at k R c C e
+child_is_listed {Ps = Ps} {Os = Os} {f = f} {A = A} at k c R C d q s e = go (child f k) q (child_there d k)
+  where
+    go : (o : Option (Tree Expression)) → o ≡ Some c → (t : IfSome o (ChildThere (standing Ps Os A) f k))
+        → child_leaves (standing Ps Os A) f at k o t ≡ tree_leaves at k R c C e
+    go None q t = absurd (none-some c q)
+    go (Some x) q t = one_list_as at k t.place R x c t.output C (one_place (populated d) t.stands s refl) (same_Some x c q) t.typed e
 
-mutual
-  pub found : {Ps : List TypeTree} {Os : List Arrow} {net : Network Expression} {A B : TypeTree} (at : List ℕ) (d : NetTypedWithin Ps Os net A B)
-      → find Ps Os at net A ≡ Some (B, leaves_by at d)
-  found {A = A} {B = B} at (arr_typed {Ps = Ps} {e = e} h) = leaf_is Ps at 0 e A B h
-  found at (seq_typed {B = B} {C = C} f g) = then_is _ _ B C _ _ (found (at ++ 0 ∷ []) f) (found (at ++ 1 ∷ []) g)
-  found at (first_typed {A = A} {B = B} {C = C} f m) = only_is _ (λ B. only (pair_ty B C)) B (pair_ty B C) _ (found (at ++ 0 ∷ []) f) refl
-  found at (par_typed {fs = fs} {B = B} l u ds m) = few_inner fs _ u ∙ only_is _ (λ B. only (list_ty B)) B (list_ty B) _ (found_members at 0 l ds) refl
-  found at (loop_typed {Ps = Ps} {c = c} {B = B} {C = C} h m f) =
-      then_is _ _ C B _ _ (leaf_is Ps at 0 c unit_ty C h) (only_is _ _ (pair_ty B C) B _ (found (at ++ 1 ∷ []) f) refl)
-  found at (i_pre_typed {Ps = Ps} {c = c} {A = A} h) = then_is _ (λ C. only A) A A _ _ (leaf_is Ps at 0 c unit_ty A h) refl
-  found at (delay_typed {Ps = Ps} {c = c} {A = A} l u h) = then_is _ (λ C. only A) A A _ _ (leaf_is Ps at 0 c unit_ty A h) refl
-  found at (hold_typed {Ps = Ps} {c = c} {A = A} h) = then_is _ (λ C. event_of (event_ty A)) A A _ _ (leaf_is Ps at 0 c unit_ty A h) refl
-  found at (accum_typed {Ps = Ps} {g = g} {z = z} {V = V} {Z = Z} h m k n) =
-      let end : TypeTree → Found = λ C. and_then (find_leaf Ps at 1 z unit_ty) (λ D. only (event_ty D)) in
-      then_is (event_of (event_ty V)) (λ X. and_then (find_type Ps z unit_ty) (λ Y. and_then (find_leaf Ps at 0 g (pair_ty Y X)) end)) V (event_ty Z) [] _ refl
-      (then_is (find_type Ps z unit_ty) (λ Y. and_then (find_leaf Ps at 0 g (pair_ty Y V)) end) Z (event_ty Z) _ _ (type_is Ps z unit_ty Z h)
-      (then_is (find_leaf Ps at 0 g (pair_ty Z V)) end Z (event_ty Z) _ _ (leaf_is Ps at 0 g (pair_ty Z V) Z k)
-      (then_is (find_leaf Ps at 1 z unit_ty) (λ D. only (event_ty D)) Z (event_ty Z) _ _ (leaf_is Ps at 1 z unit_ty Z h) refl)))
-  found at (after_typed {Ps = Ps} {c = c} {C = C} u h m) =
-      then_is _ (λ C. only (event_ty C)) C (event_ty C) _ _ (leaf_is Ps at 0 c unit_ty C h) refl
-  found at (repeatedly_typed {Ps = Ps} {c = c} {C = C} l u h m) =
-      then_is _ (λ C. only (event_ty C)) C (event_ty C) _ _ (leaf_is Ps at 0 c unit_ty C h) refl
-  found at time_typed = refl
-  found at integral_typed = refl
-  found at (switch_typed {B = B} {C = C} f t) =
-      then_is _ _ C B _ _ (only_is _ _ (pair_ty B (event_ty C)) C _ (found (at ++ 0 ∷ []) f) refl) (found (at ++ 1 ∷ []) t)
-  found at (d_switch_typed {B = B} {C = C} f t) =
-      then_is _ _ C B _ _ (only_is _ _ (pair_ty B (event_ty C)) C _ (found (at ++ 0 ∷ []) f) refl) (found (at ++ 1 ∷ []) t)
-  found at (r_switch_typed {Ps = Ps} {Os = Os} {f = f} {t = t} {D = D} {B = B} {C = C} df dt) =
-      restarted_is Ps Os at f t D B C _ _ (found (at ++ 0 ∷ []) df) (found (at ++ 1 ∷ []) dt)
-  found at (k_switch_typed {Ps = Ps} {Os = Os} {f = f} {e = e} {t = t} {A = A} {B = B} {C = C} df m de dt) =
-      then_is (find Ps Os (at ++ 0 ∷ []) f A)
-      (λ X. and_then (and_then (find Ps Os (at ++ 1 ∷ []) e (pair_ty A X)) event_of)
-      (λ Z. find (Ps ++ Z ∷ []) (Os ++ arrow A X ∷ []) (at ++ 2 ∷ []) t A)) B B _ _
-      (found (at ++ 0 ∷ []) df)
-      (then_is _ (λ Z. find (Ps ++ Z ∷ []) (Os ++ arrow A B ∷ []) (at ++ 2 ∷ []) t A) C B _ _
-      (only_is _ event_of (event_ty C) C _ (found (at ++ 1 ∷ []) de) refl) (found (at ++ 2 ∷ []) dt))
-      ∙ ap (λ o. Some (B, o)) (sym (append_assoc (leaves_by (at ++ 0 ∷ []) df) (leaves_by (at ++ 1 ∷ []) de) (leaves_by (at ++ 2 ∷ []) dt)))
-  found at (p_switch_typed {Ps = Ps} {Os = Os} {r = r} {fs = fs} {e = e} {t = t} {A = A} {B = B} {C = C} {D = D} l u m h ds n de dt) =
-      few_inner fs _ u ∙ then_is (find_leaf Ps at 0 r (pair_ty A int_ty)) (find_routed Ps Os at fs e t A) D (list_ty B) _ _ (leaf_is Ps at 0 r _ D h)
-      (then_is (find_members Ps Os at 1 fs D) (λ X. and_then (and_then (find Ps Os (at ++ suc (members fs) ∷ []) e (pair_ty A (list_ty X))) event_of)
-      (λ Z. find (Ps ++ Z ∷ []) (Os ++ copies (members fs) (arrow D X)) (at ++ suc (suc (members fs)) ∷ []) t A)) B (list_ty B) _ _ (found_members at 1 l ds)
-      (then_is _ (λ Z. find (Ps ++ Z ∷ []) (Os ++ copies (members fs) (arrow D B)) (at ++ suc (suc (members fs)) ∷ []) t A) C (list_ty B) _ _
-      (only_is _ event_of (event_ty C) C _ (found (at ++ suc (members fs) ∷ []) de) refl) (found (at ++ suc (suc (members fs)) ∷ []) dt)))
-      ∙ ap (λ o. Some (list_ty B, need_at at 0 r Ps (pair_ty A int_ty) D ∷ o))
-      (sym (append_assoc (member_leaves_by at 1 ds) (leaves_by (at ++ suc (members fs) ∷ []) de) (leaves_by (at ++ suc (suc (members fs)) ∷ []) dt)))
-  found {A = A} {B = B} at (old_typed {Os = Os} {k = k} o) = old_is Os k A B o
-  found at (initial_out_typed {Ps = Ps} {Os = Os} {c = c} {f = f} {A = A} {B = B} h d) =
-      then_is _ (λ C. find Ps Os (at ++ 1 ∷ []) f A) B B _ _ (leaf_is Ps at 0 c unit_ty B h) (found (at ++ 1 ∷ []) d)
-  found at (initial_in_typed {Ps = Ps} {Os = Os} {c = c} {f = f} {A = A} {B = B} h d) =
-      then_is _ (λ C. find Ps Os (at ++ 1 ∷ []) f A) A B _ _ (leaf_is Ps at 0 c unit_ty A h) (found (at ++ 1 ∷ []) d)
-  found at (dr_switch_typed {Ps = Ps} {Os = Os} {f = f} {t = t} {D = D} {B = B} {C = C} df dt) =
-      restarted_is Ps Os at f t D B C _ _ (found (at ++ 0 ∷ []) df) (found (at ++ 1 ∷ []) dt)
-  found at (rp_switch_typed {Ps = Ps} {Os = Os} {fs = fs} {m = m} {t = t} {D = D} {B = B} {C = C} {V = V} l u ds h dt n) =
-      let started : TypeTree → TypeTree → Found = λ X W. and_then (find (Ps ++ W ∷ []) Os (at ++ suc (members fs) ∷ []) t D) (λ Y. only (list_ty X)) in
-      few_inner fs _ u ∙ then_is (find_members Ps Os at 0 fs D) (λ X. and_then (find_choice Ps at (members fs) m (event_ty C)) (started X)) B (list_ty B) _ _
-      (found_members at 0 l ds)
-      (then_is (find_choice Ps at (members fs) m (event_ty C)) (started B) V (list_ty B) _ _ (choice_is Ps at (members fs) m C V h)
-      (only_is _ (λ Y. only (list_ty B)) B (list_ty B) _ (found (at ++ suc (members fs) ∷ []) dt) refl))
+member_low : (fs : Networks Expression) (k : ℕ) (g : Network Expression) → member fs k ≡ Some g → k < members fs
+member_low no_members k g e = absurd (none-some g e)
+member_low (and_member f fs) zero g e = omega arith
+member_low (and_member f fs) (suc k) g e = omega (arith, member_low fs k g e)
 
-  found_members : {Ps : List TypeTree} {Os : List Arrow} {fs : Networks Expression} {A B : TypeTree} (at : List ℕ) (k : ℕ) → 1 ≤ members fs
-      → (ds : AllTyped (λ e Ps A B. ExpressionTypedWithin e Ps A B) TypeFits Ps Os fs A B) → find_members Ps Os at k fs A ≡ Some (B, member_leaves_by at k ds)
-  found_members at k l no_members_typed = absurd (omega (arith, l))
-  found_members {B = B} at k l (and_member_typed f fs) = then_is _ _ B B _ _ (found (at ++ k ∷ []) f) (found_others at (suc k) B fs)
+-- members whose expressions these are, the first of which is child j
+members_listed : {Ps : List TypeTree} {Os : List Arrow} {fs : Networks Expression} {A B : TypeTree} (at : List ℕ) (j : ℕ) (X : ℕ → List Need)
+    (ds : MembersWithin Ps Os fs A B)
+    → ((k : ℕ) (g : Network Expression) (d : NetTypedWithin Ps Os g A B) → member fs k ≡ Some g → X k ≡ leaves_by (at ++ (j + k) ∷ []) d)
+    → joined X (members fs) ≡ member_leaves_by at j ds
+members_listed at j X no_members_typed h = refl
+members_listed at j X (and_member_typed {f = g} {fs = gs} d ds) h =
+    joined_first X (members gs)
+    ∙ ap₂ ◌++◌ (h 0 g d refl ∙ ap (λ n. leaves_by (at ++ n ∷ []) d) (omega arith))
+    (members_listed at (suc j) (λ k. X (suc k)) ds (λ k f e i. h (suc k) f e i ∙ ap (λ n. leaves_by (at ++ n ∷ []) e) (omega arith)))
 
-  found_others : {Ps : List TypeTree} {Os : List Arrow} {fs : Networks Expression} {A B : TypeTree} (at : List ℕ) (k : ℕ) (C : TypeTree)
-      → (ds : AllTyped (λ e Ps A B. ExpressionTypedWithin e Ps A B) TypeFits Ps Os fs A B) → find_others Ps Os at k fs A C ≡ Some (C, member_leaves_by at k ds)
-  found_others at k C no_members_typed = refl
-  found_others {B = B} at k C (and_member_typed f fs) = then_is _ _ B C _ _ (found (at ++ k ∷ []) f) (found_others at (suc k) C fs)
+-- of one child, or two
+one : {Ps : List TypeTree} {Os : List Arrow} {f : Network Expression} {A B : TypeTree} {c : Tree Expression} {R : Standing} (at : List ℕ)
+    (d : NetTypedWithin Ps Os f A B) → child f 0 ≡ Some c → ChildStands Ps Os A f 0 R → (C : TypeTree) (e : TreeWithin R c C)
+    → upto at d 1 ≡ tree_leaves at 0 R c C e
+one {c = c} {R = R} at d q s C e = child_is_listed at 0 c R C d q s e
+
+two : {Ps : List TypeTree} {Os : List Arrow} {f : Network Expression} {A B : TypeTree} {c u : Tree Expression} {R Q : Standing} (at : List ℕ)
+    (d : NetTypedWithin Ps Os f A B) → child f 0 ≡ Some c → ChildStands Ps Os A f 0 R → (C : TypeTree) (e : TreeWithin R c C) → child f 1 ≡ Some u
+    → ChildStands Ps Os A f 1 Q → (D : TypeTree) (h : TreeWithin Q u D) → upto at d 2 ≡ tree_leaves at 0 R c C e ++ tree_leaves at 1 Q u D h
+two {c = c} {u = u} {R = R} {Q = Q} at d q s C e p t D h = ap₂ ◌++◌ (child_is_listed at 0 c R C d q s e) (child_is_listed at 1 u Q D d p t h)
+
+-- the expressions of all children are those of the network
+all_listed : {Ps : List TypeTree} {Os : List Arrow} {f : Network Expression} {A B : TypeTree} (at : List ℕ) (d : NetTypedWithin Ps Os f A B)
+    → upto at d (child_count (parts_of f)) ≡ leaves_by at d
+all_listed at (arr_typed h) = one at (arr_typed h) refl in_arr _ h
+all_listed at (seq_typed f g) = two at (seq_typed f g) refl first_in_seq _ f refl (second_in_seq (forget f)) _ g
+all_listed at (first_typed f m) = one at (first_typed f m) refl in_first _ f
+all_listed {Ps = Ps} {Os = Os} {A = A} at (par_typed {B = B} l u ds m) =
+    members_listed at 0 _ ds
+    (λ k g d e. child_is_listed at k (a_network g) (standing Ps Os A) B (par_typed l u ds m) (ap (option_map a_network) e) in_par d
+    ∙ ap (λ n. leaves_by (at ++ n ∷ []) d) (omega arith))
+all_listed at (loop_typed h m f) = two at (loop_typed h m f) refl constant_in_loop _ h refl (network_in_loop h.checked.given) _ f
+all_listed at (i_pre_typed h) = one at (i_pre_typed h) refl in_i_pre _ h
+all_listed at (delay_typed l u h) = one at (delay_typed l u h) refl in_delay _ h
+all_listed at (hold_typed h) = one at (hold_typed h) refl in_hold _ h
+all_listed at (accum_typed h m k n) = two at (accum_typed h m k n) refl (step_in_accum h.checked.given) _ k refl start_in_accum _ h
+all_listed at (after_typed u h m) = one at (after_typed u h m) refl in_after _ h
+all_listed at (repeatedly_typed l u h m) = one at (repeatedly_typed l u h m) refl in_repeatedly _ h
+all_listed at time_typed = refl
+all_listed at integral_typed = refl
+all_listed at (switch_typed f t) = two at (switch_typed f t) refl network_in_switch _ f refl (continuation_in_switch (forget f)) _ t
+all_listed at (r_switch_typed f t) = two at (r_switch_typed f t) refl network_in_r_switch _ f refl continuation_in_r_switch _ t
+all_listed at (k_switch_typed f m e t) =
+    ap₂ ◌++◌ (two at (k_switch_typed f m e t) refl network_in_k_switch _ f refl (event_in_k_switch (forget f)) _ e)
+    (child_is_listed at 2 _ _ _ (k_switch_typed f m e t) refl (continuation_in_k_switch (forget f) (forget e)) t)
+all_listed {Ps = Ps} {Os = Os} {A = A} at (p_switch_typed {r = r} {fs = fs} {e = e} {t = t} {B = B} {C = C} {D = D} l u m h ds n de dt) =
+    let whole : NetTypedWithin Ps Os (p_switch r fs e t) A (list_ty B) = p_switch_typed l u m h ds n de dt in
+    let X : ℕ → List Need = λ k. child_leaves (standing Ps Os A) (p_switch r fs e t) at k (child (p_switch r fs e t) k) (child_there whole k) in
+    let first : joined X (suc (members fs)) ≡ need_at at 0 r Ps (pair_ty A int_ty) D ∷ member_leaves_by at 1 ds =
+    joined_first X (members fs)
+    ∙ ap₂ ◌++◌ (child_is_listed at 0 (a_leaf r) _ D whole refl route_in_p_switch h)
+    (members_listed at 1 (λ k. X (suc k)) ds
+    (λ k g d i. child_is_listed at (suc k) (a_network g) (standing Ps Os D) B whole (ap (option_map a_network) (child_is_member fs k g e t i))
+    (member_in_p_switch h.checked.given (member_low fs k g i)) d
+    ∙ ap (λ n. leaves_by (at ++ n ∷ []) d) (omega arith))) in
+    let event : X (suc (members fs)) ≡ leaves_by (at ++ suc (members fs) ∷ []) de =
+    child_is_listed at (suc (members fs)) (a_network e) _ (event_ty C) whole
+    (ap (λ c. option_map a_network (child_network c fs e t (members fs))) (event_is fs))
+    (event_in_p_switch h.checked.given (forget_all ds)) de in
+    let after : X (suc (suc (members fs))) ≡ leaves_by (at ++ suc (suc (members fs)) ∷ []) dt =
+    child_is_listed at (suc (suc (members fs))) (a_network t) _ (list_ty B) whole
+    (ap (λ c. option_map a_network (child_network c fs e t (suc (members fs)))) (continuation_is fs))
+    (continuation_in_p_switch h.checked.given (forget_all ds) (forget de)) dt in
+    λ i. (first i ++ event i) ++ after i
+all_listed at (old_typed o) = refl
+all_listed at (initial_out_typed h f) = two at (initial_out_typed h f) refl constant_in_initial_out _ h refl network_in_initial_out _ f
+all_listed at (initial_in_typed h f) = two at (initial_in_typed h f) refl constant_in_initial_in _ h refl network_in_initial_in _ f
+all_listed {Ps = Ps} {Os = Os} at (rp_switch_typed {fs = fs} {m = m} {t = t} {D = D} {B = B} {C = C} {V = V} l u ds h dt n) =
+    let whole : NetTypedWithin Ps Os (rp_switch fs m t) (pair_ty D (event_ty C)) (list_ty B) = rp_switch_typed l u ds h dt n in
+    let X : ℕ → List Need = λ k. child_leaves (standing Ps Os (pair_ty D (event_ty C))) (rp_switch fs m t) at k (child (rp_switch fs m t) k) (child_there whole k) in
+    let chosen : Need = need_at at (members fs) m Ps C (pair_ty (list_ty int_ty) (list_ty V)) in
+    let first : joined X (members fs) ≡ member_leaves_by at 0 ds =
+    members_listed at 0 X ds
+    (λ k g d i. child_is_listed at k (a_network g) (standing Ps Os D) B whole (child_in_collection fs m t k g i) (member_in_rp_switch (member_low fs k g i)) d
+    ∙ ap (λ n. leaves_by (at ++ n ∷ []) d) (omega arith)) in
+    let choice : X (members fs) ≡ chosen ∷ [] =
+    child_is_listed at (members fs) (a_leaf m) _ (pair_ty (list_ty int_ty) (list_ty V)) whole (choice_is_child fs m t) choice_in_rp_switch h in
+    let after : X (suc (members fs)) ≡ leaves_by (at ++ suc (members fs) ∷ []) dt =
+    child_is_listed at (suc (members fs)) (a_network t) _ B whole (started_is_child fs m t) (continuation_in_rp_switch h.checked.given) dt in
+    (λ i. (first i ++ choice i) ++ after i) ∙ append_assoc (member_leaves_by at 0 ds) (chosen ∷ []) (leaves_by (at ++ suc (members fs) ∷ []) dt)
+
+-- the needs now are those before and then the expressions of the first n children, by each typing
+abbrev pub ListsUpto : Standing → List ℕ → Network Expression → ℕ → List Need → List Need → Type 0
+ListsUpto S at f n before now = (B : TypeTree) (d : NetTypedWithin S.params S.olds f S.input B) → now ≡ before ++ upto at d n
+
+pub lists_none : (S : Standing) (at : List ℕ) (f : Network Expression) (before now : List Need) → now ≡ before → ListsUpto S at f 0 before now
+lists_none S at f before now is B d = is ∙ sym (append-nil before)
+
+pub lists_all : (S : Standing) (at : List ℕ) (f : Network Expression) (n : ℕ) (before now : List Need) → n ≡ child_count (parts_of f)
+    → ListsUpto S at f n before now → Lists S at f before now
+lists_all S at f n before now all h B d = h B d ∙ ap (λ o. before ++ o) (ap (upto at d) all ∙ all_listed at d)
+
+-- where there is no child k
+pub lists_over : (S : Standing) (at : List ℕ) (f : Network Expression) (k n : ℕ) (before now : List Need) → n ≡ suc k → child f k ≡ None
+    → ListsUpto S at f k before now → ListsUpto S at f n before now
+lists_over S at f k n before now one none h =
+    subst (λ j. ListsUpto S at f j before now) (sym one) (λ B d. h B d ∙ ap (λ o. before ++ o) (go B d (child f k) none (child_there d k)))
+  where
+    go : (B : TypeTree) (d : NetTypedWithin S.params S.olds f S.input B) (o : Option (Tree Expression)) → o ≡ None → (t : IfSome o (ChildThere S f k))
+        → upto at d k ≡ upto at d k ++ child_leaves S f at k o t
+    go B d None q t = sym (append-nil (upto at d k))
+    go B d (Some c) q t = absurd (none-some c (sym q))
+
+pub no_child : (r : Option TreeRef) (o : Option (Tree Expression)) → ((x : TreeRef) → r ≡ Some x → ⊥) → option_map seen r ≡ o → o ≡ None
+no_child None o h e = sym e
+no_child (Some x) o h e = absurd (h x refl)
+
+-- where its expressions were added
+pub lists_more : (S : Standing) (at : List ℕ) (f : Network Expression) (k n : ℕ) (c : Tree Expression) (R : Standing) (before now next : List Need) → n ≡ suc k
+    → child f k ≡ Some c → inside S f k ≡ Some R → ListsUpto S at f k before now → ListsChild R at k c now next → ListsUpto S at f n before next
+lists_more S at f k n c R before now next one q i h more = subst (λ j. ListsUpto S at f j before next) (sym one) (λ B d. go B d (child f k) q (child_there d k))
+  where
+    go : (B : TypeTree) (d : NetTypedWithin S.params S.olds f S.input B) (o : Option (Tree Expression)) → o ≡ Some c → (t : IfSome o (ChildThere S f k))
+        → next ≡ before ++ (upto at d k ++ child_leaves S f at k o t)
+    go B d None q t = absurd (none-some c q)
+    go B d (Some x) q t =
+        let place : R ≡ t.place = same_Some R t.place (sym i ∙ t.found) in
+        let there : ListsChild t.place at k x now next = subst (λ y. ListsChild t.place at k y now next) (sym (same_Some x c q))
+        (subst (λ Z. ListsChild Z at k c now next) place more) in
+        there t.output t.typed ∙ ap (λ o. o ++ tree_leaves at k t.place x t.output t.typed) (h B d) ∙ append_assoc before (upto at d k) _
+
+-- a child that has no place, or no type, is in a network that has none
+no_place : (S : Standing) (f : Network Expression) (k : ℕ) (c : Tree Expression) → child f k ≡ Some c → inside S f k ≡ None → NotTyped S (a_network f)
+no_place S f k c q i B d = go (child f k) q (child_there d k)
+  where
+    go : (o : Option (Tree Expression)) → o ≡ Some c → IfSome o (ChildThere S f k) → ⊥
+    go None q t = none-some c q
+    go (Some x) q t = none-some t.place (sym i ∙ t.found)
+
+no_type : (S : Standing) (f : Network Expression) (k : ℕ) (c : Tree Expression) (R : Standing) → child f k ≡ Some c → inside S f k ≡ Some R → NotTyped R c
+    → NotTyped S (a_network f)
+no_type S f k c R q i none B d = go (child f k) q (child_there d k)
+  where
+    go : (o : Option (Tree Expression)) → o ≡ Some c → IfSome o (ChildThere S f k) → ⊥
+    go None q t = none-some c q
+    go (Some x) q t = subst (λ y. NotTyped t.place y) (sym (same_Some x c q)) (subst (λ Z. NotTyped Z c) (same_Some R t.place (sym i ∙ t.found)) none) t.output t.typed
+
+-- an expression that has a type, or none
+pub leaf_listed : (S : Standing) (at : List ℕ) (k : ℕ) (e : Expression) (B : TypeTree) (before now : List Need) (n : Need) → leaf_type S S.input e ≡ Some B
+    → n ≡ need_at at k e S.params S.input B → now ≡ before ++ n ∷ [] → ListsChild S at k (a_leaf e) before now
+leaf_listed S at k e B before now n h is added C d =
+    added ∙ ap (λ m. before ++ m ∷ []) is
+    ∙ ap (λ Z. before ++ need_at at k e S.params S.input Z ∷ [])
+    (one_type e S.params S.input B C ((type_answer-exact S.params S.input e B).0 (ok_of h)).checked.given d.checked.given)
+
+no_leaf_type : (S : Standing) (e : Expression) → leaf_type S S.input e ≡ None → NotTyped S (a_leaf e)
+no_leaf_type S e h B d = none-some B (sym h ∙ ap result_ok ((type_answer-exact S.params S.input e B).1 d))
+
+-- where the code finds no type of a child
+pub leaf_untyped : (S : Standing) (e : Expression) (u : Untyped) (w v : Walk) (L : List Need → List Need → Type 0)
+    → Finds type_of (Err u) (leaf_type S S.input e) → Walked {X = Unit {0}} (Err u) w v L (NotTyped S (a_leaf e))
+leaf_untyped S e NoType w v L h = no_leaf_type S e h
+leaf_untyped S e Memory w v L h = tt
+
+pub place_untyped : (S : Standing) (f : Network Expression) (k : ℕ) (c : Tree Expression) (u : Untyped) (w v : Walk) (L : List Need → List Need → Type 0)
+    → child f k ≡ Some c → Finds (λ s. standing_of s) (Err u) (inside S f k) → Walked {X = Unit {0}} (Err u) w v L (NotTyped S (a_network f))
+place_untyped S f k c NoType w v L q h = no_place S f k c q h
+place_untyped S f k c Memory w v L q h = tt
+
+pub child_untyped : (S : Standing) (f : Network Expression) (k : ℕ) (c : Tree Expression) (R : Standing) (u : Untyped) (w v a b : Walk)
+    (L M : List Need → List Need → Type 0) → child f k ≡ Some c → inside S f k ≡ Some R → Walked {X = Unit {0}} (Err u) a b M (NotTyped R c)
+    → Walked {X = Unit {0}} (Err u) w v L (NotTyped S (a_network f))
+child_untyped S f k c R NoType w v a b L M q i h = no_type S f k c R q i h
+child_untyped S f k c R Memory w v a b L M q i h = tt
 
 -- a typing under weaker tests has the same expressions
 module _ {T U : LeafTyping Expression} {M N : TypeTree → Type 0} (u : (e : Expression) (Ps : List TypeTree) (A B : TypeTree) → T e Ps A B → U e Ps A B)
@@ -150,7 +281,6 @@ module _ {T U : LeafTyping Expression} {M N : TypeTree → Type 0} (u : (e : Exp
     same_leaves at time_typed = refl
     same_leaves at integral_typed = refl
     same_leaves at (switch_typed f t) = λ i. same_leaves (at ++ 0 ∷ []) f i ++ same_leaves (at ++ 1 ∷ []) t i
-    same_leaves at (d_switch_typed f t) = λ i. same_leaves (at ++ 0 ∷ []) f i ++ same_leaves (at ++ 1 ∷ []) t i
     same_leaves at (r_switch_typed f t) = λ i. same_leaves (at ++ 0 ∷ []) f i ++ same_leaves (at ++ 1 ∷ []) t i
     same_leaves at (k_switch_typed f m e t) = λ i.
         same_leaves (at ++ 0 ∷ []) f i ++ same_leaves (at ++ 1 ∷ []) e i ++ same_leaves (at ++ 2 ∷ []) t i
@@ -160,7 +290,6 @@ module _ {T U : LeafTyping Expression} {M N : TypeTree → Type 0} (u : (e : Exp
     same_leaves at (old_typed o) = refl
     same_leaves at (initial_out_typed {Ps = Ps} {c = c} {B = B} h f) = ap (λ o. need_at at 0 c Ps unit_ty B ∷ o) (same_leaves (at ++ 1 ∷ []) f)
     same_leaves at (initial_in_typed {Ps = Ps} {c = c} {A = A} h f) = ap (λ o. need_at at 0 c Ps unit_ty A ∷ o) (same_leaves (at ++ 1 ∷ []) f)
-    same_leaves at (dr_switch_typed f t) = λ i. same_leaves (at ++ 0 ∷ []) f i ++ same_leaves (at ++ 1 ∷ []) t i
     same_leaves at (rp_switch_typed {Ps = Ps} {fs = gs} {m = m} {C = C} {V = V} l k fs h t n) = λ i.
         same_member_leaves at 0 fs i ++ need_at at (members gs) m Ps C (pair_ty (list_ty int_ty) (list_ty V)) ∷ same_leaves (at ++ suc (members gs) ∷ []) t i
 
@@ -169,23 +298,13 @@ module _ {T U : LeafTyping Expression} {M N : TypeTree → Type 0} (u : (e : Exp
     same_member_leaves at k no_members_typed = refl
     same_member_leaves at k (and_member_typed f fs) = λ i. same_leaves (at ++ k ∷ []) f i ++ same_member_leaves at (suc k) fs i
 
--- of a whole network within the limits, from an empty walk on
-pub whole_found : (w : Walk) (m : Network Expression) (A : TypeTree) (t : TypedNetwork) → w.path.items ≡ [] → w.params.items ≡ [] → w.olds.items ≡ []
-    → m ≡ t.net → A ≡ t.input → (h : NetTypedWithin [] [] t.net t.input t.output) → find_at w m A ≡ Some (t.output, leaves_by [] h)
-whole_found w m A t p q r n a h = (λ i. find (map type_of (q i)) (map arrow_of (r i)) (p i) (n i) (a i)) ∙ found [] h
-
-pub found_some : (w : Found) (x : TypeTree × List Need) → w ≡ Some x → w ≢ None
-found_some w x is none = cc
-
-pub whole_leaves : (a b : Walk) (f : Found) (B : TypeTree) (t : TypedNetwork) (h : NetTypedWithin [] [] t.net t.input t.output)
-    → f ≡ Some (t.output, leaves_by [] h) → a.needs.items ≡ [] → Adds f B a b → LeavesOf t (map need_of b.needs.items)
-whole_leaves a b f B t h is none adds =
-    let same : adds.0 ≡ leaves_by [] h = ap (λ o. needs_in o) (sym adds.1 ∙ is) in (
+-- of a whole network within the limits
+pub whole_leaves : (S : Standing) (f : Network Expression) (at : List ℕ) (t : TypedNetwork) (before now : List Need) → S ≡ standing [] [] t.input → f ≡ t.net → at ≡ []
+    → before ≡ [] → NetTypedWithin [] [] t.net t.input t.output → Lists S at f before now → LeavesOf t now
+whole_leaves S f at t before now s n p none h lists =
+    let it : Lists (standing [] [] t.input) [] t.net [] now = subst (λ b. Lists (standing [] [] t.input) [] t.net b now) none
+    (subst (λ q. Lists (standing [] [] t.input) q t.net before now) p
+    (subst (λ g. Lists (standing [] [] t.input) at g before now) n (subst (λ Z. Lists Z at f before now) s lists))) in (
       map_typed (λ e Qs X Y f. f.checked.given) (λ X m. tt) h,
-      adds.2 ∙ ap (λ o. map need_of o ++ adds.0) none ∙ same
-          ∙ sym (same_leaves (λ e Qs X Y f. f.checked.given) (λ X m. tt) [] h),
+      it t.output h ∙ sym (same_leaves (λ e Qs X Y f. f.checked.given) (λ X m. tt) [] h),
     )
-  where
-    needs_in : Found → List Need
-    needs_in (Some x) = x.1
-    needs_in None = []

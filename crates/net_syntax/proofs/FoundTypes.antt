@@ -1,10 +1,8 @@
 -- The types that are found on the way to a position in a typed network are those that stand there.
-use Rattle.std.proofs.Common.{◌≡◌, ℕ, zero, suc, ◌+◌, ◌≤◌, ◌<◌, List, [], ◌∷◌, ◌++◌, Option, Some, None, IfSome, map, option_map, refl, sym, ap, ◌∙◌, subst, arith}
+use Rattle.std.proofs.Common.{◌≡◌, ℕ, zero, suc, ◌+◌, ◌≤◌, ◌<◌, List, [], ◌∷◌, ◌++◌, Option, Some, None, IfSome, option_map, refl, sym, ap, ◌∙◌, subst, arith}
 use Rattle.std.specs.Option.{MatchOption}
 use Rattle.std.specs.Result.{result_ok}
 use Rattle.sample_core.specs.TypeTree.{TypeTree, unit_ty, int_ty, pair_ty, event_ty, list_ty}
-use Rattle.sample_core.specs.TypeView.{type_of}
-use Rattle.sample_core.specs.declared.ty.Ty.{Ty}
 use Rattle.leaf_core.specs.Expression.{Expression}
 use Rattle.leaf_core.specs.declared.expr.Expr.{Expr}
 use Rattle.leaf_core.specs.TypeLimits.{TypeFits}
@@ -12,17 +10,15 @@ use Rattle.leaf_core.specs.ExpressionLimits.{ExpressionTypedWithin}
 use Rattle.leaf_core.specs.Parts.{part_at}
 use Rattle.leaf_core.proofs.Exactness.{type_answer-exact}
 use Rattle.leaf_core.proofs.PartTypes.{TypedThere, there_typed, nothing_there}
-use Rattle.net_tree.specs.Network.{Network, Networks, seq, par, loop_pre, accum_by, switch, d_switch, k_switch, p_switch, rp_switch, no_members, and_member}
+use Rattle.net_tree.specs.Network.{Network, Networks, seq, par, loop_pre, accum_by, switch, k_switch, p_switch, rp_switch, no_members, and_member}
 use Rattle.net_tree.specs.NetworkView.{tree_of}
-use Rattle.net_syntax.specs.ArrowView.{arrow_of}
 use Rattle.net_tree.specs.declared.net.Net.{Net}
-use Rattle.net_syntax.specs.declared.arrow.Arrow as A
-use Rattle.net_meaning.specs.Typing.{Arrow, arrow, copies, members, OldAt, old_here, old_after, AllTyped, arr_typed, seq_typed, first_typed, par_typed, loop_typed, i_pre_typed, delay_typed, hold_typed, accum_typed, after_typed, repeatedly_typed, time_typed, integral_typed, switch_typed, d_switch_typed, r_switch_typed, k_switch_typed, p_switch_typed, old_typed, initial_out_typed, initial_in_typed, dr_switch_typed, rp_switch_typed, no_members_typed, and_member_typed}
+use Rattle.net_meaning.specs.Typing.{Arrow, arrow, copies, members, OldAt, old_here, old_after, AllTyped, arr_typed, seq_typed, first_typed, par_typed, loop_typed, i_pre_typed, delay_typed, hold_typed, accum_typed, after_typed, repeatedly_typed, time_typed, integral_typed, switch_typed, r_switch_typed, k_switch_typed, p_switch_typed, old_typed, initial_out_typed, initial_in_typed, rp_switch_typed, no_members_typed, and_member_typed}
 use Rattle.net_meaning.specs.TypedNetwork.{TypedNetwork, NetTyped}
 use Rattle.net_meaning.specs.NetworkLimits.{NetTypedWithin, WithinLimits}
 use Rattle.net_tree.specs.Place.{◌>>=◌, Tree, a_network, a_leaf, member, child, child_network, collection_child, PSwitchChild, p_switch_child, member_child, event_child, continuation_child, no_child}
 use Rattle.net_syntax.specs.Placed.{placed, placed_at, bound_in}
-use Rattle.net_syntax.specs.Standing.{Standing, standing, alone, MembersTyped, ChildStands, ChildFound, in_arr, first_in_seq, second_in_seq, in_first, in_par, constant_in_loop, network_in_loop, in_i_pre, in_delay, in_hold, step_in_accum, start_in_accum, in_after, in_repeatedly, network_in_switch, continuation_in_switch, network_in_d_switch, continuation_in_d_switch, network_in_r_switch, continuation_in_r_switch, network_in_k_switch, event_in_k_switch, continuation_in_k_switch, route_in_p_switch, member_in_p_switch, event_in_p_switch, continuation_in_p_switch, constant_in_initial_out, network_in_initial_out, constant_in_initial_in, network_in_initial_in, network_in_dr_switch, continuation_in_dr_switch, member_in_rp_switch, choice_in_rp_switch, continuation_in_rp_switch, at_network, inside_network, inside_expression, TypeAt}
+use Rattle.net_syntax.specs.Standing.{Standing, standing, alone, TreeWithin, MembersTyped, ChildStands, ChildFound, in_arr, first_in_seq, second_in_seq, in_first, in_par, constant_in_loop, network_in_loop, in_i_pre, in_delay, in_hold, step_in_accum, start_in_accum, in_after, in_repeatedly, network_in_switch, continuation_in_switch, network_in_r_switch, continuation_in_r_switch, network_in_k_switch, event_in_k_switch, continuation_in_k_switch, route_in_p_switch, member_in_p_switch, event_in_p_switch, continuation_in_p_switch, constant_in_initial_out, network_in_initial_out, constant_in_initial_in, network_in_initial_in, member_in_rp_switch, choice_in_rp_switch, continuation_in_rp_switch, at_network, inside_network, inside_expression, TypeAt}
 use Rattle.net_syntax.specs.StandingWalk.{taking, under, freezing, left_of, carried_of, right_carried_of, right_listed_of, old_output, leaf_type, output_in, first_output, routed, p_switch_input, collection_input, child_input, frozen, p_switch_scope, collection_scope, child_scope, inside, type_walk_at}
 use Rattle.net_meaning.proofs.TypingMap.{map_typed, map_all_typed}
 
@@ -60,7 +56,6 @@ mutual
   output_found time_typed = refl
   output_found integral_typed = refl
   output_found (switch_typed f t) = onward left_of (output_found f) refl
-  output_found (d_switch_typed f t) = onward left_of (output_found f) refl
   output_found (r_switch_typed f t) = output_found f
   output_found (k_switch_typed f m e t) = output_found f
   output_found (p_switch_typed {Ps = Ps} {Os = Os} {r = r} {fs = gs} {A = A} {D = D} l u m h fs n e t) =
@@ -69,7 +64,6 @@ mutual
   output_found (old_typed {Os = Os} {k = k} {A = A} {B = B} o) = old_found Os k A B o
   output_found (initial_out_typed h f) = output_found f
   output_found (initial_in_typed h f) = output_found f
-  output_found (dr_switch_typed f t) = output_found f
   output_found (rp_switch_typed l u fs h t m) = ap (option_map list_ty) (first_found l fs)
 
   first_found : {Ps : List TypeTree} {Os : List Arrow} {fs : Networks Expression} {A B : TypeTree} → 1 ≤ members fs → MembersWithin Ps Os fs A B
@@ -83,11 +77,6 @@ forget d = map_typed (λ e Ps A B h. h.checked.given) (λ A m. tt) d
 
 pub forget_all : {Ps : List TypeTree} {Os : List Arrow} {fs : Networks Expression} {A B : TypeTree} → MembersWithin Ps Os fs A B → MembersTyped Ps Os fs A B
 forget_all ds = map_all_typed (λ e Ps A B h. h.checked.given) (λ A m. tt) ds
-
--- a tree that stands there has this output type, or type, within the limits
-abbrev pub TreeWithin : Standing → Tree Expression → TypeTree → Type 0
-TreeWithin S (a_network f) B = NetTypedWithin S.params S.olds f S.input B
-TreeWithin S (a_leaf e) B = ExpressionTypedWithin e S.params S.input B
 
 -- child c of a network at k: where it stands, as it is found, and its type
 pub record ChildThere (S : Standing) (f : Network Expression) (k : ℕ) (c : Tree Expression) : Type 0 where
@@ -252,13 +241,9 @@ child_there (accum_typed h m k n) (suc zero) = there _ start_in_accum refl h
 child_there (after_typed u h m) zero = there _ in_after refl h
 child_there (repeatedly_typed l u h m) zero = there _ in_repeatedly refl h
 child_there (switch_typed f t) zero = there _ network_in_switch refl f
-child_there (switch_typed {Ps = Ps} {Os = Os} {f = f} {t = t} {A = A} {C = C} df dt) (suc zero) =
+child_there (switch_typed {Ps = Ps} {Os = Os} {tm = tm} {f = f} {t = t} {A = A} {C = C} df dt) (suc zero) =
     there _ (continuation_in_switch (forget df))
-    (stands_in (standing Ps Os A) (standing (Ps ++ C ∷ []) Os A) (switch f t) 1 A refl (ap (option_map (under (standing Ps Os A))) (onward right_carried_of (output_found df) refl))) dt
-child_there (d_switch_typed f t) zero = there _ network_in_d_switch refl f
-child_there (d_switch_typed {Ps = Ps} {Os = Os} {f = f} {t = t} {A = A} {C = C} df dt) (suc zero) =
-    there _ (continuation_in_d_switch (forget df))
-    (stands_in (standing Ps Os A) (standing (Ps ++ C ∷ []) Os A) (d_switch f t) 1 A refl (ap (option_map (under (standing Ps Os A))) (onward right_carried_of (output_found df) refl))) dt
+    (stands_in (standing Ps Os A) (standing (Ps ++ C ∷ []) Os A) (switch tm f t) 1 A refl (ap (option_map (under (standing Ps Os A))) (onward right_carried_of (output_found df) refl))) dt
 child_there (r_switch_typed f t) zero = there _ network_in_r_switch refl f
 child_there (r_switch_typed f t) (suc zero) = there _ continuation_in_r_switch refl t
 child_there (k_switch_typed f m e t) zero = there _ network_in_k_switch refl f
@@ -275,8 +260,6 @@ child_there (initial_out_typed h f) zero = there _ constant_in_initial_out refl 
 child_there (initial_out_typed h f) (suc zero) = there _ network_in_initial_out refl f
 child_there (initial_in_typed h f) zero = there _ constant_in_initial_in refl h
 child_there (initial_in_typed h f) (suc zero) = there _ network_in_initial_in refl f
-child_there (dr_switch_typed f t) zero = there _ network_in_dr_switch refl f
-child_there (dr_switch_typed f t) (suc zero) = there _ continuation_in_dr_switch refl t
 child_there (rp_switch_typed l u ds h t n) k = collection_there ds h t k
 child_there _ k = tt
 
@@ -348,7 +331,6 @@ nothing_stands t p w q =
     (type_found p (alone t.input) (a_network t.net) t.output 0 0 w.fits.typed)
 
 -- the walk begins with nothing in scope
-pub from_root : (t : TypedNetwork) (ps : List Ty) (os : List A.Arrow) (i : Ty) (f : Net Expr) (p q : List ℕ) (o : Option TypeTree) → ps ≡ [] → os ≡ []
-    → type_of i ≡ t.input → tree_of f ≡ t.net → p ≡ q → type_walk_at (standing (map type_of ps) (map arrow_of os) (type_of i)) (a_network (tree_of f)) p ≡ o
-    → type_walk_at (alone t.input) (a_network t.net) q ≡ o
-from_root t ps os i f p q o a b c d e h = sym (λ j. type_walk_at (standing (map type_of (a j)) (map arrow_of (b j)) (c j)) (a_network (d j)) (e j)) ∙ h
+pub from_root : (t : TypedNetwork) (S : Standing) (A : TypeTree) (f : Net Expr) (p q : List ℕ) (o : Option TypeTree) → S ≡ alone A → A ≡ t.input
+    → tree_of f ≡ t.net → p ≡ q → type_walk_at S (a_network (tree_of f)) p ≡ o → type_walk_at (alone t.input) (a_network t.net) q ≡ o
+from_root t S A f p q o a b c d h = sym (λ j. type_walk_at ((a ∙ ap alone b) j) (a_network (c j)) (d j)) ∙ h

@@ -12,7 +12,7 @@ use Rattle.std.proofs.lemmas.Option.{none-some}
 use Rattle.sample_core.specs.TypeTree.{TypeTree}
 use Rattle.leaf_core.specs.Expression.{Expression}
 use Rattle.net_tree.specs.Network.{Network, Networks, par, p_switch, rp_switch, no_members, and_member}
-use Rattle.net_meaning.specs.Typing.{Arrow, members, LeafTyping, Typed, AllTyped, arr_typed, seq_typed, first_typed, par_typed, loop_typed, i_pre_typed, delay_typed, hold_typed, accum_typed, after_typed, repeatedly_typed, time_typed, integral_typed, switch_typed, d_switch_typed, r_switch_typed, k_switch_typed, p_switch_typed, old_typed, initial_out_typed, initial_in_typed, dr_switch_typed, rp_switch_typed, no_members_typed, and_member_typed}
+use Rattle.net_meaning.specs.Typing.{Arrow, members, LeafTyping, Typed, AllTyped, arr_typed, seq_typed, first_typed, par_typed, loop_typed, i_pre_typed, delay_typed, hold_typed, accum_typed, after_typed, repeatedly_typed, time_typed, integral_typed, switch_typed, r_switch_typed, k_switch_typed, p_switch_typed, old_typed, initial_out_typed, initial_in_typed, rp_switch_typed, no_members_typed, and_member_typed}
 use Rattle.net_tree.specs.Place as P
 use Rattle.net_tree.specs.Place.{Tree, a_network, a_leaf, child, member, p_switch_child, child_network, collection_child, no_child}
 use Rattle.net_syntax.specs.Leaves.{Need, leaves_by, member_leaves_by}
@@ -234,8 +234,6 @@ module _ {T : LeafTyping Expression} {M : TypeTree → Type 0} where
     listed {net = net} at integral_typed = none net at (λ k. refl)
     listed {net = net} at (switch_typed {f = f} {t = t} df dt) =
         two net (a_network f) (a_network t) at _ _ refl refl (λ k. refl) (listed (at ++ 0 ∷ []) df) (listed (at ++ 1 ∷ []) dt)
-    listed {net = net} at (d_switch_typed {f = f} {t = t} df dt) =
-        two net (a_network f) (a_network t) at _ _ refl refl (λ k. refl) (listed (at ++ 0 ∷ []) df) (listed (at ++ 1 ∷ []) dt)
     listed {net = net} at (r_switch_typed {f = f} {t = t} df dt) =
         two net (a_network f) (a_network t) at _ _ refl refl (λ k. refl) (listed (at ++ 0 ∷ []) df) (listed (at ++ 1 ∷ []) dt)
     listed {net = net} at (k_switch_typed {f = f} {e = e} {t = t} df m de dt) =
@@ -260,8 +258,6 @@ module _ {T : LeafTyping Expression} {M : TypeTree → Type 0} where
         two net (a_leaf c) (a_network f) at (_ ∷ []) _ refl refl (λ k. refl) (leaf_lists c _ _ refl) (listed (at ++ 1 ∷ []) df)
     listed {net = net} at (initial_in_typed {c = c} {f = f} h df) =
         two net (a_leaf c) (a_network f) at (_ ∷ []) _ refl refl (λ k. refl) (leaf_lists c _ _ refl) (listed (at ++ 1 ∷ []) df)
-    listed {net = net} at (dr_switch_typed {f = f} {t = t} df dt) =
-        two net (a_network f) (a_network t) at _ _ refl refl (λ k. refl) (listed (at ++ 0 ∷ []) df) (listed (at ++ 1 ∷ []) dt)
     listed {net = net} at (rp_switch_typed {fs = fs} {m = m} {t = t} l u ds h dt n) =
         let past : ℕ = suc (members fs) in
         whole_lists net at (suc past) _ (rp_switch_ends fs m t)

@@ -4,7 +4,7 @@ use Rattle.std.proofs.lemmas.List.Elements.{All-append, All-cons, All-nil}
 use Rattle.sample_core.specs.TypeTree.{TypeTree, int_ty, pair_ty, list_ty}
 use Rattle.leaf_core.specs.Expression.{Expression}
 use Rattle.net_tree.specs.Network.{Network, Networks, par, p_switch, rp_switch, and_member}
-use Rattle.net_meaning.specs.Typing.{Arrow, members, LeafTyping, Typed, AllTyped, arr_typed, seq_typed, first_typed, par_typed, loop_typed, i_pre_typed, delay_typed, hold_typed, accum_typed, after_typed, repeatedly_typed, time_typed, integral_typed, switch_typed, d_switch_typed, r_switch_typed, k_switch_typed, p_switch_typed, old_typed, initial_out_typed, initial_in_typed, dr_switch_typed, rp_switch_typed, no_members_typed, and_member_typed}
+use Rattle.net_meaning.specs.Typing.{Arrow, members, LeafTyping, Typed, AllTyped, arr_typed, seq_typed, first_typed, par_typed, loop_typed, i_pre_typed, delay_typed, hold_typed, accum_typed, after_typed, repeatedly_typed, time_typed, integral_typed, switch_typed, r_switch_typed, k_switch_typed, p_switch_typed, old_typed, initial_out_typed, initial_in_typed, rp_switch_typed, no_members_typed, and_member_typed}
 use Rattle.net_tree.specs.Place as P
 use Rattle.net_tree.specs.Place.{a_network, a_leaf, child, member, p_switch_child, child_network, collection_child}
 use Rattle.net_syntax.specs.Leaves.{Need, need_at, leaves_by, member_leaves_by}
@@ -105,7 +105,6 @@ module _ {T : LeafTyping Expression} {M : TypeTree → Type 0} where
     stand {net = net} at time_typed = All-nil (Stands net at)
     stand {net = net} at integral_typed = All-nil (Stands net at)
     stand {net = net} at (switch_typed {f = f} {t = t} df dt) = two net at 0 1 f t _ _ refl refl (stand (at ++ 0 ∷ []) df) (stand (at ++ 1 ∷ []) dt)
-    stand {net = net} at (d_switch_typed {f = f} {t = t} df dt) = two net at 0 1 f t _ _ refl refl (stand (at ++ 0 ∷ []) df) (stand (at ++ 1 ∷ []) dt)
     stand {net = net} at (r_switch_typed {f = f} {t = t} df dt) = two net at 0 1 f t _ _ refl refl (stand (at ++ 0 ∷ []) df) (stand (at ++ 1 ∷ []) dt)
     stand {net = net} at (k_switch_typed {f = f} {e = e} {t = t} df m de dt) =
         All-append (Stands net at) _ _ (two net at 0 1 f e _ _ refl refl (stand (at ++ 0 ∷ []) df) (stand (at ++ 1 ∷ []) de))
@@ -125,7 +124,6 @@ module _ {T : LeafTyping Expression} {M : TypeTree → Type 0} where
     stand {net = net} at (old_typed o) = All-nil (Stands net at)
     stand {net = net} at (initial_out_typed {f = f} h df) = fed net f at _ _ refl refl refl (stand (at ++ 1 ∷ []) df)
     stand {net = net} at (initial_in_typed {f = f} h df) = fed net f at _ _ refl refl refl (stand (at ++ 1 ∷ []) df)
-    stand {net = net} at (dr_switch_typed {f = f} {t = t} df dt) = two net at 0 1 f t _ _ refl refl (stand (at ++ 0 ∷ []) df) (stand (at ++ 1 ∷ []) dt)
     stand {net = net} at (rp_switch_typed {Ps = Ps} {fs = fs} {m = m} {t = t} {C = C} {V = V} l u ds h dt n) =
         let n : Need = need_at at (members fs) m Ps C (pair_ty (list_ty int_ty) (list_ty V)) in
         let ms : List Need = member_leaves_by at 0 ds in

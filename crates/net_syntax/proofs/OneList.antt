@@ -5,7 +5,7 @@ use Rattle.leaf_core.specs.Expression.{Expression}
 use Rattle.leaf_core.specs.ExpressionTyping.{ExpressionTyped}
 use Rattle.leaf_core.proofs.Uniqueness.{one_type}
 use Rattle.net_tree.specs.Network.{Network, Networks}
-use Rattle.net_meaning.specs.Typing.{Arrow, copies, members, LeafTyping, Typed, AllTyped, AnyType, arr_typed, seq_typed, first_typed, par_typed, loop_typed, i_pre_typed, delay_typed, hold_typed, accum_typed, after_typed, repeatedly_typed, time_typed, integral_typed, switch_typed, d_switch_typed, r_switch_typed, k_switch_typed, p_switch_typed, old_typed, initial_out_typed, initial_in_typed, dr_switch_typed, rp_switch_typed, no_members_typed, and_member_typed}
+use Rattle.net_meaning.specs.Typing.{Arrow, copies, members, LeafTyping, Typed, AllTyped, AnyType, arr_typed, seq_typed, first_typed, par_typed, loop_typed, i_pre_typed, delay_typed, hold_typed, accum_typed, after_typed, repeatedly_typed, time_typed, integral_typed, switch_typed, r_switch_typed, k_switch_typed, p_switch_typed, old_typed, initial_out_typed, initial_in_typed, rp_switch_typed, no_members_typed, and_member_typed}
 use Rattle.net_syntax.specs.Leaves.{Need, need_at, leaves_by, member_leaves_by}
 use Rattle.net_syntax.specs.TypingLaws.{OneListLaw}
 use Rattle.net_meaning.proofs.Unique.{unique, all_unique}
@@ -26,7 +26,7 @@ list_part A = A
 carried : {X : Type 0} {F : X → Type 0} {x y : X} (read : (z : X) → F z → List Need) → x ≡ y → (k : F x) → (m : F y) × (read x k ≡ read y m)
 carried {F = F} {x = x} read e k = subst (λ z. (m : F z) × (read x k ≡ read z m)) e (k, refl)
 
-through : {X : Type 0} {F : X → Type 0} {x y : X} {ns : List Need} (read : (z : X) → F z → List Need) → x ≡ y → (k : F x)
+pub through : {X : Type 0} {F : X → Type 0} {x y : X} {ns : List Need} (read : (z : X) → F z → List Need) → x ≡ y → (k : F x)
     → ((m : F y) → read y m ≡ ns) → read x k ≡ ns
 through read e k s = let m = carried read e k in m.1 ∙ s m.0
 
@@ -36,7 +36,7 @@ module _ (T : LeafTyping Expression) (M : TypeTree → Type 0) (one : (e : Expre
   At = Typed T M
 
   mutual
-    listed : (Ps : List TypeTree) (Os : List Arrow) (at : List ℕ) (net : Network Expression) (A B B' : TypeTree) (d : At Ps Os net A B)
+    pub listed : (Ps : List TypeTree) (Os : List Arrow) (at : List ℕ) (net : Network Expression) (A B B' : TypeTree) (d : At Ps Os net A B)
         (k : At Ps Os net A B') → leaves_by at k ≡ leaves_by at d
     listed Ps Os at net A B B' (arr_typed {e = e} h) (arr_typed k) = ap (λ C. need_at at 0 e Ps A C ∷ []) (one e Ps A B' B k h)
     listed Ps Os at net A C C' (seq_typed {f = f} {g = g} {B = X} df dg) (seq_typed {B = Y} kf kg) =
@@ -62,11 +62,6 @@ module _ (T : LeafTyping Expression) (M : TypeTree → Type 0) (one : (e : Expre
     listed Ps Os at net A B B' time_typed time_typed = refl
     listed Ps Os at net A B B' integral_typed integral_typed = refl
     listed Ps Os at net A B B' (switch_typed {f = f} {t = t} {C = C} df dt) (switch_typed {C = D} kf kt) =
-        let same : D ≡ C = ap (λ W. event_part (pair_right W)) (unique T one Ps Os f A (pair_ty B' (event_ty D)) (pair_ty B (event_ty C)) kf df) in
-        ap₂ ◌++◌ (listed Ps Os (at ++ 0 ∷ []) f A (pair_ty B (event_ty C)) (pair_ty B' (event_ty D)) df kf)
-        (through {F = λ Z. At (Ps ++ Z ∷ []) Os t A B'} (λ Z d. leaves_by (at ++ 1 ∷ []) d) same kt
-        (λ m. listed (Ps ++ C ∷ []) Os (at ++ 1 ∷ []) t A B B' dt m))
-    listed Ps Os at net A B B' (d_switch_typed {f = f} {t = t} {C = C} df dt) (d_switch_typed {C = D} kf kt) =
         let same : D ≡ C = ap (λ W. event_part (pair_right W)) (unique T one Ps Os f A (pair_ty B' (event_ty D)) (pair_ty B (event_ty C)) kf df) in
         ap₂ ◌++◌ (listed Ps Os (at ++ 0 ∷ []) f A (pair_ty B (event_ty C)) (pair_ty B' (event_ty D)) df kf)
         (through {F = λ Z. At (Ps ++ Z ∷ []) Os t A B'} (λ Z d. leaves_by (at ++ 1 ∷ []) d) same kt
@@ -107,8 +102,6 @@ module _ (T : LeafTyping Expression) (M : TypeTree → Type 0) (one : (e : Expre
         ap₂ (λ Z ns. need_at at 0 c Ps unit_ty Z ∷ ns) (one c Ps unit_ty B' B k h) (listed Ps Os (at ++ 1 ∷ []) f A B B' df kf)
     listed Ps Os at net A B B' (initial_in_typed {c = c} {f = f} h df) (initial_in_typed k kf) =
         ap (λ ns. need_at at 0 c Ps unit_ty A ∷ ns) (listed Ps Os (at ++ 1 ∷ []) f A B B' df kf)
-    listed Ps Os at net A B B' (dr_switch_typed {f = f} {t = t} {D = D} {C = C} df dt) (dr_switch_typed kf kt) =
-        ap₂ ◌++◌ (listed Ps Os (at ++ 0 ∷ []) f D B B' df kf) (listed (Ps ++ C ∷ []) Os (at ++ 1 ∷ []) t D B B' dt kt)
     listed Ps Os at net A B B' (rp_switch_typed {fs = fs} {m = m} {t = t} {D = D} {B = X} {C = C} {V = V} l u ds h dt n)
         (rp_switch_typed {B = Y} {V = W} l' u' ks k kt n') =
         let same : W ≡ V = ap (λ Z. list_part (pair_right Z))

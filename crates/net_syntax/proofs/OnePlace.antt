@@ -8,7 +8,7 @@ use Rattle.net_tree.specs.Network.{Network, Networks, p_switch}
 use Rattle.net_meaning.specs.Typing.{Arrow, arrow, copies, members, p_switch_typed}
 use Rattle.net_meaning.specs.TypedNetwork.{NetTyped}
 use Rattle.net_meaning.specs.NetworkLimits.{NetTypedWithin}
-use Rattle.net_syntax.specs.Standing.{Standing, standing, MembersTyped, ChildStands, in_arr, first_in_seq, second_in_seq, in_first, in_par, constant_in_loop, network_in_loop, in_i_pre, in_delay, in_hold, step_in_accum, start_in_accum, in_after, in_repeatedly, network_in_switch, continuation_in_switch, network_in_d_switch, continuation_in_d_switch, network_in_r_switch, continuation_in_r_switch, network_in_k_switch, event_in_k_switch, continuation_in_k_switch, route_in_p_switch, member_in_p_switch, event_in_p_switch, continuation_in_p_switch, constant_in_initial_out, network_in_initial_out, constant_in_initial_in, network_in_initial_in, network_in_dr_switch, continuation_in_dr_switch, member_in_rp_switch, choice_in_rp_switch, continuation_in_rp_switch}
+use Rattle.net_syntax.specs.Standing.{Standing, standing, MembersTyped, ChildStands, in_arr, first_in_seq, second_in_seq, in_first, in_par, constant_in_loop, network_in_loop, in_i_pre, in_delay, in_hold, step_in_accum, start_in_accum, in_after, in_repeatedly, network_in_switch, continuation_in_switch, network_in_r_switch, continuation_in_r_switch, network_in_k_switch, event_in_k_switch, continuation_in_k_switch, route_in_p_switch, member_in_p_switch, event_in_p_switch, continuation_in_p_switch, constant_in_initial_out, network_in_initial_out, constant_in_initial_in, network_in_initial_in, member_in_rp_switch, choice_in_rp_switch, continuation_in_rp_switch}
 use Rattle.net_meaning.proofs.StreamLaws.{one-output-type}
 use Rattle.net_meaning.proofs.Unique.{all_unique}
 
@@ -59,8 +59,6 @@ one_place i in_after in_after q = refl
 one_place i in_repeatedly in_repeatedly q = refl
 one_place i network_in_switch network_in_switch q = refl
 one_place {Ps = Ps} {Os = Os} i (continuation_in_switch {A = A} d) (continuation_in_switch e) q = ap (λ z. standing (Ps ++ z ∷ []) Os A) (one_event d e)
-one_place i network_in_d_switch network_in_d_switch q = refl
-one_place {Ps = Ps} {Os = Os} i (continuation_in_d_switch {A = A} d) (continuation_in_d_switch e) q = ap (λ z. standing (Ps ++ z ∷ []) Os A) (one_event d e)
 one_place i network_in_r_switch network_in_r_switch q = refl
 one_place i continuation_in_r_switch continuation_in_r_switch q = refl
 one_place i network_in_k_switch network_in_k_switch q = refl
@@ -93,8 +91,6 @@ one_place i constant_in_initial_out constant_in_initial_out q = refl
 one_place i network_in_initial_out network_in_initial_out q = refl
 one_place i constant_in_initial_in constant_in_initial_in q = refl
 one_place i network_in_initial_in network_in_initial_in q = refl
-one_place i network_in_dr_switch network_in_dr_switch q = refl
-one_place i continuation_in_dr_switch continuation_in_dr_switch q = refl
 one_place i (member_in_rp_switch l) (member_in_rp_switch u) q = refl
 one_place i choice_in_rp_switch choice_in_rp_switch q = refl
 one_place {Ps = Ps} {Os = Os} i (continuation_in_rp_switch {D = D} {C = C} {V = V} {m = m} h) (continuation_in_rp_switch {V = W} j) q =

@@ -8,11 +8,11 @@ use Rattle.leaf_core.proofs.PartTypes.{one_input}
 use Rattle.leaf_core.proofs.Uniqueness.{one_type}
 use Rattle.net_tree.specs.Network.{Network}
 use Rattle.net_tree.specs.Place.{Tree, a_network, a_leaf, child}
-use Rattle.net_syntax.specs.Standing.{Standing, ChildStands, TreeTyped, StandsAt, at_network, inside_network, inside_expression}
+use Rattle.net_syntax.specs.Standing.{Standing, ChildStands, TreeTyped, TreeWithin, StandsAt, at_network, inside_network, inside_expression}
 use Rattle.net_meaning.specs.NetworkLimits.{NetTypedWithin}
 use Rattle.net_syntax.specs.TypingLaws.{OneTypeAtLaw}
 use Rattle.net_meaning.proofs.StreamLaws.{one-output-type}
-use Rattle.net_syntax.proofs.FoundTypes.{TreeWithin, ChildThere, child_there}
+use Rattle.net_syntax.proofs.FoundTypes.{ChildThere, child_there}
 use Rattle.net_syntax.proofs.OnePlace.{populated, one_place}
 
 -- the one value of an option

@@ -10,21 +10,21 @@ use Rattle.leaf_core.specs.Parts.{part_at, with_part_at, InputAt}
 use Rattle.leaf_core.proofs.Soundness.{typed_value}
 use Rattle.leaf_core.proofs.Uniqueness.{one_type}
 use Rattle.leaf_core.proofs.SameParts.{same_part}
-use Rattle.net_tree.specs.Network.{Network, Networks, arr, seq, first, par, loop_pre, initial_out, initial_in, i_pre, delay, hold, accum_by, after, repeatedly, switch, d_switch, r_switch, dr_switch, rp_switch, k_switch, p_switch, no_members, and_member}
-use Rattle.net_meaning.specs.Typing.{Arrow, arrow, copies, members, arr_typed, seq_typed, first_typed, par_typed, loop_typed, i_pre_typed, delay_typed, hold_typed, accum_typed, after_typed, repeatedly_typed, time_typed, integral_typed, switch_typed, d_switch_typed, r_switch_typed, k_switch_typed, p_switch_typed, old_typed, initial_out_typed, initial_in_typed, dr_switch_typed, rp_switch_typed, no_members_typed, and_member_typed}
+use Rattle.net_tree.specs.Network.{Network, Networks, arr, seq, first, par, loop_pre, initial_out, initial_in, i_pre, delay, hold, accum_by, after, repeatedly, switch, r_switch, rp_switch, k_switch, p_switch, no_members, and_member}
+use Rattle.net_meaning.specs.Typing.{Arrow, arrow, copies, members, arr_typed, seq_typed, first_typed, par_typed, loop_typed, i_pre_typed, delay_typed, hold_typed, accum_typed, after_typed, repeatedly_typed, time_typed, integral_typed, switch_typed, r_switch_typed, k_switch_typed, p_switch_typed, old_typed, initial_out_typed, initial_in_typed, rp_switch_typed, no_members_typed, and_member_typed}
 use Rattle.net_meaning.specs.TypedNetwork.{NetTyped}
 use Rattle.net_meaning.specs.Sameness.{SameLeaf, SameNet}
 use Rattle.net_meaning.specs.AlikeEnvironments.{SameOutputs}
 use Rattle.net_tree.specs.Place as P
 use Rattle.net_tree.specs.Place.{Tree, a_network, a_leaf, member, child, child_network, collection_child, PSwitchChild, p_switch_child, member_child, event_child, continuation_child}
 use Rattle.net_syntax.specs.Placed.{with_member, with_child, with_p_switch_child, with_collection_child, replaced}
-use Rattle.net_syntax.specs.Standing.{Standing, standing, TreeTyped, MembersTyped, ChildStands, in_arr, first_in_seq, second_in_seq, in_first, in_par, constant_in_loop, network_in_loop, in_i_pre, in_delay, in_hold, step_in_accum, start_in_accum, in_after, in_repeatedly, network_in_switch, continuation_in_switch, network_in_d_switch, continuation_in_d_switch, network_in_r_switch, continuation_in_r_switch, network_in_k_switch, event_in_k_switch, continuation_in_k_switch, route_in_p_switch, member_in_p_switch, event_in_p_switch, continuation_in_p_switch, constant_in_initial_out, network_in_initial_out, constant_in_initial_in, network_in_initial_in, network_in_dr_switch, continuation_in_dr_switch, member_in_rp_switch, choice_in_rp_switch, continuation_in_rp_switch, at_network, inside_network, inside_expression}
+use Rattle.net_syntax.specs.Standing.{Standing, standing, TreeTyped, MembersTyped, ChildStands, in_arr, first_in_seq, second_in_seq, in_first, in_par, constant_in_loop, network_in_loop, in_i_pre, in_delay, in_hold, step_in_accum, start_in_accum, in_after, in_repeatedly, network_in_switch, continuation_in_switch, network_in_r_switch, continuation_in_r_switch, network_in_k_switch, event_in_k_switch, continuation_in_k_switch, route_in_p_switch, member_in_p_switch, event_in_p_switch, continuation_in_p_switch, constant_in_initial_out, network_in_initial_out, constant_in_initial_in, network_in_initial_in, member_in_rp_switch, choice_in_rp_switch, continuation_in_rp_switch, at_network, inside_network, inside_expression}
 use Rattle.net_meaning.specs.Congruence.{TwinLeaf, Twin, TwinMembers, no_twins, and_twins}
-use Rattle.net_syntax.specs.SamePlace.{SameThere, SamePlaceLaw}
+use Rattle.net_syntax.specs.SamePlace.{SameInPlace, SamePlaceLaw}
 use Rattle.net_syntax.proofs.Children.{event_is, continuation_is}
 use Rattle.net_meaning.proofs.SameNets.{same-arr, same-loop_pre, same-i_pre, same-delay, same-hold, same-accum_by, same-after, same-repeatedly, same-p_switch, same-typed, same-all_typed}
 use Rattle.net_meaning.proofs.Congruence.{leaf_same}
-use Rattle.net_meaning.proofs.SameForms.{seq_same, first_same, loop_same, switch_same, d_switch_same, r_switch_same, k_switch_same, par_same, p_switch_same, initial_out_congruent, initial_in_congruent, late_restart_congruent, collection_congruent}
+use Rattle.net_meaning.proofs.SameForms.{seq_same, first_same, loop_same, switch_same, r_switch_same, k_switch_same, par_same, p_switch_same, initial_out_congruent, initial_in_congruent, collection_congruent}
 use Rattle.net_meaning.proofs.Unique.{all_unique}
 use Rattle.net_meaning.proofs.StreamLaws.{same-outputs, alike-outputs, one-output-type}
 
@@ -44,7 +44,7 @@ record Hole (Ps : List TypeTree) (Os : List Arrow) (A B : TypeTree) (net : Netwo
   whole : Filler c → Network Expression
   whole_is : (n : Filler c) → with_child net k (filled c n) ≡ Some (whole n)
   whole_typed : (n : Filler c) → TreeTyped R (filled c n) out → NetTyped Ps Os (whole n) A B
-  whole_same : (n : Filler c) → TreeTyped R (filled c n) out → SameThere R c (filled c n) → SameOutputs Ps Os A net (whole n)
+  whole_same : (n : Filler c) → TreeTyped R (filled c n) out → SameInPlace R c (filled c n) → SameOutputs Ps Os A net (whole n)
 
 -- the same of a member
 record MemberHole (Ps : List TypeTree) (Os : List Arrow) (A B : TypeTree) (fs : Networks Expression) (k : ℕ) (f : Network Expression) : Type 0 where
@@ -297,67 +297,46 @@ module _ (Ps : List TypeTree) (Os : List Arrow) where
   hole A B net k c R time_typed p i = elim i [ ]
   hole A B net k c R integral_typed p i = elim i [ ]
   hole A B net k c R (old_typed o) p i = elim i [ ]
-  hole A B net k c R (switch_typed {f = f} {t = t} {C = C} df dt) p network_in_switch =
+  hole A B net k c R (switch_typed {tm = tm} {f = f} {t = t} {C = C} df dt) p network_in_switch =
       subst (λ y. HoleAt A B net 0 y R) (same_Some (a_network f) c p)
       (record {
         out = pair_ty B (event_ty C);
         child_typed = df;
-        whole = λ n. switch n t;
+        whole = λ n. switch tm n t;
         whole_is = λ n. refl;
         whole_typed = λ n i. switch_typed i dt;
-        whole_same = λ n i q. switch_same Ps Os A B C f n t t df dt q (alike-outputs (Ps ++ C ∷ []) Os t A B dt);
+        whole_same = λ n i q. switch_same tm Ps Os A B C f n t t df dt q (alike-outputs (Ps ++ C ∷ []) Os t A B dt);
       })
-  hole A B net k c R (switch_typed {f = f} {t = t} {C = C} df dt) p (continuation_in_switch {B = Y} {C = D} kf) =
+  hole A B net k c R (switch_typed {tm = tm} {f = f} {t = t} {C = C} df dt) p (continuation_in_switch {B = Y} {C = D} kf) =
       subst (λ Z. HoleAt A B net 1 c (standing (Ps ++ Z ∷ []) Os A)) (event_same f A B Y C D df kf)
       (subst (λ y. HoleAt A B net 1 y (standing (Ps ++ C ∷ []) Os A)) (same_Some (a_network t) c p)
       (record {
         out = B;
         child_typed = dt;
-        whole = λ n. switch f n;
+        whole = λ n. switch tm f n;
         whole_is = λ n. refl;
         whole_typed = λ n i. switch_typed df i;
-        whole_same = λ n i q. switch_same Ps Os A B C f f t n df dt (alike f A (pair_ty B (event_ty C)) df) q;
+        whole_same = λ n i q. switch_same tm Ps Os A B C f f t n df dt (alike f A (pair_ty B (event_ty C)) df) q;
       }))
-  hole A B net k c R (d_switch_typed {f = f} {t = t} {C = C} df dt) p network_in_d_switch =
-      subst (λ y. HoleAt A B net 0 y R) (same_Some (a_network f) c p)
-      (record {
-        out = pair_ty B (event_ty C);
-        child_typed = df;
-        whole = λ n. d_switch n t;
-        whole_is = λ n. refl;
-        whole_typed = λ n i. d_switch_typed i dt;
-        whole_same = λ n i q. d_switch_same Ps Os A B C f n t t df dt q (alike-outputs (Ps ++ C ∷ []) Os t A B dt);
-      })
-  hole A B net k c R (d_switch_typed {f = f} {t = t} {C = C} df dt) p (continuation_in_d_switch {B = Y} {C = D} kf) =
-      subst (λ Z. HoleAt A B net 1 c (standing (Ps ++ Z ∷ []) Os A)) (event_same f A B Y C D df kf)
-      (subst (λ y. HoleAt A B net 1 y (standing (Ps ++ C ∷ []) Os A)) (same_Some (a_network t) c p)
-      (record {
-        out = B;
-        child_typed = dt;
-        whole = λ n. d_switch f n;
-        whole_is = λ n. refl;
-        whole_typed = λ n i. d_switch_typed df i;
-        whole_same = λ n i q. d_switch_same Ps Os A B C f f t n df dt (alike f A (pair_ty B (event_ty C)) df) q;
-      }))
-  hole A B net k c R (r_switch_typed {f = f} {t = t} {D = D} {C = C} df dt) p network_in_r_switch =
+  hole A B net k c R (r_switch_typed {tm = tm} {f = f} {t = t} {D = D} {C = C} df dt) p network_in_r_switch =
       subst (λ y. HoleAt A B net 0 y R) (same_Some (a_network f) c p)
       (record {
         out = B;
         child_typed = df;
-        whole = λ n. r_switch n t;
+        whole = λ n. r_switch tm n t;
         whole_is = λ n. refl;
         whole_typed = λ n i. r_switch_typed i dt;
-        whole_same = λ n i q. r_switch_same Ps Os D B C f n t t df dt q (alike-outputs (Ps ++ C ∷ []) Os t D B dt);
+        whole_same = λ n i q. r_switch_same tm Ps Os D B C f n t t df dt q (alike-outputs (Ps ++ C ∷ []) Os t D B dt);
       })
-  hole A B net k c R (r_switch_typed {f = f} {t = t} {D = D} {C = C} df dt) p continuation_in_r_switch =
+  hole A B net k c R (r_switch_typed {tm = tm} {f = f} {t = t} {D = D} {C = C} df dt) p continuation_in_r_switch =
       subst (λ y. HoleAt A B net 1 y R) (same_Some (a_network t) c p)
       (record {
         out = B;
         child_typed = dt;
-        whole = λ n. r_switch f n;
+        whole = λ n. r_switch tm f n;
         whole_is = λ n. refl;
         whole_typed = λ n i. r_switch_typed df i;
-        whole_same = λ n i q. r_switch_same Ps Os D B C f f t n df dt (alike f D B df) q;
+        whole_same = λ n i q. r_switch_same tm Ps Os D B C f f t n df dt (alike f D B df) q;
       })
   hole A B net k c R (k_switch_typed {f = f} {e = e} {t = t} {C = C} df m de dt) p network_in_k_switch =
       subst (λ y. HoleAt A B net 0 y R) (same_Some (a_network f) c p)
@@ -507,26 +486,6 @@ module _ (Ps : List TypeTree) (Os : List Arrow) where
         whole_typed = λ n t. initial_in_typed h t;
         whole_same = λ n t q. initial_in_congruent Ps Os A B z z f n (own_leaf Ps unit_ty A z h) (as_twin Ps Os A B f n df t q);
       })
-  hole A B net k c R (dr_switch_typed {f = f} {t = t} {D = D} {C = C} df dt) p network_in_dr_switch =
-      subst (λ y. HoleAt A B net 0 y R) (same_Some (a_network f) c p)
-      (record {
-        out = B;
-        child_typed = df;
-        whole = λ n. dr_switch n t;
-        whole_is = λ n. refl;
-        whole_typed = λ n i. dr_switch_typed i dt;
-        whole_same = λ n i q. late_restart_congruent Ps Os D B C f n t t (as_twin Ps Os D B f n df i q) (own_twin (Ps ++ C ∷ []) Os D B t dt);
-      })
-  hole A B net k c R (dr_switch_typed {f = f} {t = t} {D = D} {C = C} df dt) p continuation_in_dr_switch =
-      subst (λ y. HoleAt A B net 1 y R) (same_Some (a_network t) c p)
-      (record {
-        out = B;
-        child_typed = dt;
-        whole = λ n. dr_switch f n;
-        whole_is = λ n. refl;
-        whole_typed = λ n i. dr_switch_typed df i;
-        whole_same = λ n i q. late_restart_congruent Ps Os D B C f f t n (own_twin Ps Os D B f df) (as_twin (Ps ++ C ∷ []) Os D B t n dt i q);
-      })
   hole A B net k c R (rp_switch_typed {fs = fs} {m = m} {t = t} {D = D} {B = X} {C = C} {V = V} some few ds h dt n') p (member_in_rp_switch {k = j} l) =
       let b : p_switch_child fs j ≡ member_child = member_below fs j l in
       let o : Found (member fs j) c = found_network (member fs j) c (ap (λ w. collection_child w fs m t j) (sym b) ∙ p) in
@@ -582,37 +541,33 @@ onward None f y e = absurd (none-some y e)
 onward (Some x) f y e = record { from = x; was = refl; goes = e }
 
 -- what does the same as a tree has its kind
-same_kind : (S : Standing) (c d : Tree Expression) → SameThere S c d → (n : Filler c) × (filled c n ≡ d)
+same_kind : (S : Standing) (c d : Tree Expression) → SameInPlace S c d → (n : Filler c) × (filled c n ≡ d)
 same_kind S (a_network f) (a_network g) q = (g, refl)
 same_kind S (a_network f) (a_leaf e) q = absurd q
 same_kind S (a_leaf e) (a_network f) q = absurd q
 same_kind S (a_leaf e) (a_leaf s) q = (s, refl)
 
-one_tree_type : (S : Standing) (t : Tree Expression) (B C : TypeTree) → TreeTyped S t B → TreeTyped S t C → B ≡ C
-one_tree_type S (a_network f) B C d k = one-output-type S.params S.olds f S.input B C d k
-one_tree_type S (a_leaf e) B C d k = one_type e S.params S.input B C d k
-
 -- the whole with another tree at a position
 leaf_tree : (S : Standing) (B C D : TypeTree) (e c : Expression) (p : List ℕ) (other whole : Tree Expression) → ExpressionTyped e S.params S.input B
     → part_at e p ≡ Some c → InputAt S.params S.input e p C → ExpressionTyped c S.params C D → TreeTyped (standing S.params S.olds C) other D
-    → SameThere (standing S.params S.olds C) (a_leaf c) other → replaced (a_leaf e) p other ≡ Some whole → TreeTyped S whole B × SameThere S (a_leaf e) whole
+    → SameInPlace (standing S.params S.olds C) (a_leaf c) other → replaced (a_leaf e) p other ≡ Some whole → TreeTyped S whole B × SameInPlace S (a_leaf e) whole
 leaf_tree S B C D e c p (a_network g) whole d f i dc dg q r = absurd q
 leaf_tree S B C D e c p (a_leaf s) whole d f i dc ds q r = go (with_part_at e p s) refl r
   where
-    go : (o : Option Expression) → with_part_at e p s ≡ o → option_map a_leaf o ≡ Some whole → TreeTyped S whole B × SameThere S (a_leaf e) whole
+    go : (o : Option Expression) → with_part_at e p s ≡ o → option_map a_leaf o ≡ Some whole → TreeTyped S whole B × SameInPlace S (a_leaf e) whole
     go None is r = absurd (none-some whole r)
     go (Some w) is r =
-        subst (λ z. TreeTyped S z B × SameThere S (a_leaf e) z) (same_Some (a_leaf w) whole r)
+        subst (λ z. TreeTyped S z B × SameInPlace S (a_leaf e) z) (same_Some (a_leaf w) whole r)
         (same_part S.params S.input B C D p e c w s d i f is dc ds q)
 
 pub same_place : SamePlaceLaw
 same_place S Q B C [] tree there other whole d (at_network {f = f}) dt dn q r = go other dn q r
   where
-    go : (other : Tree Expression) → TreeTyped S other C → SameThere S (a_network f) other → replaced (a_network f) [] other ≡ Some whole
-        → TreeTyped S whole B × SameThere S (a_network f) whole
+    go : (other : Tree Expression) → TreeTyped S other C → SameInPlace S (a_network f) other → replaced (a_network f) [] other ≡ Some whole
+        → TreeTyped S whole B × SameInPlace S (a_network f) whole
     go (a_leaf s) dn q r = absurd q
     go (a_network g) dn q r =
-        subst (λ z. TreeTyped S z B × SameThere S (a_network f) z) (same_Some (a_network g) whole r) (
+        subst (λ z. TreeTyped S z B × SameInPlace S (a_network f) z) (same_Some (a_network g) whole r) (
           subst (NetTyped S.params S.olds g S.input) (one-output-type S.params S.olds f S.input C B dt d) dn,
           q,
         )
@@ -623,12 +578,12 @@ same_place S Q B C p tree there other whole d (inside_network {R = R} {f = f} {c
     let r' : P.◌>>=◌ (replaced c p' other) (λ z. option_map a_network (with_child f k z)) ≡ Some whole =
     ap (λ o. P.◌>>=◌ o (λ y. P.◌>>=◌ (replaced y p' other) (λ z. option_map a_network (with_child f k z)))) (sym found) ∙ r in
     let o = onward (replaced c p' other) (λ z. option_map a_network (with_child f k z)) whole r' in
-    let below : TreeTyped R o.from h.out × SameThere R c o.from = same_place R Q h.out C p' c there other o.from h.child_typed s dt dn q o.was in
+    let below : TreeTyped R o.from h.out × SameInPlace R c o.from = same_place R Q h.out C p' c there other o.from h.child_typed s dt dn q o.was in
     let kind : (n : Filler c) × (filled c n ≡ o.from) = same_kind R c o.from below.1 in
     let w : Network Expression = h.whole kind.0 in
     let typed : TreeTyped R (filled c kind.0) h.out = subst (λ z. TreeTyped R z h.out) (sym kind.1) below.0 in
-    let same : SameThere R c (filled c kind.0) = subst (SameThere R c) (sym kind.1) below.1 in
+    let same : SameInPlace R c (filled c kind.0) = subst (SameInPlace R c) (sym kind.1) below.1 in
     let made : option_map a_network (with_child f k (filled c kind.0)) ≡ Some (a_network w) = ap (option_map a_network) (h.whole_is kind.0) in
     let put : option_map a_network (with_child f k (filled c kind.0)) ≡ Some whole = ap (λ z. option_map a_network (with_child f k z)) kind.1 ∙ o.goes in
     let is : a_network w ≡ whole = same_Some (a_network w) whole (sym made ∙ put) in
-    subst (λ z. TreeTyped S z B × SameThere S (a_network f) z) is (h.whole_typed kind.0 typed, h.whole_same kind.0 typed same)
+    subst (λ z. TreeTyped S z B × SameInPlace S (a_network f) z) is (h.whole_typed kind.0 typed, h.whole_same kind.0 typed same)

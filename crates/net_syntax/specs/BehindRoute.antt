@@ -1,7 +1,7 @@
 -- What the code says of what stands behind a route.
 use Rattle.net_tree.specs.Place.{PSwitchChild, member_child, event_child, continuation_child, no_child}
-use Rattle.net_syntax.specs.declared.standing.StandsBehind.{StandsBehind}
-use Rattle.net_syntax.specs.declared.standing.StandsBehind.TheVariants as V
+use Rattle.net_syntax.specs.declared.place.StandsBehind.{StandsBehind}
+use Rattle.net_syntax.specs.declared.place.StandsBehind.TheVariants as V
 
 -- what a `StandsBehind` says
 abbrev pub behind_of : StandsBehind → PSwitchChild

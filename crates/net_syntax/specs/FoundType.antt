@@ -7,4 +7,4 @@ use Rattle.net_syntax.specs.declared.output.Untyped.TheVariants.{NoType, Memory}
 abbrev pub Finds : {X Y : Type 0} → (X → Y) → Result X Untyped → Option Y → Type 0
 Finds view (Ok x) found = found ≡ Some (view x)
 Finds view (Err NoType) found = found ≡ None
-Finds view (Err (Memory m)) found = Unit {0}
+Finds view (Err Memory) found = Unit {0}

@@ -4,6 +4,7 @@ pub mod TypedNetworkView
 pub mod Leaves
 pub mod NeedView
 pub mod ArrowView
+pub mod Scopes
 pub mod LeafWalk
 pub mod Placed
 pub mod Standing

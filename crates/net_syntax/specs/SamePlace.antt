@@ -9,10 +9,10 @@ use Rattle.net_syntax.specs.Standing.{Standing, TreeTyped, StandsAt}
 use Rattle.net_meaning.specs.AlikeEnvironments.{SameOutputs}
 
 -- two networks output the same in alike environments, two expressions have the same value
-abbrev pub SameThere : Standing → Tree Expression → Tree Expression → Type 0
-SameThere S (a_network f) (a_network g) = SameOutputs S.params S.olds S.input f g
-SameThere S (a_leaf e) (a_leaf s) = SameValue S.params S.input e s
-SameThere S _ _ = ⊥
+abbrev pub SameInPlace : Standing → Tree Expression → Tree Expression → Type 0
+SameInPlace S (a_network f) (a_network g) = SameOutputs S.params S.olds S.input f g
+SameInPlace S (a_leaf e) (a_leaf s) = SameValue S.params S.input e s
+SameInPlace S _ _ = ⊥
 
 -- where what stands at any position of a typed tree is replaced by what has its type there and does
 -- the same there, the whole keeps its type and does the same. So it is in continuations and in
@@ -20,6 +20,6 @@ SameThere S _ _ = ⊥
 abbrev pub SamePlaceLaw : Type 0
 SamePlaceLaw = (S Q : Standing) (B C : TypeTree) (p : List ℕ) (tree there other whole : Tree Expression)
     → TreeTyped S tree B → StandsAt S tree p there Q
-    → TreeTyped Q there C → TreeTyped Q other C → SameThere Q there other
+    → TreeTyped Q there C → TreeTyped Q other C → SameInPlace Q there other
     → replaced tree p other ≡ Some whole
-    → TreeTyped S whole B × SameThere S tree whole
+    → TreeTyped S whole B × SameInPlace S tree whole

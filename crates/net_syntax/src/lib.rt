@@ -7,8 +7,8 @@
 //! A `TypedNet` is a network within the limits, with its types. `at`, `replace`, `type_at` and
 //! `leaves` answer what the definitions of these names say. Typed networks output typed values
 //! (`typing_laws`); what does the same may stand for what stood at a position (`replacing_laws`).
-//! Networks themselves are in `net_tree`, what they denote in `net_meaning`; their public calls are
-//! reachable here too.
+//! Networks themselves are in `net_tree`, what they denote in `net_meaning`; those of their calls that
+//! speak of whole networks are reachable here too.
 //!
 //! First `specs/Standing`, then `specs/Placed`, then `src/typed_net.rt`.
 #![tactic(auto)]
@@ -21,6 +21,7 @@ mod output;
 mod part_types;
 mod place;
 mod replacing;
+mod scope;
 mod standing;
 mod typed_net;
 
@@ -32,10 +33,11 @@ pub use net_meaning::{
     congruence_laws, output_examples, stream_laws, switching_laws, weight_examples,
 };
 pub use net_tree::{
-    Direction, FedForm, Law, LawStep, LeafForm, MOST_HEIGHT, MOST_WEIGHT, Members, Net, NetChild,
-    PairForm, Position, Tree, height, print_position, push_position, same_net, weight,
+    Direction, Law, LawStep, Members, Net, Position, Tree, height, same_net, weight,
 };
+pub use part_types::{arrow_from, event_with, list_of, pair_under};
 pub use place::{Place, TreeRef, at, child, place_below};
 pub use replacing::replace;
+pub use scope::ScopeTypes;
 pub use standing::{Standing, child_standing, type_at};
 pub use typed_net::TypedNet;

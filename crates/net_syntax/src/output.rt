@@ -15,21 +15,21 @@ use crate::part_types::{event_with, list_of, pair_of, pair_under};
 use crate::standing::Standing;
 use leaf_core::{Expr, ExprFault, type_of_expr};
 use net_tree::{Members, Net, NetChild};
-use sample_core::{Memory, Ty};
+use sample_core::{Memory, OutOfMemory, Ty};
 use std::alloc::Global;
 
 /// Why no type was found.
 #[derive(Clone, Copy)]
 pub(crate) enum Untyped {
     NoType,
-    Memory(Memory),
+    Memory,
 }
 
-impl From<Memory> for Untyped {
-    ghost from_gives = { λ refused e. e ≡ U.Memory refused };
+impl<E: OutOfMemory> From<E> for Untyped {
+    ghost from_gives = { λ _ e. e ≡ U.Memory };
 
-    fn from(refused: Memory) -> Untyped {
-        Untyped::Memory(refused)
+    fn from(_: E) -> Untyped {
+        Untyped::Memory
     }
 }
 
@@ -85,7 +85,7 @@ pub(crate) fn output_in(
             drop(types);
             Ok(outputs?)
         }
-        Net::Old(k) => old_output(alloc, &at.olds, *k),
+        Net::Old(k) => old_output(alloc, at.scope.olds(), *k),
         Net::RpSwitch(fs, _, _) => output_of_collection(alloc, at, input, fs),
     }
 }
@@ -204,9 +204,9 @@ pub(crate) fn leaf_type(alloc: Global, at: &Standing, input: &Ty, e: &Expr) -> R
     ensures { Finds type_of result
         (leaf_type (standing_of at.now) (type_of input.now) (expression_of e.now)) }
 {
-    match type_of_expr(alloc, &at.params, input, e) {
+    match type_of_expr(alloc, at.scope.params(), input, e) {
         Ok(found) => Ok(found),
-        Err(ExprFault::Memory) => Err(Untyped::Memory(Memory)),
+        Err(ExprFault::Memory) => Err(Untyped::Memory),
         Err(_) => Err(Untyped::NoType),
     }
 }

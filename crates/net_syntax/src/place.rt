@@ -1,11 +1,11 @@
 // What stands at a position.
 
 ghost use Rattle.std.specs.Prelude.{◌≡◌, option_map};
-ghost use Rattle.leaf_core.specs.{Expression.Expression, ExpressionView.expression_of};
-ghost use Rattle.net_tree.specs.Network.{Network, p_switch};
+ghost use Rattle.leaf_core.specs.ExpressionView.{expression_of};
 ghost use Rattle.net_tree.specs.NetworkView.{tree, tree_of, trees};
 ghost use Rattle.net_tree.specs.Place.{a_network, child, child_network, collection_child, member, p_switch_child};
-ghost use Rattle.net_syntax.specs.{ChildParts.seen, ChildParts.seen_place, Placed.bound, Placed.bound_in, Placed.bound_started, Placed.placed_at, Placed.FewBound};
+ghost use Rattle.net_tree.specs.FormParts.{parts_of};
+ghost use Rattle.net_syntax.specs.{BehindRoute.behind_of, ChildParts.child_count, ChildParts.seen, ChildParts.seen_place, Placed.bound, Placed.bound_in, Placed.placed_at, Placed.FewBound};
 
 use leaf_core::{Expr, part_at};
 use net_tree::{Members, Net, NetChild, Parts, Position, parts_inside};
@@ -124,6 +124,22 @@ pub fn child(net: &Net<Expr>, k: u32) -> Option<TreeRef<'_>>
     }
 }
 
+/// How many children the network has.
+#[tactic(auto, using(std::proofs::lemmas::Grind::common_steps, crate::proofs::ChildNumbers::counted))]
+pub(crate) fn child_count(net: &Net<Expr>) -> usize
+    ensures { result ≡ child_count (parts_of (tree_of net.now)) }
+{
+    match parts_inside(net) {
+        Parts::Leaf(_) | Parts::Timed(..) | Parts::One(_) => 1,
+        Parts::Leaves(..) | Parts::Fed(..) | Parts::Two(..) => 2,
+        Parts::Three(..) => 3,
+        Parts::Row(fs) => fs.as_slice().len(),
+        Parts::Routed(_, fs, _, _) => fs.as_slice().len() + 3,
+        Parts::Collection(fs, _, _) => fs.as_slice().len() + 2,
+        Parts::Nothing | Parts::Index(_) => 0,
+    }
+}
+
 /// Member k, from 0.
 fn member(fs: &Members<Expr>, k: u32) -> Option<&Net<Expr>>
     ensures { option_map (λ f. tree_of f.now) result ≡ member (trees fs.now) k }
@@ -143,15 +159,11 @@ fn behind_route<'n>(
         ≡ child_network (p_switch_child (trees fs.now) k) (trees fs.now) (tree e.now) (tree t.now)
         k }
 {
-    let members = fs.as_slice();
-    let k = k as usize;
-    if k < members.len() {
-        return Some(&members[k]);
-    }
-    match k - members.len() {
-        0 => Some(e.get()),
-        1 => Some(t.get()),
-        _ => None,
+    match kind_behind(fs, k) {
+        StandsBehind::Member => member(fs, k),
+        StandsBehind::Event => Some(e.get()),
+        StandsBehind::Continuation => Some(t.get()),
+        StandsBehind::Nothing => None,
     }
 }
 
@@ -166,15 +178,37 @@ fn in_collection<'n>(
         ≡ collection_child (p_switch_child (trees fs.now) k) (trees fs.now) (expression_of m.now)
         (tree t.now) k }
 {
-    let members = fs.as_slice();
-    let k = k as usize;
-    if k < members.len() {
-        return Some(TreeRef::Net(&members[k]));
+    match kind_behind(fs, k) {
+        StandsBehind::Member => Some(TreeRef::Net(member(fs, k)?)),
+        StandsBehind::Event => Some(TreeRef::Expr(m)),
+        StandsBehind::Continuation => Some(TreeRef::Net(t.get())),
+        StandsBehind::Nothing => None,
     }
-    match k - members.len() {
-        0 => Some(TreeRef::Expr(m)),
-        1 => Some(TreeRef::Net(t.get())),
-        _ => None,
+}
+
+/// What stands at a number behind the route of a `pSwitch`, or in an `rpSwitchB`, where the choice
+/// stands as the event does there.
+#[derive(Clone, Copy)]
+pub(crate) enum StandsBehind {
+    Member,
+    Event,
+    Continuation,
+    Nothing,
+}
+
+/// What stands at number k behind the route, or in the `rpSwitchB`.
+pub(crate) fn kind_behind(fs: &Members<Expr>, k: u32) -> StandsBehind
+    ensures { p_switch_child (trees fs.now) k ≡ behind_of result }
+{
+    let count = fs.as_slice().len();
+    let k = k as usize;
+    if k < count {
+        return StandsBehind::Member;
+    }
+    match k - count {
+        0 => StandsBehind::Event,
+        1 => StandsBehind::Continuation,
+        _ => StandsBehind::Nothing,
     }
 }
 
@@ -198,34 +232,17 @@ fn bound_in(net: &Net<Expr>, k: u32) -> Binds
             2 => Binds { params: 1, olds: 1 },
             _ => Binds { params: 0, olds: 0 },
         },
-        Net::PSwitch(_, fs, _, _) => bound_in_p_switch(fs, k),
-        Net::RpSwitch(fs, _, _) => bound_in_collection(fs, k),
+        Net::PSwitch(_, fs, _, _) if k > 0 => match kind_behind(fs, k - 1) {
+            StandsBehind::Continuation => Binds {
+                params: 1,
+                olds: k - 2,
+            },
+            _ => Binds { params: 0, olds: 0 },
+        },
+        Net::RpSwitch(fs, _, _) => match kind_behind(fs, k) {
+            StandsBehind::Continuation => Binds { params: 1, olds: 0 },
+            _ => Binds { params: 0, olds: 0 },
+        },
         _ => Binds { params: 0, olds: 0 },
     }
-}
-
-/// How many a `pSwitch` of these members binds in its child k.
-fn bound_in_p_switch(fs: &Members<Expr>, k: u32) -> Binds
-    ensures { (r : Expression) (e t : Network Expression)
-        → bound_in (p_switch r (trees fs.now) e t) k ≡ bound result.params result.olds }
-{
-    let count = fs.as_slice().len();
-    if k as usize == count + 2 {
-        return Binds {
-            params: 1,
-            olds: k - 2,
-        };
-    }
-    Binds { params: 0, olds: 0 }
-}
-
-/// How many an `rpSwitchB` of these members binds in its child k.
-fn bound_in_collection(fs: &Members<Expr>, k: u32) -> Binds
-    ensures { bound_started (p_switch_child (trees fs.now) k) ≡ bound result.params result.olds }
-{
-    let count = fs.as_slice().len();
-    if k as usize == count + 1 {
-        return Binds { params: 1, olds: 0 };
-    }
-    Binds { params: 0, olds: 0 }
 }

@@ -1,17 +1,15 @@
 // The network with another tree at a position.
 
-ghost use Rattle.std.specs.Prelude.{◌≡◌, ◌<◌, [], IfOk, Some, length, option_map, set};
+ghost use Rattle.std.specs.Prelude.{◌≡◌, [], IfOk, Some, None, if◌then◌else◌, false, option_map, true};
 ghost use Rattle.leaf_core.specs.{Expression.Expression, ExpressionView.expression_of};
-ghost use Rattle.net_tree.specs.Network.{Network, accum_by, first, k_switch, p_switch, par, rp_switch};
-ghost use Rattle.net_tree.specs.NetworkView.{tree, tree_of, trees};
-ghost use Rattle.net_syntax.specs.{ChildParts.with_behind};
-ghost use Rattle.net_tree.specs.{FormView.fed_form_of, FormView.pair_form_of, LawStep.part_of};
-ghost use Rattle.net_tree.specs.{Place.a_leaf, Place.a_network};
-ghost use Rattle.net_syntax.specs.{Placed.replaced, Placed.with_child, Placed.with_member};
+ghost use Rattle.net_tree.specs.Network.{Network, p_switch, rp_switch};
+ghost use Rattle.net_tree.specs.NetworkView.{network_of, tree, tree_of, trees};
+ghost use Rattle.net_tree.specs.{LawStep.part_of, Place.a_leaf, Place.a_network};
+ghost use Rattle.net_syntax.specs.{ChildParts.if_there, Placed.replaced, Placed.with_child, Placed.with_member};
 
-use crate::place::{TreeRef, child};
+use crate::place::{StandsBehind, TreeRef, child, kind_behind};
 use leaf_core::{Expr, with_part_at};
-use net_tree::{FedForm, Members, Net, NetChild, PairForm, Position, Tree, copied_children};
+use net_tree::{Members, Net, NetChild, Position, Tree};
 use sample_core::Memory;
 use std::alloc::Global;
 use std::mem::replace as exchanged;
@@ -45,15 +43,13 @@ fn replaced_below(
         return whole(alloc, other);
     };
     match child(net, *k) {
-        Some(TreeRef::Net(inner)) => match replaced_below(alloc, inner, rest, other) {
-            Ok(Some(changed)) => with_net(alloc, net, *k, changed),
-            Ok(None) => Ok(None),
-            Err(refused) => Err(refused),
+        Some(TreeRef::Net(inner)) => match replaced_below(alloc, inner, rest, other)? {
+            Some(changed) => with_child(alloc, net, *k, Tree::Net(changed)),
+            None => Ok(None),
         },
-        Some(TreeRef::Expr(inner)) => match replaced_in(alloc, inner, rest, other) {
-            Ok(Some(changed)) => with_leaf(alloc, net, *k, changed),
-            Ok(None) => Ok(None),
-            Err(refused) => Err(refused),
+        Some(TreeRef::Expr(inner)) => match replaced_in(alloc, inner, rest, other)? {
+            Some(changed) => with_child(alloc, net, *k, Tree::Expr(changed)),
+            None => Ok(None),
         },
         None => Ok(None),
     }
@@ -87,529 +83,159 @@ fn replaced_in(
     }
 }
 
-/// The network with the expression as child k; `None` where child k is no expression.
-fn with_leaf(
+/// The network with the tree as child k; `None` where child k isn't there or is of another kind.
+fn with_child(
     alloc: Global,
     net: &Net<Expr>,
     k: u32,
-    other: Expr,
+    other: Tree,
 ) -> Result<Option<Net<Expr>>, Memory>
     ensures { IfOk result (λ found. option_map tree_of found
-        ≡ with_child (tree_of net.now) k (a_leaf (expression_of other))) }
+        ≡ with_child (tree_of net.now) k (part_of other)) }
 {
-    if k == 0 {
-        with_first_leaf(alloc, net, other)
-    } else {
-        with_later_leaf(alloc, net, k, other)
+    let mut changed = net.try_copy(alloc)?;
+    let is_there = match other {
+        Tree::Net(other) => put_net(alloc, &mut changed, k, other)?,
+        Tree::Expr(other) => put_leaf(&mut changed, k, other),
+    };
+    if is_there {
+        return Ok(Some(changed));
+    }
+    Ok(None)
+}
+
+/// Puts the expression in the place of child k; whether that is an expression.
+fn put_leaf(net: &mut Net<Expr>, k: u32, other: Expr) -> bool
+    ensures { if_there result (tree_of net.new)
+        ≡ with_child (tree_of net.old) k (a_leaf (expression_of other)) }
+{
+    // Each arm returns, so that each is proved by itself.
+    match (net, k) {
+        (Net::Arr(e), 0) => return put(e, other),
+        (Net::LoopPre(c, _), 0) => return put(c, other),
+        (Net::IPre(c), 0) => return put(c, other),
+        (Net::Delay(_, c), 0) => return put(c, other),
+        (Net::Hold(c), 0) => return put(c, other),
+        (Net::AccumBy(g, _), 0) => return put(g, other),
+        (Net::AccumBy(_, z), 1) => return put(z, other),
+        (Net::After(_, c), 0) => return put(c, other),
+        (Net::Repeatedly(_, c), 0) => return put(c, other),
+        (Net::PSwitch(r, _, _, _), 0) => return put(r, other),
+        (Net::InitialOut(c, _), 0) => return put(c, other),
+        (Net::InitialIn(c, _), 0) => return put(c, other),
+        (Net::RpSwitch(fs, m, _), k) => return put_choice(fs, m, k, other),
+        _ => return put_nowhere(other),
     }
 }
 
-/// The network with the expression as child 0; `None` where child 0 is no expression.
-fn with_first_leaf(alloc: Global, net: &Net<Expr>, other: Expr) -> Result<Option<Net<Expr>>, Memory>
-    ensures { IfOk result (λ found. option_map tree_of found
-        ≡ with_child (tree_of net.now) 0 (a_leaf (expression_of other))) }
+/// Puts the expression in the place of the choice of an `rpSwitchB`, where that is child k.
+fn put_choice(fs: &Members<Expr>, m: &mut Expr, k: u32, other: Expr) -> bool
+    ensures { (t : Network Expression)
+        → if_there result (rp_switch (trees fs.now) (expression_of m.new) t)
+        ≡ with_child (rp_switch (trees fs.now) (expression_of m.old) t) k
+        (a_leaf (expression_of other)) }
 {
-    match net {
-        Net::Arr(_) => Ok(Some(Net::Arr(other))),
-        Net::IPre(_) => Ok(Some(Net::IPre(other))),
-        Net::Delay(q, _) => Ok(Some(Net::Delay(*q, other))),
-        Net::Hold(_) => Ok(Some(Net::Hold(other))),
-        Net::After(q, _) => Ok(Some(Net::After(*q, other))),
-        Net::Repeatedly(q, _) => Ok(Some(Net::Repeatedly(*q, other))),
-        Net::AccumBy(_, z) => with_step(alloc, other, z),
-        Net::LoopPre(_, f) => with_constant(FedForm::LoopPre, other, f),
-        Net::InitialOut(_, f) => with_constant(FedForm::InitialOut, other, f),
-        Net::InitialIn(_, f) => with_constant(FedForm::InitialIn, other, f),
-        Net::PSwitch(_, fs, e, t) => with_route(other, fs, e, t),
-        Net::RpSwitch(fs, _, t) => with_choice(other, fs, t, 0),
-        _ => {
-            drop(other);
-            Ok(None)
-        }
+    match kind_behind(fs, k) {
+        StandsBehind::Event => put(m, other),
+        _ => put_nowhere(other),
     }
 }
 
-/// The network with the expression as a child behind the first; `None` where that is no expression.
-fn with_later_leaf(
+/// Puts the network in the place of child k; whether that is a network.
+fn put_net(alloc: Global, net: &mut Net<Expr>, k: u32, other: Net<Expr>) -> Result<bool, Memory>
+    ensures { IfOk result (λ is_there. if_there is_there (tree_of net.new)
+        ≡ with_child (tree_of net.old) k (a_network (tree_of other))) }
+{
+    // Each arm returns, so that each is proved by itself.
+    match (net, k) {
+        (Net::Seq(f, _), 0) => return put_child(alloc, f, other),
+        (Net::Seq(_, g), 1) => return put_child(alloc, g, other),
+        (Net::First(f), 0) => return put_child(alloc, f, other),
+        (Net::Par(fs), k) => return put_member(alloc, fs, k, other),
+        (Net::LoopPre(_, f), 1) => return put_child(alloc, f, other),
+        (Net::Switch(f, _), 0) => return put_child(alloc, f, other),
+        (Net::Switch(_, t), 1) => return put_child(alloc, t, other),
+        (Net::DSwitch(f, _), 0) => return put_child(alloc, f, other),
+        (Net::DSwitch(_, t), 1) => return put_child(alloc, t, other),
+        (Net::RSwitch(f, _), 0) => return put_child(alloc, f, other),
+        (Net::RSwitch(_, t), 1) => return put_child(alloc, t, other),
+        (Net::KSwitch(f, _, _), 0) => return put_child(alloc, f, other),
+        (Net::KSwitch(_, e, _), 1) => return put_child(alloc, e, other),
+        (Net::KSwitch(_, _, t), 2) => return put_child(alloc, t, other),
+        (Net::PSwitch(_, fs, e, t), k) => return put_behind(alloc, fs, e, t, k, other),
+        (Net::InitialOut(_, f), 1) => return put_child(alloc, f, other),
+        (Net::InitialIn(_, f), 1) => return put_child(alloc, f, other),
+        (Net::DrSwitch(f, _), 0) => return put_child(alloc, f, other),
+        (Net::DrSwitch(_, t), 1) => return put_child(alloc, t, other),
+        (Net::RpSwitch(fs, _, t), k) => return put_in_collection(alloc, fs, t, k, other),
+        _ => return Ok(put_nowhere(other)),
+    }
+}
+
+/// Puts the network in the place of child k of a `pSwitch`, where that is a network.
+fn put_behind(
     alloc: Global,
-    net: &Net<Expr>,
-    k: u32,
-    other: Expr,
-) -> Result<Option<Net<Expr>>, Memory>
-    requires { 0 < k }
-    ensures { IfOk result (λ found. option_map tree_of found
-        ≡ with_child (tree_of net.now) k (a_leaf (expression_of other))) }
-{
-    match net {
-        Net::AccumBy(g, _) => with_start(alloc, g, k, other),
-        Net::RpSwitch(fs, _, t) => with_choice(other, fs, t, k),
-        _ => {
-            drop(other);
-            Ok(None)
-        }
-    }
-}
-
-/// An `accumBy` with the expression as child k, behind the first: its start.
-fn with_start(alloc: Global, g: &Expr, k: u32, other: Expr) -> Result<Option<Net<Expr>>, Memory>
-    requires { 0 < k }
-    ensures { (z : Expression) → IfOk result (λ found. option_map tree_of found
-        ≡ with_child (accum_by (expression_of g.now) z) k (a_leaf (expression_of other))) }
-{
-    if k > 1 {
-        drop(other);
-        return Ok(None);
-    }
-    match g.try_copy(alloc) {
-        Ok(g) => Ok(Some(Net::AccumBy(g, other))),
-        Err(refused) => {
-            drop(other);
-            Err(refused)
-        }
-    }
-}
-
-/// An `accumBy` with the expression as its step.
-fn with_step(alloc: Global, other: Expr, z: &Expr) -> Result<Option<Net<Expr>>, Memory>
-    ensures { IfOk result (λ found. option_map tree_of found
-        ≡ Some (accum_by (expression_of other) (expression_of z.now))) }
-{
-    match z.try_copy(alloc) {
-        Ok(z) => Ok(Some(Net::AccumBy(other, z))),
-        Err(refused) => {
-            drop(other);
-            Err(refused)
-        }
-    }
-}
-
-/// A form of an expression and a network, with the expression as its constant.
-fn with_constant(
-    form: FedForm,
-    other: Expr,
-    f: &NetChild<Expr>,
-) -> Result<Option<Net<Expr>>, Memory>
-    ensures { IfOk result (λ found. option_map tree_of found
-        ≡ Some (tree_of (fed_form_of form other f.now))) }
-{
-    match f.try_copy() {
-        Ok(f) => Ok(Some(form.of(other, f))),
-        Err(refused) => {
-            drop(other);
-            Err(refused)
-        }
-    }
-}
-
-/// A `pSwitch` with the expression as its route.
-fn with_route(
-    other: Expr,
-    fs: &Members<Expr>,
-    e: &NetChild<Expr>,
-    t: &NetChild<Expr>,
-) -> Result<Option<Net<Expr>>, Memory>
-    ensures { IfOk result (λ found. option_map tree_of found
-        ≡ Some (p_switch (expression_of other) (trees fs.now) (tree e.now) (tree t.now))) }
-{
-    match copied_row(fs, e, t) {
-        Ok((fs, e, t)) => Ok(Some(Net::PSwitch(other, fs, e, t))),
-        Err(refused) => {
-            drop(other);
-            Err(refused)
-        }
-    }
-}
-
-/// An `rpSwitchB` with the expression as child k; `None` where child k is not its choice.
-fn with_choice(
-    other: Expr,
-    fs: &Members<Expr>,
-    t: &NetChild<Expr>,
-    k: u32,
-) -> Result<Option<Net<Expr>>, Memory>
-    ensures { (m : Expression) → IfOk result (λ found. option_map tree_of found
-        ≡ with_child (rp_switch (trees fs.now) m (tree t.now)) k (a_leaf (expression_of other))) }
-{
-    if k as usize != fs.as_slice().len() {
-        drop(other);
-        return Ok(None);
-    }
-    match copied_collection(fs, t) {
-        Ok((fs, t)) => Ok(Some(Net::RpSwitch(fs, other, t))),
-        Err(refused) => {
-            drop(other);
-            Err(refused)
-        }
-    }
-}
-
-/// Copies of members and of a network.
-fn copied_collection(
-    fs: &Members<Expr>,
-    t: &NetChild<Expr>,
-) -> Result<(Members<Expr>, NetChild<Expr>), Memory>
-    ensures { IfOk result (λ p. (p.0 ≡ fs.now) × (p.1 ≡ t.now)) }
-{
-    let fs = fs.try_copy()?;
-    let t = t.try_copy()?;
-    Ok((fs, t))
-}
-
-/// Copies of members and of two networks.
-fn copied_row(
-    fs: &Members<Expr>,
-    e: &NetChild<Expr>,
-    t: &NetChild<Expr>,
-) -> Result<(Members<Expr>, NetChild<Expr>, NetChild<Expr>), Memory>
-    ensures { IfOk result (λ p. (p.0 ≡ fs.now) × (p.1 ≡ e.now) × (p.2 ≡ t.now)) }
-{
-    let fs = fs.try_copy()?;
-    let (e, t) = copied_children(e, t)?;
-    Ok((fs, e, t))
-}
-
-/// The network with the other one as child k; `None` where child k is no network.
-fn with_net(
-    alloc: Global,
-    net: &Net<Expr>,
+    fs: &mut Members<Expr>,
+    e: &mut NetChild<Expr>,
+    t: &mut NetChild<Expr>,
     k: u32,
     other: Net<Expr>,
-) -> Result<Option<Net<Expr>>, Memory>
-    ensures { IfOk result (λ found. option_map tree_of found
-        ≡ with_child (tree_of net.now) k (a_network (tree_of other))) }
-{
-    match net {
-        Net::First(_) => with_first(alloc, k, other),
-        Net::LoopPre(c, _) => with_fed(alloc, FedForm::LoopPre, c, k, other),
-        Net::InitialOut(c, _) => with_fed(alloc, FedForm::InitialOut, c, k, other),
-        Net::InitialIn(c, _) => with_fed(alloc, FedForm::InitialIn, c, k, other),
-        Net::Seq(f, g) => with_pair(alloc, PairForm::Seq, f, g, k, other),
-        Net::Switch(f, t) => with_pair(alloc, PairForm::Switch, f, t, k, other),
-        Net::DSwitch(f, t) => with_pair(alloc, PairForm::DSwitch, f, t, k, other),
-        Net::RSwitch(f, t) => with_pair(alloc, PairForm::RSwitch, f, t, k, other),
-        Net::DrSwitch(f, t) => with_pair(alloc, PairForm::DrSwitch, f, t, k, other),
-        Net::KSwitch(f, e, t) => with_k_switch(alloc, f, e, t, k, other),
-        Net::Par(fs) => with_par(alloc, fs, k, other),
-        Net::PSwitch(r, fs, e, t) => {
-            let parts = Routed { r, fs, e, t };
-            with_p_switch(alloc, parts, k, other)
-        }
-        Net::RpSwitch(fs, m, t) => with_collection(alloc, fs, m, t, k, other),
-        _ => {
-            drop(other);
-            Ok(None)
-        }
-    }
-}
-
-/// A `first` with the other network inside.
-fn with_first(alloc: Global, k: u32, other: Net<Expr>) -> Result<Option<Net<Expr>>, Memory>
-    ensures { (f : Network Expression) → IfOk result (λ found. option_map tree_of found
-        ≡ with_child (first f) k (a_network (tree_of other))) }
-{
-    if k != 0 {
-        drop(other);
-        return Ok(None);
-    }
-    let other = NetChild::new(alloc, other)?;
-    Ok(Some(Net::First(other)))
-}
-
-/// A form of an expression and a network, with the other network as child k.
-fn with_fed(
-    alloc: Global,
-    form: FedForm,
-    c: &Expr,
-    k: u32,
-    other: Net<Expr>,
-) -> Result<Option<Net<Expr>>, Memory>
-    ensures { (f : Network Expr) → IfOk result (λ found. option_map tree_of found
-        ≡ with_child (tree_of (fed_form_of form c.now f)) k (a_network (tree_of other))) }
-{
-    if k != 1 {
-        drop(other);
-        return Ok(None);
-    }
-    let other = NetChild::new(alloc, other)?;
-    let c = c.try_copy(alloc)?;
-    Ok(Some(form.of(c, other)))
-}
-
-/// A form of two networks, with the other one as child k.
-fn with_pair(
-    alloc: Global,
-    form: PairForm,
-    f: &NetChild<Expr>,
-    g: &NetChild<Expr>,
-    k: u32,
-    other: Net<Expr>,
-) -> Result<Option<Net<Expr>>, Memory>
-    ensures { IfOk result (λ found. option_map tree_of found
-        ≡ with_child (tree_of (pair_form_of form f.now g.now)) k (a_network (tree_of other))) }
-{
-    if k > 1 {
-        drop(other);
-        return Ok(None);
-    }
-    let other = NetChild::new(alloc, other)?;
-    if k == 0 {
-        let g = g.try_copy()?;
-        Ok(Some(form.of(other, g)))
-    } else {
-        let f = f.try_copy()?;
-        Ok(Some(form.of(f, other)))
-    }
-}
-
-/// A `kSwitch` with the other network as child k.
-fn with_k_switch(
-    alloc: Global,
-    f: &NetChild<Expr>,
-    e: &NetChild<Expr>,
-    t: &NetChild<Expr>,
-    k: u32,
-    other: Net<Expr>,
-) -> Result<Option<Net<Expr>>, Memory>
-    ensures { IfOk result (λ found. option_map tree_of found
-        ≡ with_child (k_switch (tree f.now) (tree e.now) (tree t.now)) k
+) -> Result<bool, Memory>
+    ensures { (r : Expression) → IfOk result (λ is_there.
+        if_there is_there (p_switch r (trees fs.new) (tree e.new) (tree t.new))
+        ≡ with_child (p_switch r (trees fs.old) (tree e.old) (tree t.old)) k
         (a_network (tree_of other))) }
 {
-    if k > 2 {
-        drop(other);
-        return Ok(None);
-    }
-    let other = NetChild::new(alloc, other)?;
-    match k {
-        0 => {
-            let (e, t) = copied_children(e, t)?;
-            Ok(Some(Net::KSwitch(other, e, t)))
-        }
-        1 => {
-            let (f, t) = copied_children(f, t)?;
-            Ok(Some(Net::KSwitch(f, other, t)))
-        }
-        _ => {
-            let (f, e) = copied_children(f, e)?;
-            Ok(Some(Net::KSwitch(f, e, other)))
-        }
-    }
-}
-
-/// A `parB` with the other network as member k.
-fn with_par(
-    alloc: Global,
-    fs: &Members<Expr>,
-    k: u32,
-    other: Net<Expr>,
-) -> Result<Option<Net<Expr>>, Memory>
-    ensures { IfOk result (λ found. option_map tree_of found
-        ≡ with_child (par (trees fs.now)) k (a_network (tree_of other))) }
-{
-    match with_member(alloc, fs, k as usize, other)? {
-        Some(fs) => Ok(Some(Net::Par(fs))),
-        None => Ok(None),
-    }
-}
-
-/// What stands inside a `pSwitch`.
-#[derive(Clone, Copy)]
-struct Routed<'n> {
-    r: &'n Expr,
-    fs: &'n Members<Expr>,
-    e: &'n NetChild<Expr>,
-    t: &'n NetChild<Expr>,
-}
-
-/// A `pSwitch` with the other network as child k.
-fn with_p_switch(
-    alloc: Global,
-    parts: Routed<'_>,
-    k: u32,
-    other: Net<Expr>,
-) -> Result<Option<Net<Expr>>, Memory>
-    ensures { IfOk result (λ found. option_map tree_of found
-        ≡ with_child
-        (p_switch (expression_of parts.entry.r.now) (trees parts.entry.fs.now)
-        (tree parts.entry.e.now) (tree parts.entry.t.now)) k (a_network (tree_of other))) }
-{
     if k == 0 {
-        drop(other);
-        return Ok(None);
+        return Ok(put_nowhere(other));
     }
-    let number = k as usize - 1;
-    let count = parts.fs.as_slice().len();
-    if number < count {
-        with_routed_member(alloc, parts, number, other)
-    } else {
-        with_behind_members(alloc, parts, number - count, other)
+    match kind_behind(fs, k - 1) {
+        StandsBehind::Member => put_member(alloc, fs, k - 1, other),
+        StandsBehind::Event => put_child(alloc, e, other),
+        StandsBehind::Continuation => put_child(alloc, t, other),
+        StandsBehind::Nothing => Ok(put_nowhere(other)),
     }
 }
 
-/// A `pSwitch` with the other network as member k.
-fn with_routed_member(
+/// Puts the network in the place of child k of an `rpSwitchB`, where that is a network.
+fn put_in_collection(
     alloc: Global,
-    parts: Routed<'_>,
-    k: usize,
-    other: Net<Expr>,
-) -> Result<Option<Net<Expr>>, Memory>
-    ensures { IfOk result (λ found. option_map tree_of found
-        ≡ option_map (λ gs. p_switch (expression_of parts.entry.r.now) gs
-        (tree parts.entry.e.now) (tree parts.entry.t.now))
-        (with_member (trees parts.entry.fs.now) k (tree_of other))) }
-{
-    match with_member(alloc, parts.fs, k, other)? {
-        Some(fs) => {
-            let (e, t) = copied_children(parts.e, parts.t)?;
-            p_switch_of(alloc, parts.r, fs, e, t)
-        }
-        None => Ok(None),
-    }
-}
-
-/// A `pSwitch` with the other network at number k behind the members.
-fn with_behind_members(
-    alloc: Global,
-    parts: Routed<'_>,
-    k: usize,
-    other: Net<Expr>,
-) -> Result<Option<Net<Expr>>, Memory>
-    ensures { IfOk result (λ found. option_map tree_of found
-        ≡ with_behind k (expression_of parts.entry.r.now) (trees parts.entry.fs.now)
-        (tree parts.entry.e.now) (tree parts.entry.t.now) (tree_of other)) }
-{
-    if k > 1 {
-        drop(other);
-        return Ok(None);
-    }
-    let other = NetChild::new(alloc, other)?;
-    let fs = parts.fs.try_copy()?;
-    if k == 0 {
-        let t = parts.t.try_copy()?;
-        p_switch_of(alloc, parts.r, fs, other, t)
-    } else {
-        let e = parts.e.try_copy()?;
-        p_switch_of(alloc, parts.r, fs, e, other)
-    }
-}
-
-/// A `pSwitch` with a copy of the route.
-fn p_switch_of(
-    alloc: Global,
-    r: &Expr,
-    fs: Members<Expr>,
-    e: NetChild<Expr>,
-    t: NetChild<Expr>,
-) -> Result<Option<Net<Expr>>, Memory>
-    ensures { IfOk result (λ found. option_map tree_of found
-        ≡ Some (p_switch (expression_of r.now) (trees fs) (tree e) (tree t))) }
-{
-    let r = r.try_copy(alloc)?;
-    Ok(Some(Net::PSwitch(r, fs, e, t)))
-}
-
-/// An `rpSwitchB` with the other network as child k.
-fn with_collection(
-    alloc: Global,
-    fs: &Members<Expr>,
-    m: &Expr,
-    t: &NetChild<Expr>,
+    fs: &mut Members<Expr>,
+    t: &mut NetChild<Expr>,
     k: u32,
     other: Net<Expr>,
-) -> Result<Option<Net<Expr>>, Memory>
-    ensures { IfOk result (λ found. option_map tree_of found
-        ≡ with_child (rp_switch (trees fs.now) (expression_of m.now) (tree t.now)) k
-        (a_network (tree_of other))) }
+) -> Result<bool, Memory>
+    ensures { (m : Expression) → IfOk result (λ is_there.
+        if_there is_there (rp_switch (trees fs.new) m (tree t.new))
+        ≡ with_child (rp_switch (trees fs.old) m (tree t.old)) k (a_network (tree_of other))) }
 {
-    let number = k as usize;
-    let count = fs.as_slice().len();
-    if number < count {
-        return with_collected_member(alloc, fs, m, t, number, other);
+    match kind_behind(fs, k) {
+        StandsBehind::Member => put_member(alloc, fs, k, other),
+        StandsBehind::Continuation => put_child(alloc, t, other),
+        StandsBehind::Event | StandsBehind::Nothing => Ok(put_nowhere(other)),
     }
-    if number != count + 1 {
-        drop(other);
-        return Ok(None);
-    }
-    let other = NetChild::new(alloc, other)?;
-    let fs = fs.try_copy()?;
-    rp_switch_of(alloc, fs, m, other)
 }
 
-/// An `rpSwitchB` with the other network as member k.
-fn with_collected_member(
+/// Puts the network in the place of member k, where there is one.
+fn put_member(
     alloc: Global,
-    fs: &Members<Expr>,
-    m: &Expr,
-    t: &NetChild<Expr>,
-    k: usize,
+    fs: &mut Members<Expr>,
+    k: u32,
     other: Net<Expr>,
-) -> Result<Option<Net<Expr>>, Memory>
-    ensures { IfOk result (λ found. option_map tree_of found
-        ≡ option_map (λ gs. rp_switch gs (expression_of m.now) (tree t.now))
-        (with_member (trees fs.now) k (tree_of other))) }
-{
-    match with_member(alloc, fs, k, other)? {
-        Some(fs) => {
-            let t = t.try_copy()?;
-            rp_switch_of(alloc, fs, m, t)
-        }
-        None => Ok(None),
-    }
-}
-
-/// An `rpSwitchB` with a copy of the choice.
-fn rp_switch_of(
-    alloc: Global,
-    fs: Members<Expr>,
-    m: &Expr,
-    t: NetChild<Expr>,
-) -> Result<Option<Net<Expr>>, Memory>
-    ensures { IfOk result (λ found. option_map tree_of found
-        ≡ Some (rp_switch (trees fs) (expression_of m.now) (tree t))) }
-{
-    let m = m.try_copy(alloc)?;
-    Ok(Some(Net::RpSwitch(fs, m, t)))
-}
-
-/// The members with the network in the place of member k; `None` where there is no such member.
-fn with_member(
-    alloc: Global,
-    fs: &Members<Expr>,
-    k: usize,
-    other: Net<Expr>,
-) -> Result<Option<Members<Expr>>, Memory>
-    ensures { IfOk result (λ found. option_map (λ gs. trees gs) found
-        ≡ with_member (trees fs.now) k (tree_of other)) }
+) -> Result<bool, Memory>
+    ensures { IfOk result (λ is_there. (if is_there then Some (trees fs.new) else None)
+        ≡ with_member (trees fs.old) k (tree_of other)) }
 {
     let all = fs.as_slice();
+    let k = k as usize;
     if k >= all.len() {
-        drop(other);
-        return Ok(None);
+        return Ok(put_nowhere(other));
     }
-    let changed = changed_nets(alloc, all, k, other)?;
+    let mut changed = copied_nets(alloc, all)?;
+    drop(exchanged(&mut changed[k], other));
     let changed = Members::new(alloc, changed)?;
-    Ok(Some(changed))
-}
-
-/// Copies of the networks, in order, with the other one in the place of network k.
-fn changed_nets(
-    alloc: Global,
-    nets: &[Net<Expr>],
-    k: usize,
-    other: Net<Expr>,
-) -> Result<Vec<Net<Expr>>, Memory>
-    requires { k < length nets.now }
-    ensures { IfOk result (λ changed. changed.items ≡ set nets.now k other) }
-{
-    match copied_nets(alloc, nets) {
-        Ok(mut changed) => {
-            drop(exchanged(&mut changed[k], other));
-            Ok(changed)
-        }
-        Err(refused) => {
-            drop(other);
-            Err(refused)
-        }
-    }
+    drop(exchanged(fs, changed));
+    Ok(true)
 }
 
 /// Copies of the networks, in order.
@@ -622,4 +248,30 @@ fn copied_nets(alloc: Global, nets: &[Net<Expr>]) -> Result<Vec<Net<Expr>>, Memo
         copied.push(copy)?;
     }
     Ok(copied)
+}
+
+/// Puts the network in the place of another.
+fn put_child(alloc: Global, place: &mut NetChild<Expr>, other: Net<Expr>) -> Result<bool, Memory>
+    ensures { IfOk result (λ is_there. (is_there ≡ true) × (place.new ≡ network_of other)) }
+{
+    let other = NetChild::new(alloc, other)?;
+    drop(exchanged(place, other));
+    Ok(true)
+}
+
+/// Puts the expression in the place of another.
+fn put(place: &mut Expr, other: Expr) -> bool
+    ensures there { result ≡ true }
+    ensures put { place.new ≡ other }
+{
+    drop(exchanged(place, other));
+    true
+}
+
+/// Lets go of what has no place.
+fn put_nowhere<T: Drop>(other: T) -> bool
+    ensures { result ≡ false }
+{
+    drop(other);
+    false
 }

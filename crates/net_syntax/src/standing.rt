@@ -1,37 +1,50 @@
 // Where the parts of a typed network stand, and their types.
 
-ghost use Rattle.std.specs.Prelude.{◌≡◌, ◌++◌, ◌∷◌, [], IfOk, MatchOption, None, OnOk, Some, option_map};
+ghost use Rattle.std.specs.Prelude.{◌≡◌, IfOk, MatchOption, None, Some, option_map};
 ghost use Rattle.sample_core.specs.TypeView.{type_of};
 ghost use Rattle.leaf_core.specs.ExpressionView.{expression_of};
-ghost use Rattle.net_syntax.specs.{ArrowView.arrow_of, BehindRoute.behind_of, ChildParts.seen, FoundType.Finds};
+ghost use Rattle.net_syntax.specs.{ArrowView.arrow_of, ChildParts.seen, FoundType.Finds};
 ghost use Rattle.net_tree.specs.NetworkView.{tree, tree_of, trees};
 ghost use Rattle.net_tree.specs.Place.{a_leaf, a_network, continuation_child, p_switch_child};
+ghost use Rattle.net_syntax.specs.Scopes.{and_olds};
 ghost use Rattle.net_syntax.specs.{Placed.placed_at, Standing.ChildFound, Standing.TypeAt, Standing.alone};
-ghost use Rattle.net_syntax.specs.StandingWalk.{child_input, child_scope, collection_input, fed_input, freezing, frozen, frozen_members, frozen_of, frozen_types, inside, k_switch_scope, members_scope, r_switch_scope, routed_input, standing_of, started_scope, started_type, step_input, switch_event, switch_scope, taking, type_walk_at, under, watched_event, watched_input};
+ghost use Rattle.net_syntax.specs.StandingWalk.{child_input, child_scope, collection_input, fed_input, freezing, frozen, frozen_members, frozen_of, frozen_types, inside, members_scope, routed_input, standing_of, started_type, step_input, switch_event, type_walk_at, under, watched_event, watched_input, with_scope};
 
 use crate::arrow::Arrow;
 use crate::output::{
     Untyped, carried_in, leaf_type, left_in, list_under, output_in, right_carried_in,
     right_listed_in, route_type, routed_types,
 };
-use crate::part_types::{add_copies, arrow_from, pair_of, pair_under};
-use crate::place::{TreeRef, child};
+use crate::part_types::{arrow_from, pair_of, pair_under};
+use crate::place::{StandsBehind, TreeRef, child, kind_behind};
+use crate::scope::ScopeTypes;
 use crate::typed_net::TypedNet;
 use leaf_core::{Expr, part_type};
 use net_tree::{Members, Net, NetChild, Position};
 use sample_core::{Memory, Ty};
 use std::alloc::Global;
-use std::mem::replace;
 
 /// The types of what is in scope, and of the input, where a part of a network stands.
 #[derive(Drop)]
 pub struct Standing {
-    /// The types of the parameters.
-    pub params: Vec<Ty>,
-    /// The types of the frozen networks.
-    pub olds: Vec<Arrow>,
+    /// The types of the parameters and of the frozen networks.
+    pub scope: ScopeTypes,
     /// The type of the input.
     pub input: Ty,
+}
+
+impl Standing {
+    /// Where a whole network stands that gets inputs of the type. `Memory` where a count of
+    /// references is full.
+    pub fn alone(alloc: Global, input: &Ty) -> Result<Standing, Memory>
+        ensures { IfOk result (λ s. standing_of s ≡ alone (type_of input.now)) }
+    {
+        let input = input.try_copy(alloc)?;
+        Ok(Standing {
+            scope: ScopeTypes::new(alloc),
+            input,
+        })
+    }
 }
 
 /// The output type of the network, or the type of the expression, that stands at the position, where
@@ -41,15 +54,20 @@ pub fn type_at(alloc: Global, net: &TypedNet, position: &Position) -> Result<Opt
         (λ found. MatchOption found (placed_at 0 0 (a_network net.now.net) position.now ≡ None)
         (λ t. TypeAt (alone net.now.input) (a_network net.now.net) position.now (type_of t))) }
 {
-    let at = Standing {
-        params: Vec::new(alloc),
-        olds: Vec::new(alloc),
-        input: net.input().try_copy(alloc)?,
-    };
-    match type_below(alloc, at, TreeRef::Net(net.net()), position.path()) {
-        Ok(found) => Ok(Some(found)),
-        Err(Untyped::NoType) => Ok(None),
-        Err(Untyped::Memory(refused)) => Err(refused),
+    let at = Standing::alone(alloc, net.input())?;
+    match type_below(alloc, &at, TreeRef::Net(net.net()), position.path()) {
+        Ok(found) => {
+            drop(at);
+            Ok(Some(found))
+        }
+        Err(Untyped::NoType) => {
+            drop(at);
+            Ok(None)
+        }
+        Err(Untyped::Memory) => {
+            drop(at);
+            Err(Memory)
+        }
     }
 }
 
@@ -58,48 +76,39 @@ pub fn type_at(alloc: Global, net: &TypedNet, position: &Position) -> Result<Opt
 /// no type. `Memory` where a growth was refused.
 pub fn child_standing(
     alloc: Global,
-    at: Standing,
+    at: &Standing,
     net: &Net<Expr>,
     k: u32,
 ) -> Result<Option<Standing>, Memory>
     ensures found { IfOk result (λ found. option_map standing_of found
-        ≡ inside (standing_of at) (tree_of net.now) k) }
+        ≡ inside (standing_of at.now) (tree_of net.now) k) }
     ensures stands { IfOk result (λ found.
-        ChildFound (standing_of at) (tree_of net.now) k (option_map standing_of found)) }
+        ChildFound (standing_of at.now) (tree_of net.now) k (option_map standing_of found)) }
 {
     match inside(alloc, at, net, k) {
         Ok(found) => Ok(Some(found)),
         Err(Untyped::NoType) => Ok(None),
-        Err(Untyped::Memory(refused)) => Err(refused),
+        Err(Untyped::Memory) => Err(Memory),
     }
 }
 
 /// The output type, or type, of what stands at the path below a tree that stands there.
-fn type_below(alloc: Global, at: Standing, tree: TreeRef<'_>, path: &[u32]) -> Result<Ty, Untyped>
-    ensures { Finds type_of result (type_walk_at (standing_of at) (seen tree.entry) path.now) }
+fn type_below(alloc: Global, at: &Standing, tree: TreeRef<'_>, path: &[u32]) -> Result<Ty, Untyped>
+    ensures { Finds type_of result (type_walk_at (standing_of at.now) (seen tree.entry) path.now) }
 {
     match tree {
-        TreeRef::Expr(e) => {
-            let found = part_type_in(alloc, &at, e, path);
-            drop(at);
-            found
-        }
+        TreeRef::Expr(e) => part_type_in(alloc, at, e, path),
         TreeRef::Net(net) => match path.split_first() {
             Some((k, rest)) => match child(net, *k) {
                 Some(inner) => {
-                    let at = inside(alloc, at, net, *k)?;
-                    type_below(alloc, at, inner, rest)
+                    let there = inside(alloc, at, net, *k)?;
+                    let found = type_below(alloc, &there, inner, rest);
+                    drop(there);
+                    found
                 }
-                None => {
-                    drop(at);
-                    Err(Untyped::NoType)
-                }
+                None => Err(Untyped::NoType),
             },
-            None => {
-                let found = output_in(alloc, &at, &at.input, net);
-                drop(at);
-                found
-            }
+            None => output_in(alloc, at, &at.input, net),
         },
     }
 }
@@ -109,38 +118,30 @@ fn part_type_in(alloc: Global, at: &Standing, e: &Expr, path: &[u32]) -> Result<
     ensures { Finds type_of result
         (type_walk_at (standing_of at.now) (a_leaf (expression_of e.now)) path.now) }
 {
-    match part_type(alloc, &at.params, &at.input, e, path)? {
+    match part_type(alloc, at.scope.params(), &at.input, e, path)? {
         Some(found) => Ok(found),
         None => Err(Untyped::NoType),
     }
 }
 
 /// The types where child k of the network stands, or why there are none.
-fn inside(alloc: Global, at: Standing, net: &Net<Expr>, k: u32) -> Result<Standing, Untyped>
-    ensures { Finds (λ s. standing_of s) result (inside (standing_of at) (tree_of net.now) k) }
+pub(crate) fn inside(
+    alloc: Global,
+    at: &Standing,
+    net: &Net<Expr>,
+    k: u32,
+) -> Result<Standing, Untyped>
+    ensures { Finds (λ s. standing_of s) result
+        (inside (standing_of at.now) (tree_of net.now) k) }
 {
-    match child_input(alloc, &at, net, k) {
-        Ok(input) => match child_scope(alloc, at, net, k) {
-            Ok(scope) => Ok(with_input(scope, input)),
-            Err(untyped) => {
-                drop(input);
-                Err(untyped)
-            }
-        },
+    let input = child_input(alloc, at, net, k)?;
+    match child_scope(alloc, at, net, k) {
+        Ok(scope) => Ok(Standing { scope, input }),
         Err(untyped) => {
-            drop(at);
+            drop(input);
             Err(untyped)
         }
     }
-}
-
-/// The types with another input.
-fn with_input(at: Standing, input: Ty) -> Standing
-    ensures { standing_of result ≡ taking (standing_of at) (type_of input) }
-{
-    let mut at = at;
-    drop(replace(&mut at.input, input));
-    at
 }
 
 /// What child k gets.
@@ -238,64 +239,47 @@ fn input_in_collection(
     }
 }
 
-/// What stands at a number behind the route of a `pSwitch`, or in an `rpSwitchB`, where the choice
-/// stands as the event does there.
-#[derive(Clone, Copy)]
-pub(crate) enum StandsBehind {
-    Member,
-    Event,
-    Continuation,
-    Nothing,
-}
-
-/// What stands at number k behind the route, or in the `rpSwitchB`.
-fn kind_behind(fs: &Members<Expr>, k: u32) -> StandsBehind
-    ensures { p_switch_child (trees fs.now) k ≡ behind_of result }
-{
-    let count = fs.as_slice().len();
-    let k = k as usize;
-    if k < count {
-        return StandsBehind::Member;
-    }
-    match k - count {
-        0 => StandsBehind::Event,
-        1 => StandsBehind::Continuation,
-        _ => StandsBehind::Nothing,
-    }
-}
-
 /// What child k has in scope.
-fn child_scope(alloc: Global, at: Standing, net: &Net<Expr>, k: u32) -> Result<Standing, Untyped>
-    ensures { Finds (λ s. standing_of s) result
-        (child_scope (standing_of at) (tree_of net.now) k) }
+fn child_scope(alloc: Global, at: &Standing, net: &Net<Expr>, k: u32) -> Result<ScopeTypes, Untyped>
+    ensures { Finds (λ s. with_scope (standing_of at.now) s) result
+        (child_scope (standing_of at.now) (tree_of net.now) k) }
 {
     match net {
-        Net::Switch(f, _) | Net::DSwitch(f, _) if k > 0 => scope_in_switch(alloc, at, f),
-        Net::RSwitch(..) | Net::DrSwitch(..) if k > 0 => scope_in_r_switch(alloc, at),
-        Net::KSwitch(f, e, _) if k > 1 => scope_in_k_switch(alloc, at, f, e),
+        Net::Switch(f, _) | Net::DSwitch(f, _) if k > 0 => {
+            let event = switch_event(alloc, at, f)?;
+            scope_under(alloc, at, event)
+        }
+        Net::RSwitch(..) | Net::DrSwitch(..) if k > 0 => {
+            let event = right_carried_in(alloc, &at.input)?;
+            scope_under(alloc, at, event)
+        }
+        Net::KSwitch(f, e, _) if k > 1 => {
+            let (types, outputs) = frozen_types(alloc, at, f)?;
+            freezing(alloc, at, 1, types, outputs, e)
+        }
         Net::PSwitch(r, fs, e, _) if k > 0 => match kind_behind(fs, k - 1) {
             StandsBehind::Continuation => scope_in_p_switch(alloc, at, r, fs, e, k - 1),
-            _ => Ok(at),
+            _ => Ok(at.scope.try_copy(alloc)?),
         },
         Net::RpSwitch(fs, m, _) => match kind_behind(fs, k) {
-            StandsBehind::Continuation => scope_in_collection(alloc, at, m),
-            _ => Ok(at),
+            StandsBehind::Continuation => {
+                let started = started_type(alloc, at, m)?;
+                scope_under(alloc, at, started)
+            }
+            _ => Ok(at.scope.try_copy(alloc)?),
         },
-        _ => Ok(at),
+        _ => Ok(at.scope.try_copy(alloc)?),
     }
 }
 
-/// What the continuation of a `switch` or `dSwitch` has in scope.
-fn scope_in_switch(alloc: Global, at: Standing, f: &NetChild<Expr>) -> Result<Standing, Untyped>
-    ensures { Finds (λ s. standing_of s) result (switch_scope (standing_of at) (tree f.now)) }
+/// The scope there with one more parameter, of the type.
+fn scope_under(alloc: Global, at: &Standing, param: Ty) -> Result<ScopeTypes, Untyped>
+    ensures { Finds (λ s. with_scope (standing_of at.now) s) result
+        (Some (under (standing_of at.now) (type_of param))) }
 {
-    match switch_event(alloc, &at, f) {
-        Ok(event) => with_param(at, event),
-        Err(untyped) => {
-            drop(at);
-            Err(untyped)
-        }
-    }
+    let inner = at.scope.and_param(alloc, &param);
+    drop(param);
+    Ok(inner?)
 }
 
 /// The type of what the events of the network carry.
@@ -306,33 +290,6 @@ fn switch_event(alloc: Global, at: &Standing, f: &NetChild<Expr>) -> Result<Ty, 
     let event = right_carried_in(alloc, &output);
     drop(output);
     event
-}
-
-/// What the continuation of an `rSwitch` or `drSwitch` has in scope.
-fn scope_in_r_switch(alloc: Global, at: Standing) -> Result<Standing, Untyped>
-    ensures { Finds (λ s. standing_of s) result (r_switch_scope (standing_of at)) }
-{
-    match right_carried_in(alloc, &at.input) {
-        Ok(event) => with_param(at, event),
-        Err(untyped) => {
-            drop(at);
-            Err(untyped)
-        }
-    }
-}
-
-/// What the continuation of an `rpSwitchB` has in scope.
-fn scope_in_collection(alloc: Global, at: Standing, m: &Expr) -> Result<Standing, Untyped>
-    ensures { Finds (λ s. standing_of s) result
-        (started_scope (standing_of at) (expression_of m.now)) }
-{
-    match started_type(alloc, &at, m) {
-        Ok(started) => with_param(at, started),
-        Err(untyped) => {
-            drop(at);
-            Err(untyped)
-        }
-    }
 }
 
 /// The type of the values that the choice of an `rpSwitchB` starts new members with.
@@ -348,25 +305,6 @@ fn started_type(alloc: Global, at: &Standing, m: &Expr) -> Result<Ty, Untyped>
     started
 }
 
-/// What the continuation of a `kSwitch` has in scope.
-fn scope_in_k_switch(
-    alloc: Global,
-    at: Standing,
-    f: &NetChild<Expr>,
-    e: &NetChild<Expr>,
-) -> Result<Standing, Untyped>
-    ensures { Finds (λ s. standing_of s) result
-        (k_switch_scope (standing_of at) (tree f.now) (tree e.now)) }
-{
-    match frozen_types(alloc, &at, f) {
-        Ok((types, outputs)) => freezing(alloc, at, 1, types, outputs, e),
-        Err(untyped) => {
-            drop(at);
-            Err(untyped)
-        }
-    }
-}
-
 /// The types of the network that a `kSwitch` freezes, and its output type.
 fn frozen_types(alloc: Global, at: &Standing, f: &NetChild<Expr>) -> Result<(Arrow, Ty), Untyped>
     ensures { Finds (λ p. frozen_of p) result (frozen_types (standing_of at.now) (tree f.now)) }
@@ -375,9 +313,9 @@ fn frozen_types(alloc: Global, at: &Standing, f: &NetChild<Expr>) -> Result<(Arr
     let types = arrow_from(alloc, &at.input, output)?;
     match types.output.try_copy(alloc) {
         Ok(outputs) => Ok((types, outputs)),
-        Err(refused) => {
+        Err(Memory) => {
             drop(types);
-            Err(Untyped::Memory(refused))
+            Err(Untyped::Memory)
         }
     }
 }
@@ -385,23 +323,18 @@ fn frozen_types(alloc: Global, at: &Standing, f: &NetChild<Expr>) -> Result<(Arr
 /// What the continuation of a `pSwitch` has in scope, which stands at number k behind the route.
 fn scope_in_p_switch(
     alloc: Global,
-    at: Standing,
+    at: &Standing,
     r: &Expr,
     fs: &Members<Expr>,
     e: &NetChild<Expr>,
     k: u32,
-) -> Result<Standing, Untyped>
+) -> Result<ScopeTypes, Untyped>
     requires { p_switch_child (trees fs.now) k ≡ continuation_child }
-    ensures { Finds (λ s. standing_of s) result
-        (members_scope (standing_of at) (expression_of r.now) (trees fs.now) (tree e.now)) }
+    ensures { Finds (λ s. with_scope (standing_of at.now) s) result
+        (members_scope (standing_of at.now) (expression_of r.now) (trees fs.now) (tree e.now)) }
 {
-    match frozen_members(alloc, &at, r, fs) {
-        Ok((types, outputs)) => freezing(alloc, at, k - 1, types, outputs, e),
-        Err(untyped) => {
-            drop(at);
-            Err(untyped)
-        }
-    }
+    let (types, outputs) = frozen_members(alloc, at, r, fs)?;
+    freezing(alloc, at, k - 1, types, outputs, e)
 }
 
 /// The types of each member that a `pSwitch` freezes, and of the list of their outputs.
@@ -417,9 +350,9 @@ fn frozen_members(
     let types = routed_types(alloc, at, &at.input, r, fs)?;
     match list_under(alloc, &types) {
         Ok(outputs) => Ok((types, outputs)),
-        Err(refused) => {
+        Err(Memory) => {
             drop(types);
-            Err(Untyped::Memory(refused))
+            Err(Untyped::Memory)
         }
     }
 }
@@ -428,21 +361,19 @@ fn frozen_members(
 /// are watched.
 fn freezing(
     alloc: Global,
-    at: Standing,
+    at: &Standing,
     count: u32,
     types: Arrow,
     outputs: Ty,
     e: &NetChild<Expr>,
-) -> Result<Standing, Untyped>
-    ensures { Finds (λ s. standing_of s) result
-        (frozen (standing_of at) count (type_of outputs) (tree e.now) (arrow_of types)) }
+) -> Result<ScopeTypes, Untyped>
+    ensures { Finds (λ s. with_scope (standing_of at.now) s) result
+        (frozen (standing_of at.now) count (type_of outputs) (tree e.now) (arrow_of types)) }
 {
-    let event = watched_event(alloc, &at, outputs, e);
-    match event {
-        Ok(event) => with_frozen(alloc, at, count, types, event),
+    match watched_event(alloc, at, outputs, e) {
+        Ok(event) => scope_behind(alloc, at, count, types, event),
         Err(untyped) => {
             drop(types);
-            drop(at);
             Err(untyped)
         }
     }
@@ -467,49 +398,45 @@ fn watched_event(
     event
 }
 
-/// The types with so many further frozen networks of these types, and a parameter more.
-fn with_frozen(
+/// The scope there with so many further frozen networks of these types, and a parameter more.
+fn scope_behind(
     alloc: Global,
-    at: Standing,
+    at: &Standing,
     count: u32,
     types: Arrow,
-    event: Ty,
-) -> Result<Standing, Untyped>
-    ensures { Finds (λ s. standing_of s) result
-        (Some (freezing (standing_of at) count (arrow_of types) (type_of event))) }
+    param: Ty,
+) -> Result<ScopeTypes, Untyped>
+    ensures { Finds (λ s. with_scope (standing_of at.now) s) result
+        (Some (freezing (standing_of at.now) count (arrow_of types) (type_of param))) }
 {
-    let mut at = at;
-    let added = add_copies(alloc, count, &types, &mut at.olds);
-    drop(types);
-    match added {
-        Ok(()) => with_param(at, event),
-        Err(refused) => {
-            drop(event);
-            drop(at);
-            Err(Untyped::Memory(refused))
+    match scope_under(alloc, at, param) {
+        Ok(inner) => {
+            let inner = and_frozen(alloc, inner, count, &types);
+            drop(types);
+            Ok(inner?)
+        }
+        Err(untyped) => {
+            drop(types);
+            Err(untyped)
         }
     }
 }
 
-/// The types with a parameter more.
-fn with_param(at: Standing, param: Ty) -> Result<Standing, Untyped>
-    ensures { Finds (λ s. standing_of s) result
-        (Some (under (standing_of at) (type_of param))) }
+/// The scope with so many further frozen networks of these types.
+fn and_frozen(
+    alloc: Global,
+    scope: ScopeTypes,
+    count: u32,
+    types: &Arrow,
+) -> Result<ScopeTypes, Memory>
+    ensures { IfOk result (λ s. s ≡ and_olds scope count (arrow_of types.now)) }
 {
-    let mut at = at;
-    match pushed(&mut at.params, param) {
-        Ok(()) => Ok(at),
+    let mut scope = scope;
+    match scope.add_olds(alloc, count, types) {
+        Ok(()) => Ok(scope),
         Err(refused) => {
-            drop(at);
-            Err(Untyped::Memory(refused))
+            drop(scope);
+            Err(refused)
         }
     }
-}
-
-/// Adds a type to the list.
-fn pushed(types: &mut Vec<Ty>, ty: Ty) -> Result<(), Memory>
-    ensures { OnOk result (types.new.items ≡ types.old.items ++ ty ∷ []) }
-{
-    types.push(ty)?;
-    Ok(())
 }

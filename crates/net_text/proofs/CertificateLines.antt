@@ -3,17 +3,17 @@ use Rattle.std.proofs.Common.{◌≡◌, ℕ, List, [], ◌∷◌, ◌++◌, ref
 use Rattle.std.specs.Prelude.{codes}
 use Rattle.std.specs.Fmt.{decimal}
 use Rattle.sample_core.specs.Adding.{Adds}
-use Rattle.leaf_expr.specs.Sexpr.{form, spelling, spellings}
+use Rattle.leaf_expr.specs.Sexpr.{form, sexpr_spelling, sexprs_spelling}
 use Rattle.leaf_expr.proofs.Joined.{adds_behind}
 use Rattle.net_tree.specs.Position.{position_spelling, child_numbers}
 use Rattle.net_tree.specs.LawStep.{Step}
-use Rattle.net_text.specs.CertificatePrinting.{law_spelling, direction_spelling, child_sexprs, given_sexprs, step_sexpr, step_lines}
+use Rattle.net_text.specs.CertificatePrinting.{law_spelling, direction_spelling, child_sexprs, given_sexprs, step_sexpr}
 
-children_spelled : (ks : List ℕ) → spellings (child_sexprs ks) ≡ child_numbers ks
+children_spelled : (ks : List ℕ) → sexprs_spelling (child_sexprs ks) ≡ child_numbers ks
 children_spelled [] = refl
 children_spelled (k ∷ ks) = ap (λ xs. 32 ∷ decimal k ++ xs) (children_spelled ks)
 
-position_spelled : (ks : List ℕ) → spelling (form (codes "at") (child_sexprs ks)) ≡ position_spelling ks
+position_spelled : (ks : List ℕ) → sexpr_spelling (form (codes "at") (child_sexprs ks)) ≡ position_spelling ks
 position_spelled ks = ap (λ xs. codes "(at" ++ (xs ++ codes ")")) (children_spelled ks)
 
 -- what stands behind a part, a parenthesis and the end of the line behind that
@@ -32,14 +32,14 @@ joined law direction at given =
     ∙ sym (append_assoc direction (32 ∷ []) (at ++ (given ++ codes ")\n")))))
 
 -- a step's line, part by part
-pub step_spelled : (s : Step) → spelling (step_sexpr s) ++ 10 ∷ [] ≡
+pub step_spelled : (s : Step) → sexpr_spelling (step_sexpr s) ++ 10 ∷ [] ≡
     codes "(step " ++ (law_spelling s.law ++ ((32 ∷ direction_spelling s.direction ++ 32 ∷ [])
-    ++ (position_spelling s.position ++ (spellings (given_sexprs s.given) ++ codes ")\n"))))
+    ++ (position_spelling s.position ++ (sexprs_spelling (given_sexprs s.given) ++ codes ")\n"))))
 step_spelled s =
-    joined (law_spelling s.law) (direction_spelling s.direction) (spelling (form (codes "at") (child_sexprs s.position)))
-    (spellings (given_sexprs s.given))
+    joined (law_spelling s.law) (direction_spelling s.direction) (sexpr_spelling (form (codes "at") (child_sexprs s.position)))
+    (sexprs_spelling (given_sexprs s.given))
     ∙ ap (λ at. codes "(step " ++ (law_spelling s.law ++ ((32 ∷ direction_spelling s.direction ++ 32 ∷ [])
-    ++ (at ++ (spellings (given_sexprs s.given) ++ codes ")\n"))))) (position_spelled s.position)
+    ++ (at ++ (sexprs_spelling (given_sexprs s.given) ++ codes ")\n"))))) (position_spelled s.position)
 
 -- parts added one after the other, the last by a call
 pub six_added : {T E : Type 0} (r : Result T E) (old t1 t2 t3 t4 t5 new a b c d e f : List ℕ) → t1 ≡ old ++ a → t2 ≡ t1 ++ b → t3 ≡ t2 ++ c → t4 ≡ t3 ++ d
@@ -48,9 +48,3 @@ six_added r old t1 t2 t3 t4 t5 new a b c d e f p q s t u h =
     adds_behind r old t1 new a (b ++ (c ++ (d ++ (e ++ f)))) p
     (adds_behind r t1 t2 new b (c ++ (d ++ (e ++ f))) q
     (adds_behind r t2 t3 new c (d ++ (e ++ f)) s (adds_behind r t3 t4 new d (e ++ f) t (adds_behind r t4 t5 new e f u h))))
-
--- one more line, before those to come
-pub line_added : (s : Step) (ss : List Step) (old new all : List ℕ) → old ++ step_lines (s ∷ ss) ≡ all → new ≡ old ++ (spelling (step_sexpr s) ++ 10 ∷ [])
-    → new ++ step_lines ss ≡ all
-line_added s ss old new all e n = ap (λ t. t ++ step_lines ss) n ∙ append_assoc old (spelling (step_sexpr s) ++ 10 ∷ []) (step_lines ss)
-    ∙ ap (λ t. old ++ t) (append_assoc (spelling (step_sexpr s)) (10 ∷ []) (step_lines ss)) ∙ e

@@ -2,7 +2,6 @@
 use Rattle.std.proofs.Common.{◌≡◌, ◌≢◌, ℕ, zero, suc, ◌≤◌, ◌<◌, List, [], ◌∷◌, ◌++◌, length, refl, sym, ap, ◌∙◌, subst, Option, Some, Result, Ok, Err, IfOk, arith, append_assoc}
 use Rattle.std.specs.Prelude.{codes, IfErr}
 use Rattle.std.proofs.lemmas.List.{append-nil}
-use Rattle.leaf_expr.proofs.ReadSteps.{Refuses}
 use Rattle.leaf_expr.specs.Token.{closing, word, PlacedToken, tokens}
 use Rattle.leaf_expr.proofs.ReadFound.{bind_ok, ok_is}
 use Rattle.leaf_expr.proofs.ReadOnly.{shorter, some_bind}
@@ -23,9 +22,11 @@ use Rattle.net_text.proofs.FileRead.{word_found, version_found}
 use Rattle.net_text.proofs.HeadedText.{Behind, headed_found, headed_read, headed_fault, headed_refuses, headed_told, one_reading}
 use Rattle.net_text.proofs.StepRead.{bind_on, bind_gone, bind_err, step_read, step_found, step_refused, refuses_step}
 use Rattle.net_text.specs.ReadCertificate.{GivesSteps}
+use Rattle.net_text.specs.declared.certificate_reader.TheConstants.{STEP_ROOM}
 use Rattle.sample_core.specs.Answer.{◌>>=◌}
 use Rattle.leaf_expr.specs.declared.text_fault.ExprTextFault.{ExprTextFault}
 use Rattle.leaf_expr.specs.declared.text_fault.ExprTextFault.TheVariants as E
+use Rattle.leaf_expr.specs.declared.expr_reader.TheConstants.{MOST_LENGTH}
 
 -- a step takes some tokens
 given_shortens : (v : Version) (law : Law) (o : Option (Tree Expression)) (ts rest : List PlacedToken) → IsGiven v law o ts rest → length rest < length ts
@@ -54,9 +55,6 @@ with_none (Err e) = refl
 with_one : (s : Step) (ss : List Step) (r : Result (List Step) ExprTextFault) → (with_steps ss r >>= (λ us. Ok (s ∷ us))) ≡ with_steps (s ∷ ss) r
 with_one s ss (Ok us) = refl
 with_one s ss (Err e) = refl
-
-with_done : (front : List Step) → with_steps front (Ok []) ≡ Ok front
-with_done front = ap (λ ss. Ok ss) (append-nil front)
 
 with_more : (front : List Step) (s : Step) (r : Result (List Step) ExprTextFault)
     → with_steps (front ++ s ∷ []) r ≡ with_steps front (r >>= (λ ss. Ok (s ∷ ss)))
@@ -102,22 +100,12 @@ module _ (size : ℕ) (v : Version) where
   all_read ss (t ∷ ts) rest (a_step s us vs mid ws h hs) = one_more t ts mid s (step_read size v s (t ∷ ts) mid h)
       ∙ ap (λ r. r >>= (λ ss. Ok (s ∷ ss))) (all_read us mid rest hs) ∙ with_one s us (read_all_steps size v rest)
 
-  -- what is read behind the steps so far, as the code takes it
-  pub steps_done : (front : List Step) (ts : List PlacedToken) (all : Result (List Step) ExprTextFault) → with_steps front (read_all_steps size v ts) ≡ all
-      → ts ≡ [] → all ≡ Ok front
-  steps_done front ts all e p = sym e ∙ ap (λ us. with_steps front (read_all_steps size v us)) p ∙ with_done front
-
   pub steps_more : (front new : List Step) (s : Step) (ts us : List PlacedToken) (all : Result (List Step) ExprTextFault)
       → with_steps front (read_all_steps size v ts) ≡ all → read_step size v ts ≡ Ok (s, us) → new ≡ front ++ s ∷ []
       → with_steps new (read_all_steps size v us) ≡ all
   steps_more front new s [] us all e r n = absurd (cc)
   steps_more front new s (t ∷ ts) us all e r n = ap (λ ss. with_steps ss (read_all_steps size v us)) n ∙ with_more front s (read_all_steps size v us)
       ∙ ap (with_steps front) (sym (one_more t ts us s r)) ∙ e
-
-  pub steps_gone : (front : List Step) (ts : List PlacedToken) (e : ExprTextFault) (all : Result (List Step) ExprTextFault)
-      → with_steps front (read_all_steps size v ts) ≡ all → ts ≢ [] → Refuses e (read_step size v ts) → Refuses e all
-  steps_gone front [] e all h n r = absurd (n refl)
-  steps_gone front (t ∷ ts) e all h n r = λ m. sym h ∙ ap (with_steps front) (no_more t ts e (r m))
 
   all_found : (n : ℕ) (ts : List PlacedToken) (ss : List Step) → read_steps size v n ts ≡ Ok ss → AreSteps v ss ts []
   all_found n [] ss e = subst (λ us. AreSteps v us [] []) (ok_is e) (no_step [])
@@ -159,10 +147,10 @@ module _ (size : ℕ) (v : Version) where
   not_long ts (unopened (other x us p d q)) = cc
   not_long ts (unnamed a us s (missing p q)) = cc
   not_long ts (unnamed a us s (other x vs p d q)) = cc
-  not_long ts (no_law a b us s h) = stops_not_long (step_parts v) size 599 law_sort us h
-  not_long ts (no_direction a b n law us vs s l h) = stops_not_long (step_parts v) size 599 direction_sort vs h
-  not_long ts (no_position a b n m law direction us vs ws s l d h) = stops_not_long (step_parts v) size 599 position_sort ws h
-  not_long ts (no_end law direction at us f b h) = stops_not_long (networks v) size 599 (given_sort law) us h
+  not_long ts (no_law a b us s h) = stops_not_long (step_parts v) size STEP_ROOM law_sort us h
+  not_long ts (no_direction a b n law us vs s l h) = stops_not_long (step_parts v) size STEP_ROOM direction_sort vs h
+  not_long ts (no_position a b n m law direction us vs ws s l d h) = stops_not_long (step_parts v) size STEP_ROOM position_sort ws h
+  not_long ts (no_end law direction at us f b h) = stops_not_long (networks v) size STEP_ROOM (given_sort law) us h
   not_long ts (unclosed law direction at us f t n vs b (missing p q)) = cc
   not_long ts (unclosed law direction at us f t n vs b (other x ws p d q)) = cc
 
@@ -209,7 +197,7 @@ module _ (bs : List ℕ) where
   long : NoCertificate bs E.TooLong → ⊥
   long n = not_long (length bs) n.version (n.stops.next ∷ n.stops.after) n.stops.stops
 
-  refuse : (e : ExprTextFault) → length bs ≤ 1048576 → NoCertificate bs e → Behind behind_laws read_all_steps bs (Err e)
+  refuse : (e : ExprTextFault) → length bs ≤ MOST_LENGTH → NoCertificate bs e → Behind behind_laws read_all_steps bs (Err e)
   refuse e l n =
       record {
         short = l;

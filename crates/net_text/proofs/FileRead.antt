@@ -31,6 +31,8 @@ use Rattle.net_text.proofs.HeadedText.{Behind, headed_found, headed_read, headed
 use Rattle.sample_core.specs.Answer.{◌>>=◌}
 use Rattle.leaf_expr.specs.declared.text_fault.ExprTextFault.{ExprTextFault}
 use Rattle.leaf_expr.specs.declared.text_fault.ExprTextFault.TheVariants as E
+use Rattle.leaf_expr.specs.declared.type_reader.TheConstants.{MOST_OPEN}
+use Rattle.leaf_expr.specs.declared.expr_reader.TheConstants.{MOST_LENGTH}
 
 some_is : {A : Type 0} {x y : A} → ◌≡◌ {A = Option A} (Some x) (Some y) → x ≡ y
 some_is p = cc
@@ -42,8 +44,8 @@ ok_same : {A : Type 0} {x y : A} → ◌≡◌ {A = Result A ExprTextFault} (Ok 
 ok_same p = cc
 
 not_long : {bs : List ℕ} → NoFile bs E.TooLong → ⊥
-not_long {bs = bs} (no_type v ts h s) = stops_not_long leaf (length bs) 600 type_sort ts s
-not_long {bs = bs} (no_network v ts h A n us b s) = stops_not_long (networks v) (length bs) 600 network_sort us s
+not_long {bs = bs} (no_type v ts h s) = stops_not_long leaf (length bs) MOST_OPEN type_sort ts s
+not_long {bs = bs} (no_network v ts h A n us b s) = stops_not_long (networks v) (length bs) MOST_OPEN network_sort us s
 not_long (follows v ts h A n us b f m x after c e) = cc
 
 at_end_ok : {T : Type 0} (x y : T) (ts : List PlacedToken) → at_end x ts ≡ Ok y → (x ≡ y) × (ts ≡ [])
@@ -127,15 +129,15 @@ header_behind bs v ts h = ap behind_header h.starts ∙ header_names v h.yampa h
 
 module _ (bs : List ℕ) where
   -- a type that stands behind the header is read
-  read_type : (ts : List PlacedToken) (A : TypeTree) (n : ℕ) (us : List PlacedToken) → Begins leaf 600 type_sort A ts n us
-      → read leaf (length bs) 600 type_sort ts ≡ Ok (A, n, us)
-  read_type ts A n us b = only leaf leaf_proper (length bs) 600 type_sort b.part ts n us A b.spells b.means b.within
+  read_type : (ts : List PlacedToken) (A : TypeTree) (n : ℕ) (us : List PlacedToken) → Begins leaf MOST_OPEN type_sort A ts n us
+      → read leaf (length bs) MOST_OPEN type_sort ts ≡ Ok (A, n, us)
+  read_type ts A n us b = only leaf leaf_proper (length bs) MOST_OPEN type_sort b.part ts n us A b.spells b.means b.within
 
   file_behind : (A : TypeTree) (f : Network Expression) → IsFile bs A f → Behind behind_header read_body bs (Ok (A, f))
   file_behind A f h =
-      let c : Begins (networks h.version) 600 network_sort f h.network h.network_end [] = h.body in
-      let q : read (networks h.version) (length bs) 600 network_sort h.network ≡ Ok (f, h.network_end, []) =
-      only (networks h.version) (networks_proper h.version) (length bs) 600 network_sort c.part h.network h.network_end [] f c.spells c.means c.within in
+      let c : Begins (networks h.version) MOST_OPEN network_sort f h.network h.network_end [] = h.body in
+      let q : read (networks h.version) (length bs) MOST_OPEN network_sort h.network ≡ Ok (f, h.network_end, []) =
+      only (networks h.version) (networks_proper h.version) (length bs) MOST_OPEN network_sort c.part h.network h.network_end [] f c.spells c.means c.within in
       record {
         short = h.short;
         version = h.version;
@@ -146,13 +148,13 @@ module _ (bs : List ℕ) where
             ∙ ap (λ r. r >>= (λ g. at_end (A, g.0) g.2)) q;
       }
 
-  body_found : (v : Version) (ts : List PlacedToken) → HasHeader bs v ts → length bs ≤ 1048576 → (A : TypeTree) (f : Network Expression)
+  body_found : (v : Version) (ts : List PlacedToken) → HasHeader bs v ts → length bs ≤ MOST_LENGTH → (A : TypeTree) (f : Network Expression)
       → read_body (length bs) v ts ≡ Ok (A, f) → IsFile bs A f
   body_found v ts h l A f e =
-      let i : (x : TypeTree × ℕ × List PlacedToken) × (read leaf (length bs) 600 type_sort ts ≡ Ok x)
-      × (read_network v (length bs) x ≡ Ok (A, f)) = bind_ok (read leaf (length bs) 600 type_sort ts) _ (A, f) e in
-      let j : (y : Network Expression × ℕ × List PlacedToken) × (read (networks v) (length bs) 600 network_sort i.0.2 ≡ Ok y)
-      × (at_end (i.0.0, y.0) y.2 ≡ Ok (A, f)) = bind_ok (read (networks v) (length bs) 600 network_sort i.0.2) _ (A, f) i.2 in
+      let i : (x : TypeTree × ℕ × List PlacedToken) × (read leaf (length bs) MOST_OPEN type_sort ts ≡ Ok x)
+      × (read_network v (length bs) x ≡ Ok (A, f)) = bind_ok (read leaf (length bs) MOST_OPEN type_sort ts) _ (A, f) e in
+      let j : (y : Network Expression × ℕ × List PlacedToken) × (read (networks v) (length bs) MOST_OPEN network_sort i.0.2 ≡ Ok y)
+      × (at_end (i.0.0, y.0) y.2 ≡ Ok (A, f)) = bind_ok (read (networks v) (length bs) MOST_OPEN network_sort i.0.2) _ (A, f) i.2 in
       let k : ((i.0.0, j.0.0) ≡ (A, f)) × (j.0.2 ≡ []) = at_end_ok (i.0.0, j.0.0) (A, f) j.0.2 j.2 in
       let a : i.0.0 ≡ A = ap (λ z. z.0) k.0 in
       let g : j.0.0 ≡ f = ap (λ z. z.1) k.0 in
@@ -164,33 +166,33 @@ module _ (bs : List ℕ) where
         type_end = i.0.1;
         network = i.0.2;
         input =
-            subst (λ B. Begins leaf 600 type_sort B ts i.0.1 i.0.2) a (found leaf (length bs) 600 type_sort ts i.0 i.1);
+            subst (λ B. Begins leaf MOST_OPEN type_sort B ts i.0.1 i.0.2) a (found leaf (length bs) MOST_OPEN type_sort ts i.0 i.1);
         network_end = j.0.1;
         body =
-            subst (λ r. Begins (networks v) 600 network_sort f i.0.2 j.0.1 r) k.1
-            (subst (λ n. Begins (networks v) 600 network_sort n i.0.2 j.0.1 j.0.2) g (found (networks v) (length bs) 600 network_sort i.0.2 j.0 j.1));
+            subst (λ r. Begins (networks v) MOST_OPEN network_sort f i.0.2 j.0.1 r) k.1
+            (subst (λ n. Begins (networks v) MOST_OPEN network_sort n i.0.2 j.0.1 j.0.2) g (found (networks v) (length bs) MOST_OPEN network_sort i.0.2 j.0 j.1));
       }
 
   body_refused : (v : Version) (ts : List PlacedToken) → HasHeader bs v ts → (e : ExprTextFault) → read_body (length bs) v ts ≡ Err e → NoFile bs e
-  body_refused v ts h e p = go (read leaf (length bs) 600 type_sort ts) refl p
+  body_refused v ts h e p = go (read leaf (length bs) MOST_OPEN type_sort ts) refl p
     where
       ended : TypeTree → Network Expression × ℕ × List PlacedToken → Result (TypeTree × Network Expression) ExprTextFault
       ended A g = at_end (A, g.0) g.2
 
-      then_network : (A : TypeTree) (n : ℕ) (us : List PlacedToken) → read leaf (length bs) 600 type_sort ts ≡ Ok (A, n, us)
-          → (r : Result (Network Expression × ℕ × List PlacedToken) ExprTextFault) → read (networks v) (length bs) 600 network_sort us ≡ r
+      then_network : (A : TypeTree) (n : ℕ) (us : List PlacedToken) → read leaf (length bs) MOST_OPEN type_sort ts ≡ Ok (A, n, us)
+          → (r : Result (Network Expression × ℕ × List PlacedToken) ExprTextFault) → read (networks v) (length bs) MOST_OPEN network_sort us ≡ r
           → (r >>= ended A) ≡ Err e → NoFile bs e
-      then_network A n us i (Err f) j q = no_network v ts h A n us (found leaf (length bs) 600 type_sort ts (A, n, us) i)
-          (stops (networks v) (networks_proper v) (length bs) 600 network_sort us e (j ∙ ap Err (err_is q)))
+      then_network A n us i (Err f) j q = no_network v ts h A n us (found leaf (length bs) MOST_OPEN type_sort ts (A, n, us) i)
+          (stops (networks v) (networks_proper v) (length bs) MOST_OPEN network_sort us e (j ∙ ap Err (err_is q)))
       then_network A n us i (Ok (f, m, [])) j q = absurd (cc)
       then_network A n us i (Ok (f, m, x ∷ after)) j q =
-          follows v ts h A n us (found leaf (length bs) 600 type_sort ts (A, n, us) i) f m x after
-          (found (networks v) (length bs) 600 network_sort us (f, m, x ∷ after) j) (sym (err_is q))
+          follows v ts h A n us (found leaf (length bs) MOST_OPEN type_sort ts (A, n, us) i) f m x after
+          (found (networks v) (length bs) MOST_OPEN network_sort us (f, m, x ∷ after) j) (sym (err_is q))
 
-      go : (r : Result (TypeTree × ℕ × List PlacedToken) ExprTextFault) → read leaf (length bs) 600 type_sort ts ≡ r
+      go : (r : Result (TypeTree × ℕ × List PlacedToken) ExprTextFault) → read leaf (length bs) MOST_OPEN type_sort ts ≡ r
           → (r >>= read_network v (length bs)) ≡ Err e → NoFile bs e
-      go (Err f) i q = no_type v ts h (stops leaf leaf_proper (length bs) 600 type_sort ts e (i ∙ ap Err (err_is q)))
-      go (Ok (A, n, us)) i q = then_network A n us i (read (networks v) (length bs) 600 network_sort us) refl q
+      go (Err f) i q = no_type v ts h (stops leaf leaf_proper (length bs) MOST_OPEN type_sort ts e (i ∙ ap Err (err_is q)))
+      go (Ok (A, n, us)) i q = then_network A n us i (read (networks v) (length bs) MOST_OPEN network_sort us) refl q
 
   headed_by : (v : Version) (ts : List PlacedToken) → behind_header (tokens bs) ≡ Some (v, ts) → HasHeader bs v ts
   headed_by v ts e = let i : (a : ℕ) × (b : ℕ) × (c : ℕ) × (tokens bs ≡ header_tokens v a b c ts) = header_found v (tokens bs) ts e in
@@ -200,14 +202,14 @@ module _ (bs : List ℕ) where
   wrong e b = body_refused b.version b.behind (headed_by b.version b.behind b.headed) e b.reads
 
   -- where no file is, the fault is answered
-  refuse : (e : ExprTextFault) → length bs ≤ 1048576 → NoFile bs e → Behind behind_header read_body bs (Err e)
+  refuse : (e : ExprTextFault) → length bs ≤ MOST_LENGTH → NoFile bs e → Behind behind_header read_body bs (Err e)
   refuse e l (no_type v ts h s) =
       record {
         short = l;
         version = v;
         behind = ts;
         headed = header_behind bs v ts h;
-        reads = ap (λ r. r >>= read_network v (length bs)) (refuses leaf leaf_proper (length bs) 600 type_sort ts e s);
+        reads = ap (λ r. r >>= read_network v (length bs)) (refuses leaf leaf_proper (length bs) MOST_OPEN type_sort ts e s);
       }
   refuse e l (no_network v ts h A n us a s) =
       record {
@@ -217,7 +219,7 @@ module _ (bs : List ℕ) where
         headed = header_behind bs v ts h;
         reads =
             ap (λ r. r >>= read_network v (length bs)) (read_type ts A n us a)
-            ∙ ap (λ r. r >>= (λ g. at_end (A, g.0) g.2)) (refuses (networks v) (networks_proper v) (length bs) 600 network_sort us e s);
+            ∙ ap (λ r. r >>= (λ g. at_end (A, g.0) g.2)) (refuses (networks v) (networks_proper v) (length bs) MOST_OPEN network_sort us e s);
       }
   refuse e l (follows v ts h A n us a f m x after b q) =
       record {
@@ -228,7 +230,7 @@ module _ (bs : List ℕ) where
         reads =
             ap (λ r. r >>= read_network v (length bs)) (read_type ts A n us a)
             ∙ ap (λ r. r >>= (λ g. at_end (A, g.0) g.2))
-            (only (networks v) (networks_proper v) (length bs) 600 network_sort b.part us m (x ∷ after) f b.spells b.means b.within) ∙ ap Err (sym q);
+            (only (networks v) (networks_proper v) (length bs) MOST_OPEN network_sort b.part us m (x ∷ after) f b.spells b.means b.within) ∙ ap Err (sym q);
       }
 
   pub file_read : (A : TypeTree) (f : Network Expression) → IsFile bs A f → read_file bs ≡ Ok (A, f)

@@ -11,6 +11,7 @@ use Rattle.net_text.specs.declared.fault.NetTextFault.TheVariants as V
 use Rattle.sample_core.specs.Answer.{GivesUnless}
 use Rattle.leaf_expr.specs.declared.text_fault.ExprTextFault.{ExprTextFault}
 use Rattle.leaf_expr.specs.declared.text_fault.ExprTextFault.TheVariants as E
+use Rattle.leaf_expr.specs.declared.expr_reader.TheConstants.{MOST_LENGTH}
 
 pub file_is : {A : Type 0} {x y : A} → ◌≡◌ {A = Result A NetTextFault} (Ok x) (Ok y) → x ≡ y
 file_is p = cc
@@ -59,34 +60,34 @@ not_header (Err f) q = no_header f (fault_is (sym q))
 module _ {T : Type 0} (header : List PlacedToken → Headed) (body : ℕ → Version → List PlacedToken → Result T ExprTextFault) (bs : List ℕ) where
   -- what was answered stands behind a header
   pub record Behind (r : Result T ExprTextFault) : Type 0 where
-    pub short : length bs ≤ 1048576
+    pub short : length bs ≤ MOST_LENGTH
     pub version : Version
     pub behind : List PlacedToken
     pub headed : header (tokens bs) ≡ Some (version, behind)
     pub reads : body (length bs) version behind ≡ r
 
   short_file : (r : Result T NetTextFault) → r ≢ Err V.TooLong → read_headed header body bs ≡ r
-      → (length bs ≤ 1048576) × (read_behind (body (length bs)) (header (tokens bs)) ≡ r)
-  short_file r d e = go (nat_lt 1048576 (length bs)) refl e
+      → (length bs ≤ MOST_LENGTH) × (read_behind (body (length bs)) (header (tokens bs)) ≡ r)
+  short_file r d e = go (nat_lt MOST_LENGTH (length bs)) refl e
     where
-      go : (b : Bool) → nat_lt 1048576 (length bs) ≡ b → (if b then Err V.TooLong else read_behind (body (length bs)) (header (tokens bs))) ≡ r
-          → (length bs ≤ 1048576) × (read_behind (body (length bs)) (header (tokens bs)) ≡ r)
+      go : (b : Bool) → nat_lt MOST_LENGTH (length bs) ≡ b → (if b then Err V.TooLong else read_behind (body (length bs)) (header (tokens bs))) ≡ r
+          → (length bs ≤ MOST_LENGTH) × (read_behind (body (length bs)) (header (tokens bs)) ≡ r)
       go true q e' = absurd (d (sym e'))
-      go false q e' = (ltb-false 1048576 (length bs) q, e')
+      go false q e' = (ltb-false MOST_LENGTH (length bs) q, e')
 
-  past_length : length bs ≤ 1048576 → read_headed header body bs ≡ read_behind (body (length bs)) (header (tokens bs))
-  past_length l = ap (λ c. if c then Err V.TooLong else read_behind (body (length bs)) (header (tokens bs))) (le-ltb 1048576 (length bs) l)
+  past_length : length bs ≤ MOST_LENGTH → read_headed header body bs ≡ read_behind (body (length bs)) (header (tokens bs))
+  past_length l = ap (λ c. if c then Err V.TooLong else read_behind (body (length bs)) (header (tokens bs))) (le-ltb MOST_LENGTH (length bs) l)
 
   -- what is read of bytes with a header, where they are no more than files have
-  past_header : (v : Version) (ts : List PlacedToken) → length bs ≤ 1048576 → header (tokens bs) ≡ Some (v, ts)
+  past_header : (v : Version) (ts : List PlacedToken) → length bs ≤ MOST_LENGTH → header (tokens bs) ≡ Some (v, ts)
       → read_headed header body bs ≡ body_fault (body (length bs) v ts)
   past_header v ts l h = past_length l ∙ ap (read_behind (body (length bs))) h
 
   pub headed_found : (x : T) → read_headed header body bs ≡ Ok x → Behind (Ok x)
-  headed_found x e = let i : (length bs ≤ 1048576) × (read_behind (body (length bs)) (header (tokens bs)) ≡ Ok x) = short_file (Ok x) (λ q. cc) e in
+  headed_found x e = let i : (length bs ≤ MOST_LENGTH) × (read_behind (body (length bs)) (header (tokens bs)) ≡ Ok x) = short_file (Ok x) (λ q. cc) e in
       go i.0 (header (tokens bs)) refl i.1
     where
-      go : length bs ≤ 1048576 → (o : Headed) → header (tokens bs) ≡ o → read_behind (body (length bs)) o ≡ Ok x → Behind (Ok x)
+      go : length bs ≤ MOST_LENGTH → (o : Headed) → header (tokens bs) ≡ o → read_behind (body (length bs)) o ≡ Ok x → Behind (Ok x)
       go l None p q = absurd (cc)
       go l (Some h) p q = record { short = l; version = h.0; behind = h.1; headed = p; reads = body_ok (body (length bs) h.0 h.1) x q }
 
@@ -95,11 +96,11 @@ module _ {T : Type 0} (header : List PlacedToken → Headed) (body : ℕ → Ver
 
   headed_refused : (e : ExprTextFault) → read_headed header body bs ≢ Err V.TooLong → read_headed header body bs ≡ Err (in_file e) → Behind (Err e)
   headed_refused e d p =
-      let i : (length bs ≤ 1048576)
+      let i : (length bs ≤ MOST_LENGTH)
       × (read_behind (body (length bs)) (header (tokens bs)) ≡ Err (in_file e)) = short_file (Err (in_file e)) (λ q. d (p ∙ q)) p in
       go i.0 (header (tokens bs)) refl i.1
     where
-      go : length bs ≤ 1048576 → (o : Headed) → header (tokens bs) ≡ o → read_behind (body (length bs)) o ≡ Err (in_file e) → Behind (Err e)
+      go : length bs ≤ MOST_LENGTH → (o : Headed) → header (tokens bs) ≡ o → read_behind (body (length bs)) o ≡ Err (in_file e) → Behind (Err e)
       go l None h q = absurd (no_header e (fault_is q))
       go l (Some h) p q = record { short = l; version = h.0; behind = h.1; headed = p; reads = body_err (body (length bs) h.0 h.1) e q }
 
@@ -111,27 +112,27 @@ module _ {T : Type 0} (header : List PlacedToken → Headed) (body : ℕ → Ver
       (has : (v : Version) (ts : List PlacedToken) → Has v ts → header (tokens bs) ≡ Some (v, ts))
       (headed : (v : Version) (ts : List PlacedToken) → header (tokens bs) ≡ Some (v, ts) → Has v ts) (wrong : (e : ExprTextFault) → Behind (Err e) → Wrong e)
       (long : Wrong E.TooLong → ⊥) where
-    headless : read_headed header body bs ≡ Err V.Header → (length bs ≤ 1048576) × ((v : Version) (ts : List PlacedToken) → Has v ts → ⊥)
+    headless : read_headed header body bs ≡ Err V.Header → (length bs ≤ MOST_LENGTH) × ((v : Version) (ts : List PlacedToken) → Has v ts → ⊥)
     headless p =
-        let i : (length bs ≤ 1048576) × (read_behind (body (length bs)) (header (tokens bs)) ≡ Err V.Header) = short_file (Err V.Header) (λ q. cc) p in
+        let i : (length bs ≤ MOST_LENGTH) × (read_behind (body (length bs)) (header (tokens bs)) ≡ Err V.Header) = short_file (Err V.Header) (λ q. cc) p in
         (i.0, λ v ts h. not_header (body (length bs) v ts) (sym (ap (read_behind (body (length bs))) (has v ts h)) ∙ i.1))
 
     told : (e : ExprTextFault) → read_headed header body bs ≢ Err V.TooLong → read_headed header body bs ≡ Err (in_file e)
-        → (length bs ≤ 1048576) × Wrong e
+        → (length bs ≤ MOST_LENGTH) × Wrong e
     told e d p = let b = headed_refused e d p in (b.short, wrong e b)
 
-    longer : read_headed header body bs ≡ Err V.TooLong → 1048576 < length bs
-    longer p = go (nat_lt 1048576 (length bs)) refl p
+    longer : read_headed header body bs ≡ Err V.TooLong → MOST_LENGTH < length bs
+    longer p = go (nat_lt MOST_LENGTH (length bs)) refl p
       where
-        here : length bs ≤ 1048576 → (o : Headed) → header (tokens bs) ≡ o → read_behind (body (length bs)) o ≡ Err V.TooLong → ⊥
+        here : length bs ≤ MOST_LENGTH → (o : Headed) → header (tokens bs) ≡ o → read_behind (body (length bs)) o ≡ Err V.TooLong → ⊥
         here l None h q = cc
         here l (Some h) p q =
             long (wrong E.TooLong (record { short = l; version = h.0; behind = h.1; headed = p; reads = body_err (body (length bs) h.0 h.1) E.TooLong q }))
 
-        go : (b : Bool) → nat_lt 1048576 (length bs) ≡ b → (if b then Err V.TooLong else read_behind (body (length bs)) (header (tokens bs))) ≡ Err V.TooLong
-            → 1048576 < length bs
-        go true q e = ltb-true 1048576 (length bs) q
-        go false q e = absurd (here (ltb-false 1048576 (length bs) q) (header (tokens bs)) refl e)
+        go : (b : Bool) → nat_lt MOST_LENGTH (length bs) ≡ b → (if b then Err V.TooLong else read_behind (body (length bs)) (header (tokens bs))) ≡ Err V.TooLong
+            → MOST_LENGTH < length bs
+        go true q e = ltb-true MOST_LENGTH (length bs) q
+        go false q e = absurd (here (ltb-false MOST_LENGTH (length bs) q) (header (tokens bs)) refl e)
 
     pub headed_fault : (e : NetTextFault) → e ≢ V.Memory → read_headed header body bs ≡ Err e → FaultOfFile bs Has Wrong e
     headed_fault V.Header d p = headless p
@@ -152,8 +153,8 @@ module _ {T : Type 0} (header : List PlacedToken → Headed) (body : ℕ → Ver
     headed_told view (Err V.TooLong) h = headed_fault V.TooLong (λ q. cc) (h (λ q. cc))
     headed_told view (Err V.Memory) h = tt
 
-    module _ (refuse : (e : ExprTextFault) → length bs ≤ 1048576 → Wrong e → Behind (Err e)) where
-      answered : (e : ExprTextFault) → length bs ≤ 1048576 → Wrong e → read_headed header body bs ≡ Err (in_file e)
+    module _ (refuse : (e : ExprTextFault) → length bs ≤ MOST_LENGTH → Wrong e → Behind (Err e)) where
+      answered : (e : ExprTextFault) → length bs ≤ MOST_LENGTH → Wrong e → read_headed header body bs ≡ Err (in_file e)
       answered e l w = let b = refuse e l w in past_header b.version b.behind b.short b.headed ∙ ap body_fault b.reads
 
       pub headed_refuses : (e : NetTextFault) → e ≢ V.Memory → FaultOfFile bs Has Wrong e → read_headed header body bs ≡ Err e
@@ -166,5 +167,5 @@ module _ {T : Type 0} (header : List PlacedToken → Headed) (body : ℕ → Ver
       headed_refuses (V.Number n) d h = answered (E.Number n) h.0 h.1
       headed_refuses (V.TooDeep n) d h = answered (E.TooDeep n) h.0 h.1
       headed_refuses V.TooLong d h =
-          ap (λ c. if c then Err V.TooLong else read_behind (body (length bs)) (header (tokens bs))) (lt-ltb 1048576 (length bs) h)
+          ap (λ c. if c then Err V.TooLong else read_behind (body (length bs)) (header (tokens bs))) (lt-ltb MOST_LENGTH (length bs) h)
       headed_refuses V.Memory d h = absurd (d refl)

@@ -5,11 +5,11 @@ use Rattle.sample_core.specs.Number.{is_number_word}
 use Rattle.leaf_expr.specs.WordReading.{reads, misspelt, unfit, natural_at}
 use Rattle.leaf_expr.specs.Token.{opening, PlacedToken}
 use Rattle.leaf_expr.specs.Language.{read_word}
-use Rattle.leaf_expr.specs.Grammar.{leaf, Sort}
+use Rattle.leaf_expr.specs.Grammar.{leaf, LeafSort}
 use Rattle.leaf_expr.specs.ReadLaws.{Completes}
 use Rattle.leaf_expr.proofs.Proper.{Proper}
 use Rattle.leaf_expr.proofs.LeafProper.{leaf_proper, among_unread, chosen_misspelt, chosen_unfit}
-use Rattle.net_text.specs.Grammar.{Version, networks, NetSort, leaf_sort, network_sort, members_sort, time_sort, Timer, delay_timer, after_timer, repeatedly_timer, least, greatest, net_words, net_word_at, net_rows, net_row_at, col_rows, net_has_form, net_takes_number, leaf_row}
+use Rattle.net_text.specs.Grammar.{Version, networks, NetSort, leaf_sort, network_sort, members_sort, time_sort, Timer, delay_timer, after_timer, repeatedly_timer, least, greatest_time, net_words, net_word_at, net_rows, net_row_at, col_rows, net_has_form, net_takes_number, leaf_row}
 use Rattle.net_text.proofs.Carried.{meaning_same}
 use Rattle.net_text.proofs.Completed.{by_word, by_form, with_opening}
 
@@ -34,12 +34,12 @@ foreign network_sort w e = refl
 foreign members_sort w e = refl
 foreign (time_sort g) w e = chosen_unfit (is_number_word w) _ _ e
 
-carry : (v : Version) (s : Sort) (us : List PlacedToken) → Completes leaf s us → Completes (networks v) (leaf_sort s) us
+carry : (v : Version) (s : LeafSort) (us : List PlacedToken) → Completes leaf s us → Completes (networks v) (leaf_sort s) us
 carry v s us c =
     record { end = c.end; stop = c.stop; part = c.part; tree = c.tree; spells = c.spells; means = meaning_same v s c.part ∙ c.means }
 
 -- each form takes the time 1
-one_fits : (g : Timer) → natural_at (least g) (greatest g) (codes "1") ≡ reads 1
+one_fits : (g : Timer) → natural_at (least g) (greatest_time g) (codes "1") ≡ reads 1
 one_fits delay_timer = refl
 one_fits after_timer = refl
 one_fits repeatedly_timer = refl

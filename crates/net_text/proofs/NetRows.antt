@@ -3,10 +3,10 @@ use Rattle.std.proofs.Common.{refl, Option, Some, None, ◌≡◌}
 use Rattle.std.specs.Prelude.{option_and_then}
 use Rattle.sample_core.specs.TypeTree.{TypeTree}
 use Rattle.leaf_core.specs.Expression.{Expression, input, unit_expr, pair_expr, then_expr, no_event_expr}
-use Rattle.leaf_expr.specs.Language.{meaning}
+use Rattle.leaf_expr.specs.Language.{meant}
 use Rattle.leaf_expr.specs.Grammar.{type_sort, expression_sort, word_at, row_at, words, rows}
 use Rattle.net_tree.specs.Network.{Network, arr, seq, first, hold, accum_by}
-use Rattle.net_text.specs.Sugar.{swap, second, beside, fan_out, never, accum_hold_by}
+use Rattle.net_text.specs.Sugar.{swap_sides, second, beside, fan_out, never, accum_hold_by}
 use Rattle.net_text.specs.Grammar.{net_words, net_word_at, net_rows, net_row_at, col_rows, networks, leaf_sort, network_sort}
 use Rattle.net_text.specs.FileRows.{CellRows, NetworkRows, SugarRows, IdentityIs, ConstantIs, SecondIs, BesideIs, FanOutIs, NeverIs, NowIs, EdgeIs, AccumHoldByIs, NewRows, NewFaultRows, FileFaultRows, NumberFaultRows, MembersFaultRows}
 
@@ -53,17 +53,17 @@ constant_parts (Some c) = refl
 
 pub constant_is : ConstantIs
 unfolding word_at words row_at rows net_words net_word_at net_rows net_row_at
-constant_is e v = constant_parts (meaning (networks v) (leaf_sort expression_sort) e)
+constant_is e v = constant_parts (meant (networks v) (leaf_sort expression_sort) e)
 
 second_parts : (f : Option (Network Expression))
     → option_and_then (λ f. Some (second f)) f
-    ≡ option_and_then (λ h. Some (seq (arr swap) h)) (option_and_then (λ g. Some (seq g (arr swap))) (option_and_then (λ f. Some (first f)) f))
+    ≡ option_and_then (λ h. Some (seq (arr swap_sides) h)) (option_and_then (λ g. Some (seq g (arr swap_sides))) (option_and_then (λ f. Some (first f)) f))
 second_parts None = refl
 second_parts (Some f) = refl
 
 pub second_is : SecondIs
 unfolding word_at words row_at rows net_words net_word_at net_rows net_row_at
-second_is f v = second_parts (meaning (networks v) network_sort f)
+second_is f v = second_parts (meant (networks v) network_sort f)
 
 -- two makers that make the same of two parts, and nothing where one is missing
 same_of_two : {A B R : Type 0} (f g : Option A → Option B → Option R) → ((b : Option B) → f None b ≡ g None b) → ((a : A) → f (Some a) None ≡ g (Some a) None)
@@ -84,13 +84,13 @@ pub beside_is : BesideIs
 unfolding word_at words row_at rows net_words net_word_at net_rows net_row_at
 beside_is f g v =
     same_of_two (both_make beside) (λ f g. both_make seq (makes first f) (makes second g)) (λ _. refl) (λ _. refl) (λ _ _. refl)
-    (meaning (networks v) network_sort f) (meaning (networks v) network_sort g)
+    (meant (networks v) network_sort f) (meant (networks v) network_sort g)
 
 pub fan_out_is : FanOutIs
 unfolding word_at words row_at rows net_words net_word_at net_rows net_row_at
 fan_out_is f g v =
     same_of_two (both_make fan_out) (λ f g. makes (seq (arr (pair_expr input input))) (both_make beside f g)) (λ _. refl) (λ _. refl) (λ _ _. refl)
-    (meaning (networks v) network_sort f) (meaning (networks v) network_sort g)
+    (meant (networks v) network_sort f) (meant (networks v) network_sort g)
 
 never_parts : (T : Option TypeTree)
     → option_and_then (λ T. Some (never T)) T ≡ option_and_then (λ x. Some (arr x)) (option_and_then (λ T. Some (no_event_expr T)) T)
@@ -99,7 +99,7 @@ never_parts (Some T) = refl
 
 pub never_is : NeverIs
 unfolding word_at words row_at rows net_words net_word_at net_rows net_row_at
-never_is T v = never_parts (meaning (networks v) (leaf_sort type_sort) T)
+never_is T v = never_parts (meant (networks v) (leaf_sort type_sort) T)
 
 pub now_is : NowIs
 unfolding word_at words row_at rows net_words net_word_at net_rows net_row_at
@@ -113,4 +113,4 @@ pub accum_hold_by_is : AccumHoldByIs
 unfolding word_at words row_at rows net_words net_word_at net_rows net_row_at
 accum_hold_by_is g z v =
     same_of_two (both_make accum_hold_by) (λ g z. both_make seq (both_make accum_by g z) (makes hold z)) (λ _. refl) (λ _. refl) (λ _ _. refl)
-    (meaning (networks v) (leaf_sort expression_sort) g) (meaning (networks v) (leaf_sort expression_sort) z)
+    (meant (networks v) (leaf_sort expression_sort) g) (meant (networks v) (leaf_sort expression_sort) z)

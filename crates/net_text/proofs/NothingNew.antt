@@ -4,7 +4,7 @@ use Rattle.std.specs.Prelude.{bytes_eq}
 use Rattle.leaf_core.specs.Expression.{Expression}
 use Rattle.leaf_expr.specs.WordReading.{reads, unfit}
 use Rattle.leaf_expr.specs.Sexpr.{Sexpr, Sexprs, atom, form, last, more}
-use Rattle.leaf_expr.specs.Language.{Places, Maker, Row, no_place, place, places, row_among, read_word, meaning, make_tree}
+use Rattle.leaf_expr.specs.Language.{Places, Maker, Row, no_place, place, places, row_among, read_word, meant, make_tree}
 use Rattle.leaf_expr.specs.Grammar.{word_among}
 use Rattle.leaf_expr.proofs.ReadOnly.{some_bind}
 use Rattle.net_tree.specs.Network.{Network, networks_of}
@@ -116,7 +116,7 @@ words_older = also refl (also refl (also refl (also refl tt)))
 mutual
   unfolding net_word_at net_row_at
 
-  nothing_new : (s : NetSort) (p : Sexpr) (x : NetTree s) → meaning (networks version_1) s p ≡ Some x → Older s x
+  nothing_new : (s : NetSort) (p : Sexpr) (x : NetTree s) → meant (networks version_1) s p ≡ Some x → Older s x
   nothing_new (leaf_sort s) p x e = tt
   nothing_new (time_sort g) p x e = tt
   nothing_new network_sort (atom w) x e = word_older w net_words x words_older e
@@ -138,14 +138,14 @@ mutual
   made s no_place r (more p ps) x k e = absurd (cc)
   made s (place q qs) make last x k e = absurd (cc)
   made s (place q qs) make (more p ps) x k e =
-      let i : (y : NetTree q) × (meaning (networks version_1) q p ≡ Some y) × (make_tree (networks version_1) s qs (make y) ps ≡ Some x) =
-      some_bind (meaning (networks version_1) q p) (λ y. make_tree (networks version_1) s qs (make y) ps) x e in
+      let i : (y : NetTree q) × (meant (networks version_1) q p ≡ Some y) × (make_tree (networks version_1) s qs (make y) ps ≡ Some x) =
+      some_bind (meant (networks version_1) q p) (λ y. make_tree (networks version_1) s qs (make y) ps) x e in
       made s qs (make i.0) ps x (k i.0 (nothing_new q p i.0 i.1)) i.2
   made s (places q) make last x k e = subst (Older s) (some_is e) (k [] tt)
   made s (places q) make (more p ps) x k e =
-      let i : (y : NetTree q) × (meaning (networks version_1) q p ≡ Some y)
+      let i : (y : NetTree q) × (meant (networks version_1) q p ≡ Some y)
       × (make_tree (networks version_1) s (places q) (λ ys. make (y ∷ ys)) ps ≡ Some x) =
-      some_bind (meaning (networks version_1) q p) (λ y. make_tree (networks version_1) s (places q) (λ ys. make (y ∷ ys)) ps) x e in
+      some_bind (meant (networks version_1) q p) (λ y. make_tree (networks version_1) s (places q) (λ ys. make (y ∷ ys)) ps) x e in
       made s (places q) (λ ys. make (i.0 ∷ ys)) ps x (λ ys a. k (i.0 ∷ ys) (nothing_new q p i.0 i.1, a)) i.2
 
 pub nothing_is_new : NothingNewLaw

@@ -2,7 +2,7 @@
 use Rattle.std.proofs.Common.{◌≡◌, ℕ, List, ◌∷◌, ap, ◌∙◌, Some}
 use Rattle.std.specs.Prelude.{option_and_then}
 use Rattle.leaf_expr.specs.Sexpr.{Sexpr, Sexprs, atom, form, last, more}
-use Rattle.leaf_expr.specs.Language.{Places, Maker, Row, no_place, place, places, meaning, make_tree}
+use Rattle.leaf_expr.specs.Language.{Places, Maker, Row, no_place, place, places, meant, make_tree}
 use Rattle.leaf_expr.proofs.Forms.{hit}
 use Rattle.leaf_expr.proofs.ReadOnly.{some_bind}
 use Rattle.net_text.specs.Grammar.{version_1, version_2, networks, NetSort, NetTree, leaf_sort, network_sort, members_sort, time_sort, net_word_at, net_row_at, net_rows, new_rows}
@@ -19,7 +19,7 @@ older_row (time_sort g) w r e = e
 mutual
   unfolding net_word_at
 
-  older : (s : NetSort) (p : Sexpr) (x : NetTree s) → meaning (networks version_1) s p ≡ Some x → meaning (networks version_2) s p ≡ Some x
+  older : (s : NetSort) (p : Sexpr) (x : NetTree s) → meant (networks version_1) s p ≡ Some x → meant (networks version_2) s p ≡ Some x
   older s (atom w) x e = e
   older s (form w ps) x e =
       let i : (r : Row NetSort NetTree (NetTree s)) × (net_row_at version_1 s w ≡ Some r)
@@ -34,14 +34,14 @@ mutual
   older_made s no_place r (more p ps) x e = e
   older_made s (place q qs) make last x e = e
   older_made s (place q qs) make (more p ps) x e =
-      let i : (y : NetTree q) × (meaning (networks version_1) q p ≡ Some y) × (make_tree (networks version_1) s qs (make y) ps ≡ Some x) =
-      some_bind (meaning (networks version_1) q p) (λ y. make_tree (networks version_1) s qs (make y) ps) x e in
+      let i : (y : NetTree q) × (meant (networks version_1) q p ≡ Some y) × (make_tree (networks version_1) s qs (make y) ps ≡ Some x) =
+      some_bind (meant (networks version_1) q p) (λ y. make_tree (networks version_1) s qs (make y) ps) x e in
       ap (option_and_then (λ y. make_tree (networks version_2) s qs (make y) ps)) (older q p i.0 i.1) ∙ older_made s qs (make i.0) ps x i.2
   older_made s (places q) make last x e = e
   older_made s (places q) make (more p ps) x e =
-      let i : (y : NetTree q) × (meaning (networks version_1) q p ≡ Some y)
+      let i : (y : NetTree q) × (meant (networks version_1) q p ≡ Some y)
       × (make_tree (networks version_1) s (places q) (λ ys. make (y ∷ ys)) ps ≡ Some x) =
-      some_bind (meaning (networks version_1) q p) (λ y. make_tree (networks version_1) s (places q) (λ ys. make (y ∷ ys)) ps) x e in
+      some_bind (meant (networks version_1) q p) (λ y. make_tree (networks version_1) s (places q) (λ ys. make (y ∷ ys)) ps) x e in
       ap (option_and_then (λ y. make_tree (networks version_2) s (places q) (λ ys. make (y ∷ ys)) ps)) (older q p i.0 i.1)
       ∙ older_made s (places q) (λ ys. make (i.0 ∷ ys)) ps x i.2
 

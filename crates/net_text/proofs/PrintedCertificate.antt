@@ -5,8 +5,8 @@ use Rattle.std.specs.Fmt.{decimal}
 use Rattle.std.proofs.lemmas.Bool.{ltb-false}
 use Rattle.leaf_core.specs.Expression.{Expression}
 use Rattle.leaf_expr.specs.Token.{closing, PlacedToken, tokens, tokens_in}
-use Rattle.leaf_expr.specs.Sexpr.{atom, form, Spells, SpellAll, form_spells, last_spells, more_spells, plain, all_plain, is_word, all_word_bytes, depth, depths, spelling}
-use Rattle.leaf_expr.specs.Language.{meaning, make_tree, read_word, places}
+use Rattle.leaf_expr.specs.Sexpr.{atom, form, Spells, SpellAll, form_spells, last_spells, more_spells, plain_sexpr, all_plain, is_word, all_word_bytes, depth, depths, sexpr_spelling}
+use Rattle.leaf_expr.specs.Language.{meant, make_tree, read_word, places}
 use Rattle.leaf_expr.specs.WordReading.{natural_at}
 use Rattle.leaf_expr.specs.ReadText.{fit}
 use Rattle.leaf_expr.specs.Grammar.{expression_sort}
@@ -14,6 +14,8 @@ use Rattle.leaf_expr.specs.Printing.{expression_sexpr}
 use Rattle.leaf_expr.proofs.Numbers.{natural_spelled, decimal_is_word}
 use Rattle.leaf_expr.proofs.PrintedMeans.{expression_means, expression_plain}
 use Rattle.leaf_expr.proofs.TokenLaws.{spells_printed}
+use Rattle.leaf_expr.specs.declared.type_reader.TheConstants.{MOST_OPEN}
+use Rattle.leaf_expr.specs.declared.number_reader.TheConstants.{MOST_INDEX}
 use Rattle.net_tree.specs.Place.{Tree, a_network, a_leaf}
 use Rattle.net_tree.specs.LawStep.{Step}
 use Rattle.net_tree.specs.declared.law_step.Law.{Law}
@@ -25,6 +27,7 @@ use Rattle.net_text.specs.CertificateLaws.{laws_tokens, IsGiven, no_tree, one_tr
 use Rattle.net_text.specs.CertificatePrinting.{law_spelling, direction_spelling, child_sexprs, tree_sexpr, given_sexprs, step_sexpr, step_lines, is_new_law, is_new_given, are_new_steps, IsLaw, ChildrenFit, GivenFits, StepFits, StepsFit, PrintedCertificateLaw}
 use Rattle.net_text.proofs.Carried.{meaning_same}
 use Rattle.net_text.proofs.PrintedFile.{printed, Allows, left_allowed, right_allowed, version_allows}
+use Rattle.net_text.specs.declared.certificate_reader.TheConstants.{STEP_ROOM}
 
 -- a word's bytes may all stand in words
 word_bytes : (w : List ℕ) → is_word w ≡ true → all_word_bytes w ≡ true
@@ -35,7 +38,7 @@ word_bytes (b ∷ w) e = e
 law_number : (most n : ℕ) → n ≤ 46 → 1 ≤ n → n ≤ most → read_word (natural_at 1 most (decimal n)) ≡ Some n
 law_number most n m l h = ap read_word (natural_spelled 1 most n l h (omega arith))
 
-number_plain : (n : ℕ) → n ≤ 65535 → all_word_bytes (decimal n) ≡ true
+number_plain : (n : ℕ) → n ≤ MOST_INDEX → all_word_bytes (decimal n) ≡ true
 number_plain n h = word_bytes (decimal n) (decimal_is_word n (omega arith))
 
 -- a printed law is that law, in a version that has it
@@ -47,7 +50,7 @@ law_within version_1 n h a = go (nat_lt 42 n) refl a
     go true p a = absurd (let i : version_1 ≡ version_2 = a refl in cc)
     go false p a = ltb-false 42 n p
 
-law_means : (v : Version) (law : Law) → IsLaw law → Allows v (is_new_law law) → meaning (step_parts v) law_sort (atom (law_spelling law)) ≡ Some law
+law_means : (v : Version) (law : Law) → IsLaw law → Allows v (is_new_law law) → meant (step_parts v) law_sort (atom (law_spelling law)) ≡ Some law
 unfolding step_word_at
 law_means v (Law.E n) h a = ap (λ o. read_word (fit (option_map Law.E o))) (law_number 18 n (omega (arith, h.1)) h.0 h.1)
 law_means v (Law.L n) h a = ap (λ o. read_word (fit (option_map Law.L o))) (law_number (last_law v) n h.1 h.0 (law_within v n h.1 a))
@@ -56,7 +59,7 @@ law_plain : (law : Law) → IsLaw law → is_word (law_spelling law) ≡ true
 law_plain (Law.E n) h = number_plain n (omega (arith, h.1))
 law_plain (Law.L n) h = number_plain n (omega (arith, h.1))
 
-direction_means : (v : Version) (d : Direction) → meaning (step_parts v) direction_sort (atom (direction_spelling d)) ≡ Some d
+direction_means : (v : Version) (d : Direction) → meant (step_parts v) direction_sort (atom (direction_spelling d)) ≡ Some d
 unfolding step_word_at directions
 direction_means v Direction.Forward = refl
 direction_means v Direction.Backward = refl
@@ -65,17 +68,17 @@ direction_plain : (d : Direction) → is_word (direction_spelling d) ≡ true
 direction_plain Direction.Forward = refl
 direction_plain Direction.Backward = refl
 
-child_means : (v : Version) (k : ℕ) → k ≤ 65535 → meaning (step_parts v) child_sort (atom (decimal k)) ≡ Some k
+child_means : (v : Version) (k : ℕ) → k ≤ MOST_INDEX → meant (step_parts v) child_sort (atom (decimal k)) ≡ Some k
 unfolding step_word_at
-child_means v k h = ap read_word (natural_spelled 0 65535 k (omega arith) h (omega arith))
+child_means v k h = ap read_word (natural_spelled 0 MOST_INDEX k (omega arith) h (omega arith))
 
 children_mean : (v : Version) (ks : List ℕ) → ChildrenFit ks → (make : List ℕ → List ℕ)
     → make_tree (step_parts v) position_sort (places child_sort) make (child_sexprs ks) ≡ Some (make ks)
 children_mean v [] h make = refl
-children_mean v (k ∷ ks) h make = let i : meaning (step_parts v) child_sort (atom (decimal k)) ≡ Some k = child_means v k h.0 in
+children_mean v (k ∷ ks) h make = let i : meant (step_parts v) child_sort (atom (decimal k)) ≡ Some k = child_means v k h.0 in
     rw i (children_mean v ks h.1 (λ xs. make (k ∷ xs)))
 
-position_means : (v : Version) (ks : List ℕ) → ChildrenFit ks → meaning (step_parts v) position_sort (form (codes "at") (child_sexprs ks)) ≡ Some ks
+position_means : (v : Version) (ks : List ℕ) → ChildrenFit ks → meant (step_parts v) position_sort (form (codes "at") (child_sexprs ks)) ≡ Some ks
 unfolding step_row_at position_rows
 position_means v ks h = children_mean v ks h (λ xs. xs)
 
@@ -91,12 +94,12 @@ given_plain (Law.L n) (Some (a_network f)) h = rw ((printed f version_2 h (λ e.
 given_plain (Law.E n) (Some (a_network f)) h = absurd h
 given_plain (Law.L n) (Some (a_leaf e)) h = absurd h
 
-step_plain : (s : Step) → StepFits s → plain (step_sexpr s) ≡ true
+step_plain : (s : Step) → StepFits s → plain_sexpr (step_sexpr s) ≡ true
 step_plain s h = rw (law_plain s.law h.law, direction_plain s.direction, children_plain s.position h.position, given_plain s.law s.given h.given) refl
 
 -- what is printed behind the position ends the step
 given_stands : (v : Version) (law : Law) (o : Option (Tree Expression)) (ts : List PlacedToken) (k : ℕ) (rest : List PlacedToken) → GivenFits law o
-    → Allows v (is_new_given o) → depths (given_sexprs o) ≤ 599 → SpellAll (given_sexprs o) ts ((k, closing) ∷ rest) → IsGiven v law o ts rest
+    → Allows v (is_new_given o) → depths (given_sexprs o) ≤ STEP_ROOM → SpellAll (given_sexprs o) ts ((k, closing) ∷ rest) → IsGiven v law o ts rest
 given_stands v law None ts k rest h w d last_spells = no_tree k rest
 given_stands v (Law.E n) (Some (a_leaf e)) ts k rest h w d (more_spells {n = m} a last_spells) =
     one_tree e m k ts rest
@@ -111,7 +114,7 @@ step_stands : (v : Version) (s : Step) (ts : List PlacedToken) (end : ℕ) (rest
     → Allows v (is_new_law s.law || is_new_given s.given) → Spells (step_sexpr s) ts end rest → IsStep v s ts rest
 step_stands v s ts end rest h w (form_spells {n = opened} {m = named} {k = close} {ts = us}
     (more_spells {n = law_end} {mid = vs} a (more_spells {n = direction_end} {mid = ws} b (more_spells {n = position_end} {mid = xs} c d)))) =
-    let deep : depth (step_sexpr s) ≤ 600 = h.within in
+    let deep : depth (step_sexpr s) ≤ MOST_OPEN = h.within in
     record {
       behind = xs;
       front =
@@ -149,7 +152,7 @@ steps_stand : (v : Version) (ss : List Step) (n : ℕ) → StepsFit ss → Allow
 steps_stand v [] n h w = no_step []
 steps_stand v (s ∷ ss) n h w =
     let new : Bool = is_new_law s.law || is_new_given s.given in
-    let end : ℕ = n + length (spelling (step_sexpr s)) in
+    let end : ℕ = n + length (sexpr_spelling (step_sexpr s)) in
     let spelt : Spells (step_sexpr s) (tokens_in false n (step_lines (s ∷ ss))) end (tokens_in false (suc end) (step_lines ss)) =
     spells_printed (step_sexpr s) n (10 ∷ step_lines ss) (step_plain s h.0) refl in
     a_step s ss (tokens_in false n (step_lines (s ∷ ss))) (tokens_in false (suc end) (step_lines ss)) []

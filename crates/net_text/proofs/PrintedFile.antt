@@ -5,24 +5,26 @@ use Rattle.std.specs.Fmt.{decimal}
 use Rattle.sample_core.specs.Spelling.{type_spelling}
 use Rattle.leaf_core.specs.Expression.{Expression}
 use Rattle.leaf_expr.specs.Token.{tokens, tokens_in, begins_word}
-use Rattle.leaf_expr.specs.Sexpr.{atom, form, plain, all_plain, is_word, depth, spelling}
-use Rattle.leaf_expr.specs.Language.{Begins, meaning, make_tree, read_word, places}
+use Rattle.leaf_expr.specs.Sexpr.{atom, form, plain_sexpr, all_plain, is_word, depth, sexpr_spelling}
+use Rattle.leaf_expr.specs.Language.{Begins, meant, make_tree, read_word, places}
 use Rattle.leaf_expr.specs.Grammar.{expression_sort, index_sort}
 use Rattle.leaf_expr.specs.Printing.{expression_sexpr, InRange}
 use Rattle.leaf_expr.proofs.Numbers.{natural_spelled, decimal_is_word}
 use Rattle.leaf_expr.proofs.PrintedMeans.{expression_means, expression_plain, index_means}
 use Rattle.leaf_expr.proofs.TextLaws.{printed_type_begins}
 use Rattle.leaf_expr.proofs.TokenLaws.{spells_printed}
-use Rattle.net_tree.specs.Network.{Network, Networks, networks_of, arr, seq, first, par, loop_pre, initial_out, initial_in, i_pre, delay, hold, accum_by, after, repeatedly, time, integral, switch, d_switch, r_switch, dr_switch, rp_switch, k_switch, p_switch, old, no_members, and_member}
-use Rattle.net_text.specs.Grammar.{Version, version_1, version_2, networks, network_sort, members_sort, leaf_sort, time_sort, Timer, delay_timer, after_timer, repeatedly_timer, least, greatest, net_word_at, net_words, net_row_at, net_rows, col_rows}
+use Rattle.leaf_expr.specs.declared.type_reader.TheConstants.{MOST_OPEN}
+use Rattle.leaf_expr.specs.declared.number_reader.TheConstants.{MOST_INDEX}
+use Rattle.net_tree.specs.Network.{Network, Networks, networks_of, arr, seq, first, par, loop_pre, initial_out, initial_in, i_pre, delay, hold, accum_by, after, repeatedly, time, integral, switch, r_switch, rp_switch, k_switch, p_switch, old, no_members, and_member, at_once, delayed}
+use Rattle.net_text.specs.Grammar.{Version, version_1, version_2, networks, network_sort, members_sort, leaf_sort, time_sort, Timer, delay_timer, after_timer, repeatedly_timer, least, greatest_time, net_word_at, net_words, net_row_at, net_rows, col_rows}
 use Rattle.net_text.specs.Printing.{network_sexpr, network_sexprs, is_new, are_new, version_by, version_word, Writable, AllWritable, TimeFits}
 use Rattle.net_text.specs.FileLaws.{PrintedFileLaw, header_tokens}
 use Rattle.net_text.proofs.Carried.{meaning_same}
 
-leaf_means : (v : Version) (e : Expression) → InRange e → meaning (networks v) (leaf_sort expression_sort) (expression_sexpr e) ≡ Some e
+leaf_means : (v : Version) (e : Expression) → InRange e → meant (networks v) (leaf_sort expression_sort) (expression_sexpr e) ≡ Some e
 leaf_means v e r = meaning_same v expression_sort (expression_sexpr e) ∙ expression_means e r
 
-index_kept : (v : Version) (k : ℕ) → k ≤ 65535 → meaning (networks v) (leaf_sort index_sort) (atom (decimal k)) ≡ Some k
+index_kept : (v : Version) (k : ℕ) → k ≤ MOST_INDEX → meant (networks v) (leaf_sort index_sort) (atom (decimal k)) ≡ Some k
 index_kept v k r = meaning_same v index_sort (atom (decimal k)) ∙ index_means k r
 
 low : (g : Timer) (q : ℕ) → TimeFits g q → q < 2 ^ 64
@@ -30,9 +32,9 @@ low delay_timer q r = omega (arith, r.1)
 low after_timer q r = omega (arith, r.1)
 low repeatedly_timer q r = omega (arith, r.1)
 
-time_means : (v : Version) (g : Timer) (q : ℕ) → TimeFits g q → meaning (networks v) (time_sort g) (atom (decimal q)) ≡ Some q
+time_means : (v : Version) (g : Timer) (q : ℕ) → TimeFits g q → meant (networks v) (time_sort g) (atom (decimal q)) ≡ Some q
 unfolding net_word_at
-time_means v g q r = ap read_word (natural_spelled (least g) (greatest g) q r.0 r.1 (low g q r))
+time_means v g q r = ap read_word (natural_spelled (least g) (greatest_time g) q r.0 r.1 (low g q r))
 
 time_plain : (g : Timer) (q : ℕ) → TimeFits g q → is_word (decimal q) ≡ true
 time_plain g q r = decimal_is_word q (low g q r)
@@ -73,7 +75,7 @@ mutual
   unfolding net_word_at net_words net_row_at net_rows col_rows listed
 
   pub printed : (f : Network Expression) (v : Version) → Writable f → Allows v (is_new f)
-      → (meaning (networks v) network_sort (network_sexpr f) ≡ Some f) × (plain (network_sexpr f) ≡ true)
+      → (meant (networks v) network_sort (network_sexpr f) ≡ Some f) × (plain_sexpr (network_sexpr f) ≡ true)
   printed (arr e) v r h = (rw (leaf_means v e r) refl, rw (expression_plain e r) refl)
   printed (i_pre e) v r h = (rw (leaf_means v e r) refl, rw (expression_plain e r) refl)
   printed (hold e) v r h = (rw (leaf_means v e r) refl, rw (expression_plain e r) refl)
@@ -89,15 +91,15 @@ mutual
       let i = printed f v r.0 (left_allowed v (is_new f) (is_new g) h) in
       let j = printed g v r.1 (right_allowed v (is_new f) (is_new g) h) in
       (rw (i.0, j.0) refl, rw (i.1, j.1) refl)
-  printed (switch f g) v r h =
+  printed (switch at_once f g) v r h =
       let i = printed f v r.0 (left_allowed v (is_new f) (is_new g) h) in
       let j = printed g v r.1 (right_allowed v (is_new f) (is_new g) h) in
       (rw (i.0, j.0) refl, rw (i.1, j.1) refl)
-  printed (d_switch f g) v r h =
+  printed (switch delayed f g) v r h =
       let i = printed f v r.0 (left_allowed v (is_new f) (is_new g) h) in
       let j = printed g v r.1 (right_allowed v (is_new f) (is_new g) h) in
       (rw (i.0, j.0) refl, rw (i.1, j.1) refl)
-  printed (r_switch f g) v r h =
+  printed (r_switch at_once f g) v r h =
       let i = printed f v r.0 (left_allowed v (is_new f) (is_new g) h) in
       let j = printed g v r.1 (right_allowed v (is_new f) (is_new g) h) in
       (rw (i.0, j.0) refl, rw (i.1, j.1) refl)
@@ -114,10 +116,10 @@ mutual
       let i = members_printed fs v r.1 (left_allowed v (are_new fs) (is_new e || is_new t) h) in
       let j = printed e v r.2 (left_allowed v (is_new e) (is_new t) l) in
       let k = printed t v r.3 (right_allowed v (is_new e) (is_new t) l) in
-      let m : meaning (networks v) members_sort (form (codes "col") (network_sexprs fs)) ≡ Some fs = i.1 networks_of ∙ ap Some (listed_are fs) in
+      let m : meant (networks v) members_sort (form (codes "col") (network_sexprs fs)) ≡ Some fs = i.1 networks_of ∙ ap Some (listed_are fs) in
       (rw (leaf_means v c r.0, m, j.0, k.0) refl, rw (expression_plain c r.0, i.2, j.1, k.1) refl)
   printed (old k) v r h = (
-    let i : meaning (networks v) (leaf_sort index_sort) (atom (decimal k)) ≡ Some k = index_kept v k r in rw i refl,
+    let i : meant (networks v) (leaf_sort index_sort) (atom (decimal k)) ≡ Some k = index_kept v k r in rw i refl,
     rw (decimal_is_word k (omega arith)) refl,
   )
   printed (initial_out c f) version_2 r h =
@@ -126,18 +128,18 @@ mutual
   printed (initial_in c f) version_2 r h =
       let i = printed f version_2 r.1 (λ e. refl) in
       (rw (leaf_means version_2 c r.0, i.0) refl, rw (expression_plain c r.0, i.1) refl)
-  printed (dr_switch f g) version_2 r h =
+  printed (r_switch delayed f g) version_2 r h =
       let i = printed f version_2 r.0 (λ e. refl) in
       let j = printed g version_2 r.1 (λ e. refl) in
       (rw (i.0, j.0) refl, rw (i.1, j.1) refl)
   printed (rp_switch fs c t) version_2 r h =
       let i = members_printed fs version_2 r.0 (λ e. refl) in
       let k = printed t version_2 r.2 (λ e. refl) in
-      let m : meaning (networks version_2) members_sort (form (codes "col") (network_sexprs fs)) ≡ Some fs = i.1 networks_of ∙ ap Some (listed_are fs) in
+      let m : meant (networks version_2) members_sort (form (codes "col") (network_sexprs fs)) ≡ Some fs = i.1 networks_of ∙ ap Some (listed_are fs) in
       (rw (m, leaf_means version_2 c r.1, k.0) refl, rw (i.2, expression_plain c r.1, k.1) refl)
   printed (initial_out c f) version_1 r h = absurd (not_second (h refl))
   printed (initial_in c f) version_1 r h = absurd (not_second (h refl))
-  printed (dr_switch f g) version_1 r h = absurd (not_second (h refl))
+  printed (r_switch delayed f g) version_1 r h = absurd (not_second (h refl))
   printed (rp_switch fs c t) version_1 r h = absurd (not_second (h refl))
 
   members_printed : (fs : Networks Expression) (v : Version) → AllWritable fs → Allows v (are_new fs) →
@@ -154,8 +156,8 @@ mutual
 
 pub printed_network : (f : Network Expression) (v : Version) (room n : ℕ) (bs : List ℕ) → Writable f → Allows v (is_new f) → depth (network_sexpr f) ≤ room
     → begins_word bs ≡ false
-    → (let end = n + length (spelling (network_sexpr f)) in
-    Begins (networks v) room network_sort f (tokens_in false n (spelling (network_sexpr f) ++ bs)) end (tokens_in false end bs))
+    → (let end = n + length (sexpr_spelling (network_sexpr f)) in
+    Begins (networks v) room network_sort f (tokens_in false n (sexpr_spelling (network_sexpr f) ++ bs)) end (tokens_in false end bs))
 printed_network f v room n bs w h d b =
     let i = printed f v w h in
     record { part = network_sexpr f; spells = spells_printed (network_sexpr f) n bs i.1 b; means = i.0; within = d }
@@ -168,7 +170,7 @@ header_stands version_2 bs = refl
 pub printed_file : PrintedFileLaw
 printed_file A f w a d l =
     let v : Version = version_by (is_new f) in
-    let net : List ℕ = spelling (network_sexpr f) ++ 10 ∷ [] in
+    let net : List ℕ = sexpr_spelling (network_sexpr f) ++ 10 ∷ [] in
     let stop : ℕ = 14 + length (type_spelling A) in
     record {
       short = l;
@@ -179,8 +181,8 @@ printed_file A f w a d l =
       type_end = stop;
       network =
           tokens_in false (suc stop) net;
-      input = printed_type_begins A 600 14 (10 ∷ net) a refl;
+      input = printed_type_begins A MOST_OPEN 14 (10 ∷ net) a refl;
       network_end = suc stop
-          + length (spelling (network_sexpr f));
-      body = printed_network f v 600 (suc stop) (10 ∷ []) w (version_allows (is_new f)) d refl;
+          + length (sexpr_spelling (network_sexpr f));
+      body = printed_network f v MOST_OPEN (suc stop) (10 ∷ []) w (version_allows (is_new f)) d refl;
     }

@@ -1,21 +1,20 @@
 -- Steps of reading networks, as the code takes them.
 use Rattle.std.proofs.Common.{◌≡◌, ℕ, true, false, List, [], ◌∷◌, refl, sym, ap, subst, ◌∙◌, ◌-◌, ◌≤◌, IfOk, Result, Ok, Err, Some, None, map, arith}
 use Rattle.std.specs.Prelude.{codes, bytes_eq, IfErr}
-use Rattle.leaf_core.specs.Expression.{Expression}
 use Rattle.leaf_core.specs.ExpressionView.{expression_of}
 use Rattle.leaf_core.specs.declared.expr.Expr.{Expr}
 use Rattle.leaf_expr.specs.Token.{PlacedToken, tokens_from}
 use Rattle.leaf_expr.specs.WordReading.{natural_at}
 use Rattle.leaf_expr.specs.Language.{Begins, Places, Maker, place, places}
-use Rattle.leaf_expr.specs.Grammar.{leaf, Sort, Tree}
+use Rattle.leaf_expr.specs.Grammar.{leaf, LeafSort, LeafTree}
 use Rattle.leaf_expr.specs.ReadText.{GivesTree, IsFault, tree_at}
-use Rattle.leaf_expr.specs.TreeReader.{Read, word_read, read, read_head}
-use Rattle.leaf_expr.proofs.ReadSteps.{Refuses, passed, formless_read}
+use Rattle.leaf_expr.specs.TreeReader.{word_read, read, read_head}
+use Rattle.leaf_expr.proofs.ReadSteps.{Refuses, formless_read}
 use Rattle.leaf_expr.proofs.Answered.{tree_given}
 use Rattle.leaf_expr.proofs.PartSteps.{parts, part, no_part}
 use Rattle.leaf_expr.specs.declared.text_fault.ExprTextFault.{ExprTextFault}
 use Rattle.leaf_expr.specs.declared.text_fault.ExprTextFault.TheVariants as E
-use Rattle.sample_core.specs.TypeTree.{TypeTree}
+use Rattle.leaf_expr.specs.declared.type_reader.TheConstants.{MOST_OPEN}
 use Rattle.sample_core.specs.Answer.{◌>>=◌}
 use Rattle.net_tree.specs.Network.{Network, networks_of, and_member, map_network, map_networks}
 use Rattle.net_tree.specs.FormView.{fed_form_of, fed_tree}
@@ -23,13 +22,12 @@ use Rattle.net_tree.specs.declared.forms.FedForm.{FedForm}
 use Rattle.net_tree.specs.declared.forms.FedForm.TheVariants as D
 use Rattle.net_tree.specs.NetworkView.{tree_of, members_of}
 use Rattle.net_tree.specs.declared.net.Net.{Net}
-use Rattle.net_text.specs.File.{at_end, read_network}
-use Rattle.net_text.specs.Grammar.{Version, networks, NetSort, NetTree, network_sort, members_sort, leaf_sort, time_sort, Timer, least, greatest, row, net_row_at, net_word_at, col_rows}
+use Rattle.net_text.specs.Grammar.{Version, networks, NetSort, NetTree, network_sort, members_sort, leaf_sort, time_sort, Timer, least, greatest_time, net_form, net_row_at, net_word_at, col_rows}
 use Rattle.net_text.proofs.Carried.{read_same}
 
 -- `col` alone begins the members of `pSwitch` and `rpSwitchB`
 pub col_named : (v : Version) (w : List ℕ) → bytes_eq w (codes "col") ≡ true
-    → Some (row (codes "col") (places network_sort) networks_of) ≡ net_row_at v members_sort w
+    → Some (net_form (codes "col") (places network_sort) networks_of) ≡ net_row_at v members_sort w
 unfolding net_row_at col_rows
 col_named v w e = rw e refl
 
@@ -44,11 +42,11 @@ col_no_word n w ts = refl
 
 module _ (v : Version) (size room : ℕ) {R : Type 0} where
   -- a type or an expression as a part
-  pub leaf_part : (s : Sort) {a : Tree s} {n : ℕ} {us : List PlacedToken} (ps : Places NetSort) (make : Tree s → Maker NetTree ps R) (ts : List PlacedToken) →
+  pub leaf_part : (s : LeafSort) {a : LeafTree s} {n : ℕ} {us : List PlacedToken} (ps : Places NetSort) (make : LeafTree s → Maker NetTree ps R) (ts : List PlacedToken) →
       read leaf size room s ts ≡ Ok (a, n, us) → parts (networks v) size room (place (leaf_sort s) ps) make ts ≡ parts (networks v) size room ps (make a) us
   leaf_part s ps make ts p = part (networks v) size room (leaf_sort s) ps make ts (read_same v size room s ts ∙ p)
 
-  pub no_leaf : (s : Sort) (x : ExprTextFault) (ps : Places NetSort) (make : Tree s → Maker NetTree ps R) (ts : List PlacedToken) →
+  pub no_leaf : (s : LeafSort) (x : ExprTextFault) (ps : Places NetSort) (make : LeafTree s → Maker NetTree ps R) (ts : List PlacedToken) →
       Refuses x (read leaf size room s ts) → Refuses x (parts (networks v) size room (place (leaf_sort s) ps) make ts)
   no_leaf s x ps make ts p = no_part (networks v) size room (leaf_sort s) x ps make ts (subst (Refuses x) (sym (read_same v size room s ts)) p)
 
@@ -63,15 +61,15 @@ pub refused_behind : {X Y : Type 0} (view : X → Y) (r : Result X ExprTextFault
 refused_behind view r {read = read} p g = subst (λ o. GivesTree view o read) p g
 
 -- what was read from byte at on, with so many parentheses open as leave that room
-pub room_left : {X : Type 0} (s : Sort) (text : List ℕ) (room at : ℕ) (view : X → Tree s × ℕ × List PlacedToken) (r : Result X ExprTextFault) → room ≤ 600 →
-    IfOk r (λ x. Begins leaf (600 - (600 - room)) s (view x).0 (tokens_from at text) (view x).1 (view x).2) → IfErr r (IsFault s text (600 - (600 - room)) at)
+pub room_left : {X : Type 0} (s : LeafSort) (text : List ℕ) (room at : ℕ) (view : X → LeafTree s × ℕ × List PlacedToken) (r : Result X ExprTextFault) → room ≤ MOST_OPEN →
+    IfOk r (λ x. Begins leaf (MOST_OPEN - (MOST_OPEN - room)) s (view x).0 (tokens_from at text) (view x).1 (view x).2) → IfErr r (IsFault s text (MOST_OPEN - (MOST_OPEN - room)) at)
     → GivesTree view r (tree_at s text room at)
 room_left s text room at view r h found refused =
-    subst (λ m. GivesTree view r (tree_at s text m at)) (omega arith) (tree_given s text (600 - (600 - room)) at view r found refused)
+    subst (λ m. GivesTree view r (tree_at s text m at)) (omega arith) (tree_given s text (MOST_OPEN - (MOST_OPEN - room)) at view r found refused)
 
 -- the time of a form is a number
 pub time_read : (v : Version) (size room : ℕ) (g : Timer) (ts : List PlacedToken) → read (networks v) size room (time_sort g) ts
-    ≡ (read_head leaf size room ts >>= (λ h. word_read h.0 h.1 h.2 (natural_at (least g) (greatest g) h.1)))
+    ≡ (read_head leaf size room ts >>= (λ h. word_read h.0 h.1 h.2 (natural_at (least g) (greatest_time g) h.1)))
 unfolding net_word_at
 time_read v size room g ts = formless_read (networks v) size room (time_sort g) ts refl
 
@@ -85,32 +83,3 @@ pub fed_made : (g : FedForm) (c : Expr) (h : Network Expr) → tree_of (fed_form
 fed_made D.LoopPre c h = refl
 fed_made D.InitialOut c h = refl
 fed_made D.InitialIn c h = refl
-
--- a network with nothing behind it, with the type before it
-module _ (A : TypeTree) where
-  beside : Network Expression → Result (TypeTree × Network Expression) ExprTextFault
-  beside g = Ok (A, g)
-
-  behind : Network Expression × ℕ × List PlacedToken → Result (TypeTree × Network Expression) ExprTextFault
-  behind g = at_end (A, g.0) g.2
-
-  alone : Network Expression × ℕ × List PlacedToken → Result (Network Expression) ExprTextFault
-  alone g = at_end g.0 g.2
-
-  with_type : (r : Read (Network Expression)) → (r >>= behind) ≡ ((r >>= alone) >>= beside)
-  unfolding beside behind alone
-  with_type (Ok (g, n, [])) = refl
-  with_type (Ok (g, n, x ∷ ts)) = refl
-  with_type (Err x) = refl
-
-  pub body_read : {g : Network Expression} (v : Version) (size n : ℕ) (ts : List PlacedToken) →
-      (read (networks v) size 600 network_sort ts >>= (λ h. at_end h.0 h.2)) ≡ Ok g → read_network v size (A, n, ts) ≡ Ok (A, g)
-  unfolding beside behind alone
-  body_read v size n ts p = with_type (read (networks v) size 600 network_sort ts) ∙ ap (λ q. q >>= beside) p
-
-  pub body_refused : (x : ExprTextFault) (v : Version) (size n : ℕ) (ts : List PlacedToken) →
-      Refuses x (read (networks v) size 600 network_sort ts >>= (λ h. at_end h.0 h.2)) → Refuses x (read_network v size (A, n, ts))
-  unfolding beside behind alone
-  body_refused x v size n ts p =
-      subst (Refuses x) (sym (with_type (read (networks v) size 600 network_sort ts)))
-      (passed x (read (networks v) size 600 network_sort ts >>= alone) beside p)

@@ -19,10 +19,11 @@ use Rattle.net_tree.specs.declared.law_step.Law.{Law}
 use Rattle.net_tree.specs.declared.law_step.Direction.{Direction}
 use Rattle.net_text.specs.Grammar.{Version, networks, NetTree}
 use Rattle.net_text.specs.StepGrammar.{step_parts, StepSort, StepTree, law_sort, direction_sort, position_sort}
-use Rattle.net_text.specs.Certificate.{given_sort, given_tree, ReadAndLeft, read_name, read_opening, read_given, read_step}
+use Rattle.net_text.specs.Certificate.{given_sort, tree_of_given, ReadAndLeft, read_name, read_opening, read_given, read_step}
 use Rattle.net_text.specs.CertificateLaws.{step_tokens, IsPart, IsTree, IsStepFront, IsGiven, no_tree, one_tree, IsStep, Unlike, missing, other, NoStep, unopened, unnamed, no_law, no_direction, no_position, no_end, unclosed}
 use Rattle.net_text.proofs.NetProper.{networks_proper}
 use Rattle.net_text.proofs.StepProper.{step_parts_proper}
+use Rattle.net_text.specs.declared.certificate_reader.TheConstants.{STEP_ROOM}
 use Rattle.sample_core.specs.Answer.{◌>>=◌}
 use Rattle.leaf_expr.specs.declared.text_fault.ExprTextFault.{ExprTextFault}
 use Rattle.leaf_expr.specs.declared.text_fault.ExprTextFault.TheVariants as E
@@ -106,31 +107,31 @@ module _ (size : ℕ) (v : Version) where
   refuses_opening ts e (other x us p d q) = ap (read_opening size v) p ∙ unlike_opening x us d ∙ ap Err (sym q)
 
   -- the end of a step
-  end_found : (ts : List PlacedToken) (y : ℕ × List PlacedToken) → read_end (networks v) size 599 ts ≡ Ok y → (m : ℕ) × (ts ≡ (m, closing) ∷ y.1)
+  end_found : (ts : List PlacedToken) (y : ℕ × List PlacedToken) → read_end (networks v) size STEP_ROOM ts ≡ Ok y → (m : ℕ) × (ts ≡ (m, closing) ∷ y.1)
   end_found [] y e = absurd (cc)
   end_found ((n, opening) ∷ ts) y e = absurd (cc)
   end_found ((n, closing) ∷ ts) y e = (n, ap (λ (z : ℕ × List PlacedToken). (n, closing) ∷ z.1) (ok_is e))
   end_found ((n, word w) ∷ ts) y e = absurd (cc)
 
-  end_refused : (ts : List PlacedToken) (e : ExprTextFault) → read_end (networks v) size 599 ts ≡ Err e → Unlike size closing ts e
+  end_refused : (ts : List PlacedToken) (e : ExprTextFault) → read_end (networks v) size STEP_ROOM ts ≡ Err e → Unlike size closing ts e
   end_refused [] e p = missing refl (sym (err_is p))
   end_refused ((n, opening) ∷ ts) e p = other (n, opening) ts refl (λ q. cc) (sym (err_is p))
   end_refused ((n, closing) ∷ ts) e p = absurd (cc)
   end_refused ((n, word w) ∷ ts) e p = other (n, word w) ts refl (λ q. cc) (sym (err_is p))
 
-  unlike_end : (x : PlacedToken) (us : List PlacedToken) → x.1 ≢ closing → read_end (networks v) size 599 (x ∷ us) ≡ Err (E.Syntax x.0)
+  unlike_end : (x : PlacedToken) (us : List PlacedToken) → x.1 ≢ closing → read_end (networks v) size STEP_ROOM (x ∷ us) ≡ Err (E.Syntax x.0)
   unlike_end (n, opening) us d = refl
   unlike_end (n, closing) us d = absurd (d refl)
   unlike_end (n, word w) us d = refl
 
-  refuses_end : (ts : List PlacedToken) (e : ExprTextFault) → Unlike size closing ts e → read_end (networks v) size 599 ts ≡ Err e
-  refuses_end ts e (missing p q) = ap (read_end (networks v) size 599) p ∙ ap Err (sym q)
-  refuses_end ts e (other x us p d q) = ap (read_end (networks v) size 599) p ∙ unlike_end x us d ∙ ap Err (sym q)
+  refuses_end : (ts : List PlacedToken) (e : ExprTextFault) → Unlike size closing ts e → read_end (networks v) size STEP_ROOM ts ≡ Err e
+  refuses_end ts e (missing p q) = ap (read_end (networks v) size STEP_ROOM) p ∙ ap Err (sym q)
+  refuses_end ts e (other x us p d q) = ap (read_end (networks v) size STEP_ROOM) p ∙ unlike_end x us d ∙ ap Err (sym q)
 
   module _ (law : Law) where
     -- a tree of the law's kind, and the end
     abbrev pub tree_and_end : List PlacedToken → Read (Option (Tree Expression))
-    tree_and_end ts = read_parts (networks v) size (read (networks v) size 599) 599 (place (given_sort law) no_place) (λ t. Some (given_tree law t)) ts
+    tree_and_end ts = read_parts (networks v) size (read (networks v) size STEP_ROOM) STEP_ROOM (place (given_sort law) no_place) (λ t. Some (tree_of_given law t)) ts
 
     pub given_on : (ts : List PlacedToken) → begins_closing ts ≡ false → read_given size v law ts ≡ tree_and_end ts
     given_on [] b = refl
@@ -144,29 +145,29 @@ module _ (size : ℕ) (v : Version) where
     no_closing p ts n rest (form_spells h) = refl
 
     tree_read : (t : NetTree (given_sort law)) (n : ℕ) (ts vs : List PlacedToken) → IsTree v law t ts n vs
-        → read (networks v) size 599 (given_sort law) ts ≡ Ok (t, n, vs)
-    tree_read t n ts vs b = only (networks v) (networks_proper v) size 599 (given_sort law) b.part ts n vs t b.spells b.means b.within
+        → read (networks v) size STEP_ROOM (given_sort law) ts ≡ Ok (t, n, vs)
+    tree_read t n ts vs b = only (networks v) (networks_proper v) size STEP_ROOM (given_sort law) b.part ts n vs t b.spells b.means b.within
 
     closed : (t : NetTree (given_sort law)) (vs : List PlacedToken) (g : Option (Tree Expression) × ℕ × List PlacedToken)
-        → (read_end (networks v) size 599 vs >>= (λ y. Ok (Some (given_tree law t), y.0, y.1))) ≡ Ok g
-        → (m : ℕ) × (vs ≡ (m, closing) ∷ g.2) × (g.0 ≡ Some (given_tree law t))
+        → (read_end (networks v) size STEP_ROOM vs >>= (λ y. Ok (Some (tree_of_given law t), y.0, y.1))) ≡ Ok g
+        → (m : ℕ) × (vs ≡ (m, closing) ∷ g.2) × (g.0 ≡ Some (tree_of_given law t))
     closed t vs g e =
-        let i : (y : ℕ × List PlacedToken) × (read_end (networks v) size 599 vs ≡ Ok y)
-        × (◌≡◌ {A = Read (Option (Tree Expression))} (Ok (Some (given_tree law t), y.0, y.1)) (Ok g)) =
-        bind_ok (read_end (networks v) size 599 vs) _ g e in
+        let i : (y : ℕ × List PlacedToken) × (read_end (networks v) size STEP_ROOM vs ≡ Ok y)
+        × (◌≡◌ {A = Read (Option (Tree Expression))} (Ok (Some (tree_of_given law t), y.0, y.1)) (Ok g)) =
+        bind_ok (read_end (networks v) size STEP_ROOM vs) _ g e in
         let j : (m : ℕ) × (vs ≡ (m, closing) ∷ i.0.1) = end_found vs i.0 i.1 in
-        let k : (Some (given_tree law t), i.0.0, i.0.1) ≡ g = ok_is i.2 in
+        let k : (Some (tree_of_given law t), i.0.0, i.0.1) ≡ g = ok_is i.2 in
         (j.0, j.1 ∙ ap (λ z. (j.0, closing) ∷ z.2) k, sym (ap (λ z. z.0) k))
 
     tree_found : (ts : List PlacedToken) (g : Option (Tree Expression) × ℕ × List PlacedToken) → tree_and_end ts ≡ Ok g → IsGiven v law g.0 ts g.2
     tree_found ts g e =
-        let i : (x : NetTree (given_sort law) × ℕ × List PlacedToken) × (read (networks v) size 599 (given_sort law) ts ≡ Ok x)
-        × ((read_end (networks v) size 599 x.2 >>= (λ y. Ok (Some (given_tree law x.0), y.0, y.1))) ≡ Ok g) =
-        bind_ok (read (networks v) size 599 (given_sort law) ts) _ g e in
+        let i : (x : NetTree (given_sort law) × ℕ × List PlacedToken) × (read (networks v) size STEP_ROOM (given_sort law) ts ≡ Ok x)
+        × ((read_end (networks v) size STEP_ROOM x.2 >>= (λ y. Ok (Some (tree_of_given law x.0), y.0, y.1))) ≡ Ok g) =
+        bind_ok (read (networks v) size STEP_ROOM (given_sort law) ts) _ g e in
         let j = closed i.0.0 i.0.2 g i.2 in
         subst (λ o. IsGiven v law o ts g.2) (sym j.2)
         (one_tree i.0.0 i.0.1 j.0 ts g.2
-        (subst (λ vs. IsTree v law i.0.0 ts i.0.1 vs) j.1 (found (networks v) size 599 (given_sort law) ts i.0 i.1)))
+        (subst (λ vs. IsTree v law i.0.0 ts i.0.1 vs) j.1 (found (networks v) size STEP_ROOM (given_sort law) ts i.0 i.1)))
 
     given_found : (ts : List PlacedToken) (g : Option (Tree Expression) × ℕ × List PlacedToken) → read_given size v law ts ≡ Ok g → IsGiven v law g.0 ts g.2
     given_found [] g e = tree_found [] g e
@@ -180,17 +181,17 @@ module _ (size : ℕ) (v : Version) where
     given_read o ts rest (one_tree t n m us vs b) = (
       suc m,
       given_on ts (no_closing b.part ts n _ b.spells)
-          ∙ bind_on (read (networks v) size 599 (given_sort law) ts) _ (t, n, (m, closing) ∷ rest) _ (tree_read t n ts _ b) refl,
+          ∙ bind_on (read (networks v) size STEP_ROOM (given_sort law) ts) _ (t, n, (m, closing) ∷ rest) _ (tree_read t n ts _ b) refl,
     )
 
   -- no tree stands behind a step's position, or no end behind the tree
   tree_refused : (law : Law) (direction : Direction) (at : List ℕ) (ts us : List PlacedToken) (e : ExprTextFault) → IsStepFront v law direction at ts us
       → begins_closing us ≡ false → tree_and_end law us ≡ Err e → NoStep v size ts e
   tree_refused law direction at ts us e f b p =
-      bind_err (read (networks v) size 599 (given_sort law) us) _ e p
-      (λ q. no_end law direction at us f b (stops (networks v) (networks_proper v) size 599 (given_sort law) us e q))
-      (λ x q r. bind_err (read_end (networks v) size 599 x.2) _ e r
-      (λ h. unclosed law direction at us f x.0 x.1 x.2 (found (networks v) size 599 (given_sort law) us x q) (end_refused x.2 e h)) (λ y h k. absurd (cc)))
+      bind_err (read (networks v) size STEP_ROOM (given_sort law) us) _ e p
+      (λ q. no_end law direction at us f b (stops (networks v) (networks_proper v) size STEP_ROOM (given_sort law) us e q))
+      (λ x q r. bind_err (read_end (networks v) size STEP_ROOM x.2) _ e r
+      (λ h. unclosed law direction at us f x.0 x.1 x.2 (found (networks v) size STEP_ROOM (given_sort law) us x q) (end_refused x.2 e h)) (λ y h k. absurd (cc)))
 
   given_refused : (law : Law) (direction : Direction) (at : List ℕ) (ts us : List PlacedToken) (e : ExprTextFault) → IsStepFront v law direction at ts us
       → read_given size v law us ≡ Err e → NoStep v size ts e
@@ -199,18 +200,18 @@ module _ (size : ℕ) (v : Version) where
   given_refused law direction at ts ((n, opening) ∷ us) e f p = tree_refused law direction at ts ((n, opening) ∷ us) e f refl p
   given_refused law direction at ts ((n, word w) ∷ us) e f p = tree_refused law direction at ts ((n, word w) ∷ us) e f refl p
 
-  part_read : (s : StepSort) (t : StepTree s) (n : ℕ) (ts vs : List PlacedToken) → IsPart v s t ts n vs → read (step_parts v) size 599 s ts ≡ Ok (t, n, vs)
-  part_read s t n ts vs b = only (step_parts v) (step_parts_proper v) size 599 s b.part ts n vs t b.spells b.means b.within
+  part_read : (s : StepSort) (t : StepTree s) (n : ℕ) (ts vs : List PlacedToken) → IsPart v s t ts n vs → read (step_parts v) size STEP_ROOM s ts ≡ Ok (t, n, vs)
+  part_read s t n ts vs b = only (step_parts v) (step_parts_proper v) size STEP_ROOM s b.part ts n vs t b.spells b.means b.within
 
-  part_found : (s : StepSort) (ts : List PlacedToken) (x : StepTree s × ℕ × List PlacedToken) → read (step_parts v) size 599 s ts ≡ Ok x
+  part_found : (s : StepSort) (ts : List PlacedToken) (x : StepTree s × ℕ × List PlacedToken) → read (step_parts v) size STEP_ROOM s ts ≡ Ok x
       → IsPart v s x.0 ts x.1 x.2
-  part_found s ts x e = found (step_parts v) size 599 s ts x e
+  part_found s ts x e = found (step_parts v) size STEP_ROOM s ts x e
 
-  part_refused : (s : StepSort) (ts : List PlacedToken) (e : ExprTextFault) → read (step_parts v) size 599 s ts ≡ Err e → Stops (step_parts v) size 599 s ts e
-  part_refused s ts e p = stops (step_parts v) (step_parts_proper v) size 599 s ts e p
+  part_refused : (s : StepSort) (ts : List PlacedToken) (e : ExprTextFault) → read (step_parts v) size STEP_ROOM s ts ≡ Err e → Stops (step_parts v) size STEP_ROOM s ts e
+  part_refused s ts e p = stops (step_parts v) (step_parts_proper v) size STEP_ROOM s ts e p
 
-  refuses_part : (s : StepSort) (ts : List PlacedToken) (e : ExprTextFault) → Stops (step_parts v) size 599 s ts e → read (step_parts v) size 599 s ts ≡ Err e
-  refuses_part s ts e p = refuses (step_parts v) (step_parts_proper v) size 599 s ts e p
+  refuses_part : (s : StepSort) (ts : List PlacedToken) (e : ExprTextFault) → Stops (step_parts v) size STEP_ROOM s ts e → read (step_parts v) size STEP_ROOM s ts ≡ Err e
+  refuses_part s ts e p = refuses (step_parts v) (step_parts_proper v) size STEP_ROOM s ts e p
 
   -- the step of what was read of it
   abbrev made : Law → Direction → List ℕ → Option (Tree Expression) × ℕ × List PlacedToken → ReadAndLeft Step
@@ -220,24 +221,24 @@ module _ (size : ℕ) (v : Version) where
   behind_position law direction p = read_given size v law p.2 >>= made law direction p.0
 
   abbrev behind_direction : Law → Direction × ℕ × List PlacedToken → ReadAndLeft Step
-  behind_direction law d = read (step_parts v) size 599 position_sort d.2 >>= behind_position law d.0
+  behind_direction law d = read (step_parts v) size STEP_ROOM position_sort d.2 >>= behind_position law d.0
 
   abbrev behind_law : Law × ℕ × List PlacedToken → ReadAndLeft Step
-  behind_law l = read (step_parts v) size 599 direction_sort l.2 >>= behind_direction l.0
+  behind_law l = read (step_parts v) size STEP_ROOM direction_sort l.2 >>= behind_direction l.0
 
   abbrev behind_opening : List PlacedToken → ReadAndLeft Step
-  behind_opening us = read (step_parts v) size 599 law_sort us >>= behind_law
+  behind_opening us = read (step_parts v) size STEP_ROOM law_sort us >>= behind_law
 
   -- behind its front a step is what its end makes it
   front_read : {y : ReadAndLeft Step} (law : Law) (direction : Direction) (at : List ℕ) (ts rest : List PlacedToken) → IsStepFront v law direction at ts rest
       → (read_given size v law rest >>= made law direction at) ≡ y → read_step size v ts ≡ y
   front_read {y = y} law direction at ts rest f e =
       bind_on (read_opening size v ts) behind_opening f.behind_name y (opening_read f.opened f.named ts f.behind_name f.starts)
-      (bind_on (read (step_parts v) size 599 law_sort f.behind_name) behind_law (law, f.law_end, f.behind_law) y
+      (bind_on (read (step_parts v) size STEP_ROOM law_sort f.behind_name) behind_law (law, f.law_end, f.behind_law) y
       (part_read law_sort law f.law_end f.behind_name f.behind_law f.is_law)
-      (bind_on (read (step_parts v) size 599 direction_sort f.behind_law) (behind_direction law) (direction, f.direction_end, f.behind_direction) y
+      (bind_on (read (step_parts v) size STEP_ROOM direction_sort f.behind_law) (behind_direction law) (direction, f.direction_end, f.behind_direction) y
       (part_read direction_sort direction f.direction_end f.behind_law f.behind_direction f.is_direction)
-      (bind_on (read (step_parts v) size 599 position_sort f.behind_direction) (behind_position law direction) (at, f.position_end, rest) y
+      (bind_on (read (step_parts v) size STEP_ROOM position_sort f.behind_direction) (behind_position law direction) (at, f.position_end, rest) y
       (part_read position_sort at f.position_end f.behind_direction rest f.is_position) e)))
 
   pub step_read : (s : Step) (ts rest : List PlacedToken) → IsStep v s ts rest → read_step size v ts ≡ Ok (s, rest)
@@ -256,12 +257,12 @@ module _ (size : ℕ) (v : Version) where
   step_found ts x e =
       let o : (us : List PlacedToken) × (read_opening size v ts ≡ Ok us) × (behind_opening us ≡ Ok x) = bind_ok (read_opening size v ts) behind_opening x e in
       let i : (a : ℕ) × (b : ℕ) × (ts ≡ step_tokens a b o.0) = opening_found ts o.0 o.1 in
-      let l : (l : Law × ℕ × List PlacedToken) × (read (step_parts v) size 599 law_sort o.0 ≡ Ok l) × (behind_law l ≡ Ok x) =
-      bind_ok (read (step_parts v) size 599 law_sort o.0) behind_law x o.2 in
-      let d : (d : Direction × ℕ × List PlacedToken) × (read (step_parts v) size 599 direction_sort l.0.2 ≡ Ok d) × (behind_direction l.0.0 d ≡ Ok x) =
-      bind_ok (read (step_parts v) size 599 direction_sort l.0.2) (behind_direction l.0.0) x l.2 in
-      let p : (p : List ℕ × ℕ × List PlacedToken) × (read (step_parts v) size 599 position_sort d.0.2 ≡ Ok p) × (behind_position l.0.0 d.0.0 p ≡ Ok x) =
-      bind_ok (read (step_parts v) size 599 position_sort d.0.2) (behind_position l.0.0 d.0.0) x d.2 in
+      let l : (l : Law × ℕ × List PlacedToken) × (read (step_parts v) size STEP_ROOM law_sort o.0 ≡ Ok l) × (behind_law l ≡ Ok x) =
+      bind_ok (read (step_parts v) size STEP_ROOM law_sort o.0) behind_law x o.2 in
+      let d : (d : Direction × ℕ × List PlacedToken) × (read (step_parts v) size STEP_ROOM direction_sort l.0.2 ≡ Ok d) × (behind_direction l.0.0 d ≡ Ok x) =
+      bind_ok (read (step_parts v) size STEP_ROOM direction_sort l.0.2) (behind_direction l.0.0) x l.2 in
+      let p : (p : List ℕ × ℕ × List PlacedToken) × (read (step_parts v) size STEP_ROOM position_sort d.0.2 ≡ Ok p) × (behind_position l.0.0 d.0.0 p ≡ Ok x) =
+      bind_ok (read (step_parts v) size STEP_ROOM position_sort d.0.2) (behind_position l.0.0 d.0.0) x d.2 in
       let g : (g : Option (Tree Expression) × ℕ × List PlacedToken) × (read_given size v l.0.0 p.0.2 ≡ Ok g) × (made l.0.0 d.0.0 p.0.0 g ≡ Ok x) =
       bind_ok (read_given size v l.0.0 p.0.2) (made l.0.0 d.0.0 p.0.0) x p.2 in
       made_is l.0.0 d.0.0 p.0.0 g.0 ts x g.2
@@ -289,12 +290,12 @@ module _ (size : ℕ) (v : Version) where
   step_refused ts e h =
       bind_err (read_opening size v ts) behind_opening e h (opening_refused ts e)
       (λ us o h. let i : (a : ℕ) × (b : ℕ) × (ts ≡ step_tokens a b us) = opening_found ts us o in
-      bind_err (read (step_parts v) size 599 law_sort us) behind_law e h (λ q. no_law i.0 i.1 us i.2 (part_refused law_sort us e q))
+      bind_err (read (step_parts v) size STEP_ROOM law_sort us) behind_law e h (λ q. no_law i.0 i.1 us i.2 (part_refused law_sort us e q))
       (λ l a h. let is_law : IsPart v law_sort l.0 us l.1 l.2 = part_found law_sort us l a in
-      bind_err (read (step_parts v) size 599 direction_sort l.2) (behind_direction l.0) e h
+      bind_err (read (step_parts v) size STEP_ROOM direction_sort l.2) (behind_direction l.0) e h
       (λ q. no_direction i.0 i.1 l.1 l.0 us l.2 i.2 is_law (part_refused direction_sort l.2 e q))
       (λ d b h. let is_direction : IsPart v direction_sort d.0 l.2 d.1 d.2 = part_found direction_sort l.2 d b in
-      bind_err (read (step_parts v) size 599 position_sort d.2) (behind_position l.0 d.0) e h
+      bind_err (read (step_parts v) size STEP_ROOM position_sort d.2) (behind_position l.0 d.0) e h
       (λ q. no_position i.0 i.1 l.1 d.1 l.0 d.0 us l.2 d.2 i.2 is_law is_direction (part_refused position_sort d.2 e q))
       (λ p c h. let front : IsStepFront v l.0 d.0 p.0 ts p.2 =
       record {
@@ -318,24 +319,24 @@ module _ (size : ℕ) (v : Version) where
   refuses_step ts e (unnamed a us s u) = bind_gone (read_opening size v ts) behind_opening e (ap (read_opening size v) s ∙ refuses_name us e u)
   refuses_step ts e (no_law a b us s h) =
       bind_on (read_opening size v ts) behind_opening us (Err e) (opening_read a b ts us s)
-      (bind_gone (read (step_parts v) size 599 law_sort us) behind_law e (refuses_part law_sort us e h))
+      (bind_gone (read (step_parts v) size STEP_ROOM law_sort us) behind_law e (refuses_part law_sort us e h))
   refuses_step ts e (no_direction a b n law us vs s l h) =
       bind_on (read_opening size v ts) behind_opening us (Err e) (opening_read a b ts us s)
-      (bind_on (read (step_parts v) size 599 law_sort us) behind_law (law, n, vs) (Err e) (part_read law_sort law n us vs l)
-      (bind_gone (read (step_parts v) size 599 direction_sort vs) (behind_direction law) e (refuses_part direction_sort vs e h)))
+      (bind_on (read (step_parts v) size STEP_ROOM law_sort us) behind_law (law, n, vs) (Err e) (part_read law_sort law n us vs l)
+      (bind_gone (read (step_parts v) size STEP_ROOM direction_sort vs) (behind_direction law) e (refuses_part direction_sort vs e h)))
   refuses_step ts e (no_position a b n m law direction us vs ws s l d h) =
       bind_on (read_opening size v ts) behind_opening us (Err e) (opening_read a b ts us s)
-      (bind_on (read (step_parts v) size 599 law_sort us) behind_law (law, n, vs) (Err e) (part_read law_sort law n us vs l)
-      (bind_on (read (step_parts v) size 599 direction_sort vs) (behind_direction law) (direction, m, ws) (Err e) (part_read direction_sort direction m vs ws d)
-      (bind_gone (read (step_parts v) size 599 position_sort ws) (behind_position law direction) e (refuses_part position_sort ws e h))))
+      (bind_on (read (step_parts v) size STEP_ROOM law_sort us) behind_law (law, n, vs) (Err e) (part_read law_sort law n us vs l)
+      (bind_on (read (step_parts v) size STEP_ROOM direction_sort vs) (behind_direction law) (direction, m, ws) (Err e) (part_read direction_sort direction m vs ws d)
+      (bind_gone (read (step_parts v) size STEP_ROOM position_sort ws) (behind_position law direction) e (refuses_part position_sort ws e h))))
   refuses_step ts e (no_end law direction at us f b h) =
       front_read law direction at ts us f
       (bind_gone (read_given size v law us) (made law direction at) e
       (given_on law us b
-      ∙ bind_gone (read (networks v) size 599 (given_sort law) us) _ e (refuses (networks v) (networks_proper v) size 599 (given_sort law) us e h)))
+      ∙ bind_gone (read (networks v) size STEP_ROOM (given_sort law) us) _ e (refuses (networks v) (networks_proper v) size STEP_ROOM (given_sort law) us e h)))
   refuses_step ts e (unclosed law direction at us f t n vs b u) =
       front_read law direction at ts us f
       (bind_gone (read_given size v law us) (made law direction at) e
       (given_on law us (no_closing law b.part us n vs b.spells)
-      ∙ bind_on (read (networks v) size 599 (given_sort law) us) _ (t, n, vs) (Err e) (tree_read law t n us vs b)
-      (bind_gone (read_end (networks v) size 599 vs) _ e (refuses_end vs e u))))
+      ∙ bind_on (read (networks v) size STEP_ROOM (given_sort law) us) _ (t, n, vs) (Err e) (tree_read law t n us vs b)
+      (bind_gone (read_end (networks v) size STEP_ROOM vs) _ e (refuses_end vs e u))))

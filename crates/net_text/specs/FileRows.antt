@@ -3,9 +3,9 @@ use Rattle.std.specs.Prelude.{◌≡◌, ◌^◌, ℕ, List, [], ◌∷◌, ◌+
 use Rattle.sample_core.specs.TypeTree.{unit_ty, int_ty}
 use Rattle.leaf_core.specs.Expression.{Expression, input, unit_expr, bool_expr, int_expr, pair_expr, fst, snd, then_expr, not_expr, and_expr, if_expr, no_event_expr, event_expr}
 use Rattle.leaf_expr.specs.Sexpr.{Sexpr, atom}
-use Rattle.leaf_expr.specs.Language.{meaning}
+use Rattle.leaf_expr.specs.Language.{meant}
 use Rattle.leaf_expr.specs.Printing.{one, two, three}
-use Rattle.net_tree.specs.Network.{Network, arr, seq, first, par, loop_pre, initial_out, initial_in, i_pre, delay, hold, accum_by, after, repeatedly, time, integral, switch, d_switch, r_switch, dr_switch, rp_switch, k_switch, p_switch, old, no_members, and_member}
+use Rattle.net_tree.specs.Network.{Network, arr, seq, first, par, loop_pre, initial_out, initial_in, i_pre, delay, hold, accum_by, after, repeatedly, time, integral, switch, r_switch, rp_switch, k_switch, p_switch, old, no_members, and_member, at_once, delayed}
 use Rattle.net_text.specs.Grammar.{Version, networks, network_sort}
 use Rattle.net_text.specs.File.{read_file}
 use Rattle.net_text.specs.declared.fault.NetTextFault.{NetTextFault}
@@ -67,9 +67,9 @@ abbrev pub NetworkRows : Type 0
 NetworkRows =
     IsNetwork (codes "(first time)") (first time)
     × IsNetwork (codes "(>>> time integral)") (seq time integral)
-    × IsNetwork (codes "(switch time integral)") (switch time integral)
-    × IsNetwork (codes "(dSwitch time integral)") (d_switch time integral)
-    × IsNetwork (codes "(rSwitch time integral)") (r_switch time integral)
+    × IsNetwork (codes "(switch time integral)") (switch at_once time integral)
+    × IsNetwork (codes "(dSwitch time integral)") (switch delayed time integral)
+    × IsNetwork (codes "(rSwitch time integral)") (r_switch at_once time integral)
     × IsNetwork (codes "(loopPre x time)") (loop_pre input time)
     × IsNetwork (codes "(kSwitch time integral (old 0))") (k_switch time integral (old 0))
     × IsNetwork (codes "(parB)") (par no_members)
@@ -85,7 +85,7 @@ NewRows =
     IsNewNetwork (codes "(--> 7 time)") (initial_out (int_expr (pos 7)) time)
     × IsNewNetwork (codes "(>-- 9 (iPre 0))")
     (initial_in (int_expr (pos 9)) (i_pre (int_expr (pos 0))))
-    × IsNewNetwork (codes "(drSwitch time integral)") (dr_switch time integral)
+    × IsNewNetwork (codes "(drSwitch time integral)") (r_switch delayed time integral)
     × IsNewNetwork (codes "(rpSwitchB (col) x time)") (rp_switch no_members input time)
     × IsNewNetwork (codes "(rpSwitchB (col time integral) x (old 0))")
     (rp_switch (and_member time (and_member integral no_members)) input (old 0))
@@ -121,7 +121,7 @@ SugarRows =
 -- in each version the two texts mean one network, or neither means one
 abbrev pub MeanSame : Sexpr → Sexpr → Type 0
 MeanSame p q = (v : Version)
-    → meaning (networks v) network_sort p ≡ meaning (networks v) network_sort q
+    → meant (networks v) network_sort p ≡ meant (networks v) network_sort q
 
 -- sugar: `identity` means `(arr x)`
 abbrev pub IdentityIs : Type 0

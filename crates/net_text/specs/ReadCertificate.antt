@@ -17,30 +17,31 @@ use Rattle.net_text.specs.StepGrammar.{step_parts, StepSort, StepTree, child_sor
 use Rattle.net_text.specs.Certificate.{ReadAndLeft, read_given, read_step, read_all_steps}
 use Rattle.net_text.specs.declared.fault.NetTextFault.{NetTextFault}
 use Rattle.net_text.specs.declared.fault.NetTextFault.TheVariants as V
+use Rattle.net_text.specs.declared.certificate_reader.TheConstants.{STEP_ROOM, POSITION_ROOM}
 use Rattle.sample_core.specs.Answer.{GivesUnless}
 use Rattle.leaf_expr.specs.declared.text_fault.ExprTextFault.{ExprTextFault}
 
 -- what was read, the byte behind it, and the tokens from there on
-abbrev pub left : {T : Type 0} → Text → T × ℕ → T × ℕ × List PlacedToken
-left text x = (x.0, x.1, from_byte x.1 text)
+abbrev pub step_part_left : {T : Type 0} → Text → T × ℕ → T × ℕ × List PlacedToken
+step_part_left text x = (x.0, x.1, from_byte x.1 text)
 
 -- the language of the parts of steps of the text's version
-abbrev pub parts_of : Text → Language
-parts_of text = step_parts (version_of text.version)
+abbrev pub step_language : Text → Language
+step_language text = step_parts (version_of text.version)
 
 -- a law, a direction or a position in the text from byte n on, inside a step
-abbrev pub part_at : (s : StepSort) → Text → ℕ → Read (StepTree s)
-part_at s text n = read (parts_of text) (length text.bytes.now) 599 s (from_byte n text)
+abbrev pub step_part_at : (s : StepSort) → Text → ℕ → Read (StepTree s)
+step_part_at s text n = read (step_language text) (length text.bytes.now) STEP_ROOM s (from_byte n text)
 
 -- what stands behind the parenthesis of a position, in the text from byte n on
 abbrev pub position_form : Text → ℕ → Read (List ℕ)
-position_form text n = read_form (parts_of text) (length text.bytes.now)
-    (read (parts_of text) (length text.bytes.now) 598) 598 position_sort (from_byte n text)
+position_form text n = read_form (step_language text) (length text.bytes.now)
+    (read (step_language text) (length text.bytes.now) POSITION_ROOM) POSITION_ROOM position_sort (from_byte n text)
 
 -- the child numbers of a position and its end, in the text from byte n on
 abbrev pub children_from : Text → ℕ → Read (List ℕ)
-children_from text n = read_parts (parts_of text) (length text.bytes.now)
-    (read (parts_of text) (length text.bytes.now) 598) 598 (places child_sort) (λ ks. ks)
+children_from text n = read_parts (step_language text) (length text.bytes.now)
+    (read (step_language text) (length text.bytes.now) POSITION_ROOM) POSITION_ROOM (places child_sort) (λ ks. ks)
     (from_byte n text)
 
 -- the end of a step or the given tree and the end, in the text from byte n on

@@ -12,12 +12,13 @@ use Rattle.leaf_expr.specs.Language.{Language, Places, Maker, no_place}
 use Rattle.leaf_expr.specs.ReadText.{GivesTree}
 use Rattle.leaf_expr.specs.Token.{PlacedToken, tokens_from}
 use Rattle.leaf_expr.specs.TreeReader.{word_read, Read, read, read_form, read_parts}
+use Rattle.leaf_expr.specs.declared.type_reader.TheConstants.{MOST_OPEN}
 use Rattle.net_tree.specs.Network.{Network, Networks, map_network, map_networks}
 use Rattle.net_tree.specs.NetworkView.{tree_of}
 use Rattle.net_tree.specs.declared.net.Net.{Net}
 use Rattle.net_text.specs.Grammar.{networks, NetSort, NetTree, network_sort, net_word_at, e, f, col}
 use Rattle.net_text.specs.File.{at_end}
-use Rattle.net_text.specs.Form.{form_row, version_of}
+use Rattle.net_text.specs.Form.{net_form_row, version_of}
 use Rattle.net_text.specs.declared.form.NetForm.{NetForm}
 use Rattle.net_text.specs.declared.text.Text.{Text}
 use Rattle.net_text.specs.declared.fault.NetTextFault.{NetTextFault}
@@ -38,7 +39,7 @@ sort_at s text room n = read (language text) (length text.bytes.now) room s (fro
 
 -- a network, and nothing behind it, in the text from byte n on
 abbrev pub last_network_at : Text → ℕ → Result (Network Expression) ExprTextFault
-last_network_at text n = sort_at network_sort text 600 n >>= (λ g. at_end g.0 g.2)
+last_network_at text n = sort_at network_sort text MOST_OPEN n >>= (λ g. at_end g.0 g.2)
 
 -- the network that the word is from byte n up to and without byte m
 abbrev pub word_network : Text → ℕ → ℕ → Read (Network Expression)
@@ -46,8 +47,8 @@ word_network text n m = word_read n (slice_range text.bytes.now n m) (from_byte 
     (net_word_at network_sort (slice_range text.bytes.now n m))
 
 -- what is read behind the parenthesis of a form, in the text from byte n on
-abbrev pub form_at : (s : NetSort) → Text → ℕ → ℕ → Read (NetTree s)
-form_at s text room n = read_form (language text) (length text.bytes.now)
+abbrev pub net_form_at : (s : NetSort) → Text → ℕ → ℕ → Read (NetTree s)
+net_form_at s text room n = read_form (language text) (length text.bytes.now)
     (read (language text) (length text.bytes.now) room) room s (from_byte n text)
 
 -- those parts of a form and its end, in the text from byte n on
@@ -57,8 +58,8 @@ parts_at ps make text room n = read_parts (language text) (length text.bytes.now
     (read (language text) (length text.bytes.now) room) room ps make (from_byte n text)
 
 -- the last two parts of a form, which are networks, and its end
-abbrev pub last_two_at : Text → ℕ → ℕ → Read (Network Expression × Network Expression)
-last_two_at text room n = parts_at {R = Network Expression × Network Expression}
+abbrev pub last_two_nets_at : Text → ℕ → ℕ → Read (Network Expression × Network Expression)
+last_two_nets_at text room n = parts_at {R = Network Expression × Network Expression}
     (f (f no_place)) (λ g h. (g, h)) text room n
 
 -- the last two parts of a form, which are an expression and a network, and its end
@@ -89,7 +90,7 @@ members_left text x = (map_networks expression_of x.0, x.1, from_byte x.1 text)
 -- byte n on, unless memory ran out
 abbrev pub GivesForm : Result (Net Expr × ℕ) ExprTextFault → NetForm → Text → ℕ → ℕ → Type 0
 GivesForm result form text room n = GivesTree (network_left text) result
-    (parts_at (form_row form).takes (form_row form).makes text room n)
+    (parts_at (net_form_row form).takes (net_form_row form).makes text room n)
 
 -- what the call returned is what reading gives, unless memory ran out
 abbrev pub GivesFile : Result (Ty × Net Expr) NetTextFault

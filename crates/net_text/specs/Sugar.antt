@@ -5,8 +5,8 @@ use Rattle.net_tree.specs.Network.{Network, arr, seq, first, i_pre, hold, accum_
 use Rattle.std.specs.Prelude.{true}
 
 -- the sides of a pair turned round
-abbrev pub swap : Expression
-swap = pair_expr (snd input) (fst input)
+abbrev pub swap_sides : Expression
+swap_sides = pair_expr (snd input) (fst input)
 
 -- the input as it is
 abbrev pub identity : Network Expression
@@ -18,7 +18,7 @@ constant e = arr (then_expr unit_expr e)
 
 -- `(second f)`: f on the right components
 abbrev pub second : Network Expression → Network Expression
-second f = seq (arr swap) (seq (first f) (arr swap))
+second f = seq (arr swap_sides) (seq (first f) (arr swap_sides))
 
 -- `(*** f g)`: f on the left components and g on the right ones
 abbrev pub beside : Network Expression → Network Expression → Network Expression

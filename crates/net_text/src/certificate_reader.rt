@@ -8,7 +8,7 @@ ghost use Rattle.net_text.specs.Certificate as certificate;
 ghost use Rattle.net_text.specs.Form.{version_of};
 ghost use Rattle.net_text.specs.StepGrammar.{law_sort, direction_sort, directions, position_sort, step_word_at};
 ghost use Rattle.net_text.specs.StepGrammar as grammar;
-ghost use Rattle.net_text.specs.ReadCertificate.{left, part_at, position_form, children_from, given_from, given_left, step_from, step_left, steps_from};
+ghost use Rattle.net_text.specs.ReadCertificate.{step_part_left, step_part_at, position_form, children_from, given_from, given_left, step_from, step_left, steps_from};
 ghost use Rattle.net_tree.specs.Place.{a_network, a_leaf};
 ghost use Rattle.net_text.specs.Grammar.{e, f};
 ghost use Rattle.net_text.specs.ReadNet.{from_byte, parts_at};
@@ -16,7 +16,7 @@ ghost use Rattle.net_text.specs.ReadNet.{from_byte, parts_at};
 use crate::network_reader::{both, last_expr_at, network_at};
 use crate::text::{Text, Version};
 use leaf_expr::{
-    ExprTextFault, MAX_OPEN, Read, TreeFront, closing_at, form_end, form_head, front_at,
+    ExprTextFault, MOST_OPEN, Read, TreeFront, closing_at, form_end, form_head, front_at,
     natural_named, read_index, token_at,
 };
 use net_tree::{Direction, Law, LawStep, Position, Tree};
@@ -24,7 +24,10 @@ use sample_core::word_is;
 use std::alloc::Global;
 
 /// How many more parentheses may be opened inside a step.
-const ROOM: usize = MAX_OPEN - 1;
+const STEP_ROOM: usize = MOST_OPEN - 1;
+
+/// How many more parentheses may be opened inside a position.
+const POSITION_ROOM: usize = STEP_ROOM - 1;
 
 /// The steps at or after byte `at`, up to the end of the text.
 pub(crate) fn steps_at(
@@ -70,7 +73,7 @@ fn step_front(text: &Text<'_>, at: usize) -> Result<usize, ExprTextFault>
         (read_opening (length text.now.bytes.now) (version_of text.now.version)
         (from_byte at text.now)) }
 {
-    match front_at(text.bytes, at, MAX_OPEN)? {
+    match front_at(text.bytes, at, MOST_OPEN)? {
         TreeFront::Form(start) => step_name(text, start + 1),
         TreeFront::Word(start, _) => Err(ExprTextFault::Syntax { at: start }),
     }
@@ -82,7 +85,7 @@ fn step_name(text: &Text<'_>, at: usize) -> Result<usize, ExprTextFault>
         (certificate.read_name (length text.now.bytes.now) (version_of text.now.version)
         (from_byte at text.now)) }
 {
-    let (start, end) = form_head(text.bytes, at, ROOM)?;
+    let (start, end) = form_head(text.bytes, at, STEP_ROOM)?;
     if word_is(&text.bytes[start..end], "step") {
         Ok(end)
     } else {
@@ -92,9 +95,9 @@ fn step_name(text: &Text<'_>, at: usize) -> Result<usize, ExprTextFault>
 
 /// The law that must be the first token at or after byte `at`, and the byte behind it.
 fn law_at(text: &Text<'_>, at: usize) -> Read<Law>
-    ensures { GivesTree (left text.now) result (part_at law_sort text.now at) }
+    ensures { GivesTree (step_part_left text.now) result (step_part_at law_sort text.now at) }
 {
-    let (start, end) = form_head(text.bytes, at, ROOM)?;
+    let (start, end) = form_head(text.bytes, at, STEP_ROOM)?;
     match law_named(&text.bytes[start..end], text.version) {
         Some(law) => Ok((law, end)),
         None => Err(ExprTextFault::Syntax { at: start }),
@@ -137,9 +140,9 @@ fn law_number(word: &[u8], most: u8) -> Option<u8>
 /// The direction that must be the first token at or after byte `at`, and the byte behind it.
 #[tactic(auto, unfolding(crate::specs::StepGrammar::step_word_at))]
 fn direction_at(text: &Text<'_>, at: usize) -> Read<Direction>
-    ensures { GivesTree (left text.now) result (part_at direction_sort text.now at) }
+    ensures { GivesTree (step_part_left text.now) result (step_part_at direction_sort text.now at) }
 {
-    let (start, end) = form_head(text.bytes, at, ROOM)?;
+    let (start, end) = form_head(text.bytes, at, STEP_ROOM)?;
     match direction_named(&text.bytes[start..end]) {
         Some(direction) => Ok((direction, end)),
         None => Err(ExprTextFault::Syntax { at: start }),
@@ -162,9 +165,9 @@ fn direction_named(word: &[u8]) -> Option<Direction>
 
 /// The position `(at N1 .. Nk)` at or after byte `at`, and the byte behind it.
 fn position_at(alloc: Global, text: &Text<'_>, at: usize) -> Read<Position>
-    ensures { GivesTree (left text.now) result (part_at position_sort text.now at) }
+    ensures { GivesTree (step_part_left text.now) result (step_part_at position_sort text.now at) }
 {
-    match front_at(text.bytes, at, ROOM)? {
+    match front_at(text.bytes, at, STEP_ROOM)? {
         TreeFront::Form(start) => position_form_at(alloc, text, start + 1),
         TreeFront::Word(start, _) => Err(ExprTextFault::Syntax { at: start }),
     }
@@ -172,9 +175,9 @@ fn position_at(alloc: Global, text: &Text<'_>, at: usize) -> Read<Position>
 
 /// What stands behind the parenthesis of `(at N1 .. Nk)`.
 fn position_form_at(alloc: Global, text: &Text<'_>, at: usize) -> Read<Position>
-    ensures { GivesTree (left text.now) result (position_form text.now at) }
+    ensures { GivesTree (step_part_left text.now) result (position_form text.now at) }
 {
-    let (start, end) = form_head(text.bytes, at, ROOM - 1)?;
+    let (start, end) = form_head(text.bytes, at, POSITION_ROOM)?;
     if word_is(&text.bytes[start..end], "at") {
         children_at(alloc, text, end)
     } else {
@@ -184,7 +187,7 @@ fn position_form_at(alloc: Global, text: &Text<'_>, at: usize) -> Read<Position>
 
 /// Child numbers up to the end of the position, and the byte behind it.
 fn children_at(alloc: Global, text: &Text<'_>, at: usize) -> Read<Position>
-    ensures { GivesTree (left text.now) result (children_from text.now at) }
+    ensures { GivesTree (step_part_left text.now) result (children_from text.now at) }
 {
     let mut path = Vec::new(alloc);
     let mut next = at;
@@ -192,7 +195,7 @@ fn children_at(alloc: Global, text: &Text<'_>, at: usize) -> Read<Position>
         if let Some(end) = closing_at(text.bytes, next) {
             return Ok((Position::new(path), end));
         }
-        let (child, behind) = read_index(text.bytes, next, ROOM - 1)?;
+        let (child, behind) = read_index(text.bytes, next, POSITION_ROOM)?;
         path.push(child)?;
         next = behind;
     }
@@ -215,18 +218,18 @@ fn given_at(alloc: Global, text: &Text<'_>, at: usize, law: Law) -> Read<Option<
 /// A given expression, and the end of the step.
 fn given_expr_at(alloc: Global, text: &Text<'_>, at: usize) -> Read<Option<Tree>>
     ensures { GivesTree (given_left text.now) result
-        (parts_at (e no_place) (λ e. Some (a_leaf e)) text.now 599 at) }
+        (parts_at (e no_place) (λ e. Some (a_leaf e)) text.now STEP_ROOM at) }
 {
-    let (expr, end) = last_expr_at(alloc, text, at, ROOM)?;
+    let (expr, end) = last_expr_at(alloc, text, at, STEP_ROOM)?;
     Ok((Some(Tree::Expr(expr)), end))
 }
 
 /// A given network, and the end of the step.
 fn given_net_at(alloc: Global, text: &Text<'_>, at: usize) -> Read<Option<Tree>>
     ensures { GivesTree (given_left text.now) result
-        (parts_at (f no_place) (λ f. Some (a_network f)) text.now 599 at) }
+        (parts_at (f no_place) (λ f. Some (a_network f)) text.now STEP_ROOM at) }
 {
-    let (net, at) = network_at(alloc, text, at, ROOM)?;
-    let (net, end) = both(net, form_end(text.bytes, at, ROOM))?;
+    let (net, at) = network_at(alloc, text, at, STEP_ROOM)?;
+    let (net, end) = both(net, form_end(text.bytes, at, STEP_ROOM))?;
     Ok((Some(Tree::Net(net)), end))
 }

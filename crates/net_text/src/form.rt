@@ -4,9 +4,9 @@ ghost use Rattle.std.specs.Prelude.{◌≡◌, ◌≤◌, ◌^◌, IfOk, option_
 ghost use Rattle.leaf_core.specs.ExpressionView.{expression_of};
 ghost use Rattle.leaf_expr.specs.ReadText.{fit};
 ghost use Rattle.net_tree.specs.{Network.map_network, NetworkView.tree_of};
-ghost use Rattle.net_text.specs.Form.{form_row, version_of, word_of};
+ghost use Rattle.net_text.specs.Form.{net_form_row, version_of, net_word_of};
 ghost use Rattle.leaf_expr.specs.Language.{row_among};
-ghost use Rattle.net_text.specs.Grammar.{cell_rows, pair_rows, other_rows, new_rows, version_2, net_row_at, net_word_at, network_sort};
+ghost use Rattle.net_text.specs.Grammar.{cell_rows, pair_rows, other_net_rows, new_rows, version_2, net_row_at, net_word_at, network_sort};
 
 use crate::sugar::{Made, accum_hold_by, beside, constant, edge, fan_out, second};
 use crate::text::Version;
@@ -94,7 +94,7 @@ pub(crate) enum NetForm {
 impl NetWord {
     /// The network that the word is.
     pub(crate) fn of(self, alloc: Global) -> Made
-        ensures { IfOk result (λ net. tree_of net ≡ word_of self) }
+        ensures { IfOk result (λ net. tree_of net ≡ net_word_of self) }
     {
         match self {
             NetWord::Time => Ok(Net::Time),
@@ -106,11 +106,11 @@ impl NetWord {
 }
 
 impl NetLeafForm {
-    ghost use Rattle.net_text.specs.Form.{leaf_form_of};
+    ghost use Rattle.net_text.specs.Form.{net_leaf_form_of};
 
     /// The form with that expression.
     pub(crate) fn of(self, alloc: Global, e: Expr) -> Made
-        ensures { IfOk result (λ net. tree_of net ≡ leaf_form_of self (expression_of e)) }
+        ensures { IfOk result (λ net. tree_of net ≡ net_leaf_form_of self (expression_of e)) }
     {
         match self {
             NetLeafForm::Arr => Ok(Net::Arr(e)),
@@ -124,7 +124,7 @@ impl NetLeafForm {
 
 impl Timer {
     ghost use Rattle.net_text.specs.Form.{timer_of, timer_form_of};
-    ghost use Rattle.net_text.specs.Grammar.{least, greatest};
+    ghost use Rattle.net_text.specs.Grammar.{least, greatest_time};
 
     /// The least time that the form takes.
     pub(crate) fn least(self) -> u64
@@ -139,7 +139,7 @@ impl Timer {
 
     /// The greatest time that the form takes.
     pub(crate) fn greatest(self) -> u64
-        ensures number { result ≡ greatest (timer_of self) }
+        ensures number { result ≡ greatest_time (timer_of self) }
         ensures low { result ≤ 2 ^ 62 }
     {
         match self {
@@ -162,12 +162,12 @@ impl Timer {
 }
 
 impl Accumulator {
-    ghost use Rattle.net_text.specs.Form.{accumulator_of};
+    ghost use Rattle.net_text.specs.Form.{accumulator_form_of};
 
     /// The form with those expressions.
     pub(crate) fn of(self, alloc: Global, g: Expr, z: Expr) -> Made
         ensures { IfOk result
-            (λ net. tree_of net ≡ accumulator_of self (expression_of g) (expression_of z)) }
+            (λ net. tree_of net ≡ accumulator_form_of self (expression_of g) (expression_of z)) }
     {
         match self {
             Accumulator::AccumBy => Ok(Net::AccumBy(g, z)),
@@ -177,12 +177,12 @@ impl Accumulator {
 }
 
 impl NetUnary {
-    ghost use Rattle.net_text.specs.Form.{unary_of};
+    ghost use Rattle.net_text.specs.Form.{net_unary_of};
 
     /// The form with that network.
     pub(crate) fn of(self, alloc: Global, f: NetChild<Expr>) -> Made
         ensures { IfOk result
-            (λ net. tree_of net ≡ unary_of self (map_network expression_of f)) }
+            (λ net. tree_of net ≡ net_unary_of self (map_network expression_of f)) }
     {
         match self {
             NetUnary::First => Ok(Net::First(f)),
@@ -192,13 +192,13 @@ impl NetUnary {
 }
 
 impl NetBinary {
-    ghost use Rattle.net_text.specs.Form.{binary_of};
+    ghost use Rattle.net_text.specs.Form.{net_binary_of};
 
     /// The form with those networks.
     pub(crate) fn of(self, alloc: Global, f: NetChild<Expr>, g: NetChild<Expr>) -> Made
         ensures { IfOk result
             (λ net. tree_of net
-            ≡ binary_of self (map_network expression_of f) (map_network expression_of g)) }
+            ≡ net_binary_of self (map_network expression_of f) (map_network expression_of g)) }
     {
         match self {
             NetBinary::Seq => Ok(Net::Seq(f, g)),
@@ -214,7 +214,7 @@ impl NetBinary {
 
 /// The form without networks that the word begins.
 fn cell_named(word: &[u8]) -> Option<NetForm>
-    ensures { option_map form_row result ≡ row_among word.now cell_rows }
+    ensures { option_map net_form_row result ≡ row_among word.now cell_rows }
 {
     if word_is(word, "arr") {
         Some(NetForm::Leaf(NetLeafForm::Arr))
@@ -243,7 +243,7 @@ fn cell_named(word: &[u8]) -> Option<NetForm>
 
 /// The form of one or two networks that the word begins.
 fn pair_named(word: &[u8]) -> Option<NetForm>
-    ensures { option_map form_row result ≡ row_among word.now pair_rows }
+    ensures { option_map net_form_row result ≡ row_among word.now pair_rows }
 {
     if word_is(word, "first") {
         Some(NetForm::Unary(NetUnary::First))
@@ -268,7 +268,7 @@ fn pair_named(word: &[u8]) -> Option<NetForm>
 
 /// The form of other parts that the word begins.
 fn other_named(word: &[u8]) -> Option<NetForm>
-    ensures { option_map form_row result ≡ row_among word.now other_rows }
+    ensures { option_map net_form_row result ≡ row_among word.now other_net_rows }
 {
     if word_is(word, "loopPre") {
         Some(NetForm::Fed(FedForm::LoopPre))
@@ -289,7 +289,7 @@ fn other_named(word: &[u8]) -> Option<NetForm>
 
 /// The form of the second version alone that the word begins.
 fn new_named(word: &[u8]) -> Option<NetForm>
-    ensures { option_map form_row result ≡ row_among word.now (new_rows version_2) }
+    ensures { option_map net_form_row result ≡ row_among word.now (new_rows version_2) }
 {
     if word_is(word, "-->") {
         Some(NetForm::Fed(FedForm::InitialOut))
@@ -306,7 +306,7 @@ fn new_named(word: &[u8]) -> Option<NetForm>
 
 /// The form that the word begins in that version and in none before it.
 fn added_named(word: &[u8], version: Version) -> Option<NetForm>
-    ensures { option_map form_row result ≡ row_among word.now (new_rows (version_of version)) }
+    ensures { option_map net_form_row result ≡ row_among word.now (new_rows (version_of version)) }
 {
     match version {
         Version::One => None,
@@ -316,7 +316,7 @@ fn added_named(word: &[u8], version: Version) -> Option<NetForm>
 
 /// The form of networks that the word begins in that version.
 pub(crate) fn form_named(word: &[u8], version: Version) -> Option<NetForm>
-    ensures { option_map form_row result ≡ net_row_at (version_of version) network_sort word.now }
+    ensures { option_map net_form_row result ≡ net_row_at (version_of version) network_sort word.now }
 {
     if let Some(form) = cell_named(word) {
         Some(form)
@@ -332,7 +332,7 @@ pub(crate) fn form_named(word: &[u8], version: Version) -> Option<NetForm>
 /// The network that the word is.
 #[tactic(auto, unfolding(crate::specs::Grammar::net_word_at, crate::specs::Grammar::net_words))]
 pub(crate) fn network_named(word: &[u8]) -> Option<NetWord>
-    ensures { net_word_at network_sort word.now ≡ fit (option_map word_of result) }
+    ensures { net_word_at network_sort word.now ≡ fit (option_map net_word_of result) }
 {
     if word_is(word, "time") {
         Some(NetWord::Time)

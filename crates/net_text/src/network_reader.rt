@@ -8,14 +8,14 @@ ghost use Rattle.leaf_expr.specs.ReadText.{GivesTree, tree_at, expression_left, 
 ghost use Rattle.net_tree.specs.{Network.networks_of, Network.map_network, Network.map_networks, NetworkView.tree_of};
 ghost use Rattle.net_text.specs.Form.{timer_of};
 ghost use Rattle.net_text.specs.Grammar.{network_sort, members_sort, time_sort, e, f};
-ghost use Rattle.net_text.specs.ReadNet.{sort_at, word_network as word_read, form_at as form_read, parts_at as parts_read, last_two_at as last_two_read, last_fed_at as last_fed_read, last_three_at as last_three_read, from_byte, GivesForm, network_left, child_left, members_left};
+ghost use Rattle.net_text.specs.ReadNet.{sort_at, word_network as word_read, net_form_at as form_read, parts_at as parts_read, last_two_nets_at as last_two_read, last_fed_at as last_fed_read, last_three_at as last_three_read, from_byte, GivesForm, network_left, child_left, members_left};
 
 use crate::form::{
     Accumulator, NetBinary, NetForm, NetLeafForm, NetUnary, Timer, form_named, network_named,
 };
 use crate::text::Text;
 use leaf_expr::{
-    Expr, ExprTextFault, MAX_OPEN, Read, TreeFront, closing_at, form_end, form_head, front_at,
+    Expr, ExprTextFault, MOST_OPEN, Read, TreeFront, closing_at, form_end, form_head, front_at,
     read_expr_at, read_index, read_natural, read_type_at,
 };
 use net_tree::{FedForm, Members, Net, NetChild};
@@ -32,7 +32,7 @@ type Child = NetChild<Expr>;
 /// it.
 #[cycle(network)]
 pub(crate) fn network_at(alloc: Global, text: &Text<'_>, at: usize, room: usize) -> ReadNet
-    requires { room ≤ 600 }
+    requires { room ≤ MOST_OPEN }
     ensures { GivesTree (network_left text.now) result (sort_at network_sort text.now room at) }
 {
     match front_at(text.bytes, at, room)? {
@@ -55,7 +55,7 @@ fn word_network(alloc: Global, text: &Text<'_>, start: usize, end: usize) -> Rea
 /// What stands behind the parenthesis of a form.
 #[cycle(network)]
 fn form_at(alloc: Global, text: &Text<'_>, at: usize, room: usize) -> ReadNet
-    requires { room ≤ 600 }
+    requires { room ≤ MOST_OPEN }
     ensures { GivesTree (network_left text.now) result (form_read network_sort text.now room at) }
 {
     let (start, end) = form_head(text.bytes, at, room)?;
@@ -68,7 +68,7 @@ fn form_at(alloc: Global, text: &Text<'_>, at: usize, room: usize) -> ReadNet
 /// The parts of a form, and its end.
 #[cycle(network)]
 fn parts_at(alloc: Global, text: &Text<'_>, at: usize, room: usize, form: NetForm) -> ReadNet
-    requires { room ≤ 600 }
+    requires { room ≤ MOST_OPEN }
     ensures { GivesForm result form text.now room at }
 {
     match form {
@@ -107,23 +107,23 @@ pub(crate) fn both<A: Drop, B>(
 /// The expression at or after byte `at`, with room for so many more parentheses, and the byte
 /// behind it.
 fn expr_at(alloc: Global, text: &[u8], at: usize, room: usize) -> Read<Expr>
-    requires { room ≤ 600 }
+    requires { room ≤ MOST_OPEN }
     ensures { GivesTree (expression_left text.now) result (tree_at expression_sort text.now room at) }
 {
-    read_expr_at(alloc, text, at, MAX_OPEN - room)
+    read_expr_at(alloc, text, at, MOST_OPEN - room)
 }
 
 /// The type at or after byte `at`, with room for so many more parentheses, and the byte behind it.
 pub(crate) fn type_at(alloc: Global, text: &[u8], at: usize, room: usize) -> Read<Ty>
-    requires { room ≤ 600 }
+    requires { room ≤ MOST_OPEN }
     ensures { GivesTree (type_left text.now) result (tree_at type_sort text.now room at) }
 {
-    read_type_at(alloc, text, at, MAX_OPEN - room)
+    read_type_at(alloc, text, at, MOST_OPEN - room)
 }
 
 /// The last expression of a form, and the form's end.
 pub(crate) fn last_expr_at(alloc: Global, text: &Text<'_>, at: usize, room: usize) -> Read<Expr>
-    requires { room ≤ 600 }
+    requires { room ≤ MOST_OPEN }
     ensures { GivesTree (expression_left text.now.bytes.now) result
         (parts_read (e no_place) (λ c. c) text.now room at) }
 {
@@ -139,7 +139,7 @@ fn leaf_form_at(
     room: usize,
     form: NetLeafForm,
 ) -> ReadNet
-    requires { room ≤ 600 }
+    requires { room ≤ MOST_OPEN }
     ensures { GivesForm result (NetForm.Leaf form) text.now room at }
 {
     let (expr, end) = last_expr_at(alloc, text, at, room)?;
@@ -156,7 +156,7 @@ fn time_at(text: &Text<'_>, at: usize, room: usize, form: Timer) -> Read<u64>
 
 /// A time and an expression, and the end of the form.
 fn timer_at(alloc: Global, text: &Text<'_>, at: usize, room: usize, form: Timer) -> ReadNet
-    requires { room ≤ 600 }
+    requires { room ≤ MOST_OPEN }
     ensures { GivesForm result (NetForm.Timer form) text.now room at }
 {
     let (q, at) = time_at(text, at, room, form)?;
@@ -172,7 +172,7 @@ fn accumulator_at(
     room: usize,
     form: Accumulator,
 ) -> ReadNet
-    requires { room ≤ 600 }
+    requires { room ≤ MOST_OPEN }
     ensures { GivesForm result (NetForm.Accumulator form) text.now room at }
 {
     let (g, at) = expr_at(alloc, text.bytes, at, room)?;
@@ -191,7 +191,7 @@ fn old_at(text: &Text<'_>, at: usize, room: usize) -> ReadNet
 
 /// A type, and the end of the form.
 fn never_at(alloc: Global, text: &Text<'_>, at: usize, room: usize) -> ReadNet
-    requires { room ≤ 600 }
+    requires { room ≤ MOST_OPEN }
     ensures { GivesForm result NetForm.Never text.now room at }
 {
     let (carried, at) = type_at(alloc, text.bytes, at, room)?;
@@ -202,7 +202,7 @@ fn never_at(alloc: Global, text: &Text<'_>, at: usize, room: usize) -> ReadNet
 /// A network inside a network.
 #[cycle(network)]
 fn child_at(alloc: Global, text: &Text<'_>, at: usize, room: usize) -> Read<Child>
-    requires { room ≤ 600 }
+    requires { room ≤ MOST_OPEN }
     ensures { GivesTree (child_left text.now) result (sort_at network_sort text.now room at) }
 {
     let (net, at) = network_at(alloc, text, at, room)?;
@@ -213,7 +213,7 @@ fn child_at(alloc: Global, text: &Text<'_>, at: usize, room: usize) -> Read<Chil
 /// The last network of a form, and the form's end.
 #[cycle(network)]
 fn last_child_at(alloc: Global, text: &Text<'_>, at: usize, room: usize) -> Read<Child>
-    requires { room ≤ 600 }
+    requires { room ≤ MOST_OPEN }
     ensures { GivesTree (child_left text.now) result
         (parts_read (f no_place) (λ g. g) text.now room at) }
 {
@@ -225,7 +225,7 @@ fn last_child_at(alloc: Global, text: &Text<'_>, at: usize, room: usize) -> Read
 /// The last two networks of a form, and the form's end.
 #[cycle(network)]
 fn last_two_at(alloc: Global, text: &Text<'_>, at: usize, room: usize) -> Read<(Child, Child)>
-    requires { room ≤ 600 }
+    requires { room ≤ MOST_OPEN }
     ensures { GivesTree
         (λ x. (
           (map_network expression_of x.0.0, map_network expression_of x.0.1),
@@ -242,7 +242,7 @@ fn last_two_at(alloc: Global, text: &Text<'_>, at: usize, room: usize) -> Read<(
 /// One network, and the end of the form.
 #[cycle(network)]
 fn unary_at(alloc: Global, text: &Text<'_>, at: usize, room: usize, form: NetUnary) -> ReadNet
-    requires { room ≤ 600 }
+    requires { room ≤ MOST_OPEN }
     ensures { GivesForm result (NetForm.Unary form) text.now room at }
 {
     let (g, end) = last_child_at(alloc, text, at, room)?;
@@ -252,7 +252,7 @@ fn unary_at(alloc: Global, text: &Text<'_>, at: usize, room: usize, form: NetUna
 /// Two networks, and the end of the form.
 #[cycle(network)]
 fn binary_at(alloc: Global, text: &Text<'_>, at: usize, room: usize, form: NetBinary) -> ReadNet
-    requires { room ≤ 600 }
+    requires { room ≤ MOST_OPEN }
     ensures { GivesForm result (NetForm.Binary form) text.now room at }
 {
     let ((g, h), end) = last_two_at(alloc, text, at, room)?;
@@ -262,7 +262,7 @@ fn binary_at(alloc: Global, text: &Text<'_>, at: usize, room: usize, form: NetBi
 /// Three networks, and the end of the form.
 #[cycle(network)]
 fn k_switch_at(alloc: Global, text: &Text<'_>, at: usize, room: usize) -> ReadNet
-    requires { room ≤ 600 }
+    requires { room ≤ MOST_OPEN }
     ensures { GivesForm result NetForm.KSwitch text.now room at }
 {
     let (g, at) = child_at(alloc, text, at, room)?;
@@ -273,7 +273,7 @@ fn k_switch_at(alloc: Global, text: &Text<'_>, at: usize, room: usize) -> ReadNe
 /// The last expression and network of a form, and the form's end.
 #[cycle(network)]
 fn last_fed_at(alloc: Global, text: &Text<'_>, at: usize, room: usize) -> Read<(Expr, Child)>
-    requires { room ≤ 600 }
+    requires { room ≤ MOST_OPEN }
     ensures { GivesTree
         (λ x. (
           (expression_of x.0.0, map_network expression_of x.0.1),
@@ -290,7 +290,7 @@ fn last_fed_at(alloc: Global, text: &Text<'_>, at: usize, room: usize) -> Read<(
 /// An expression and a network, and the end of the form.
 #[cycle(network)]
 fn fed_at(alloc: Global, text: &Text<'_>, at: usize, room: usize, form: FedForm) -> ReadNet
-    requires { room ≤ 600 }
+    requires { room ≤ MOST_OPEN }
     ensures { GivesForm result (NetForm.Fed form) text.now room at }
 {
     let ((c, g), end) = last_fed_at(alloc, text, at, room)?;
@@ -300,7 +300,7 @@ fn fed_at(alloc: Global, text: &Text<'_>, at: usize, room: usize, form: FedForm)
 /// Members, an expression and a network, and the end of the form.
 #[cycle(network)]
 fn rp_switch_at(alloc: Global, text: &Text<'_>, at: usize, room: usize) -> ReadNet
-    requires { room ≤ 600 }
+    requires { room ≤ MOST_OPEN }
     ensures { GivesForm result NetForm.RpSwitch text.now room at }
 {
     let (all, at) = col_at(alloc, text, at, room)?;
@@ -311,7 +311,7 @@ fn rp_switch_at(alloc: Global, text: &Text<'_>, at: usize, room: usize) -> ReadN
 /// Members, and the end of the form.
 #[cycle(network)]
 fn par_at(alloc: Global, text: &Text<'_>, at: usize, room: usize) -> ReadNet
-    requires { room ≤ 600 }
+    requires { room ≤ MOST_OPEN }
     ensures { GivesForm result NetForm.Par text.now room at }
 {
     let (all, end) = members_at(alloc, text, at, room)?;
@@ -321,7 +321,7 @@ fn par_at(alloc: Global, text: &Text<'_>, at: usize, room: usize) -> ReadNet
 /// An expression, members and two networks, and the end of the form.
 #[cycle(network)]
 fn p_switch_at(alloc: Global, text: &Text<'_>, at: usize, room: usize) -> ReadNet
-    requires { room ≤ 600 }
+    requires { room ≤ MOST_OPEN }
     ensures { GivesForm result NetForm.PSwitch text.now room at }
 {
     let (r, at) = expr_at(alloc, text.bytes, at, room)?;
@@ -337,7 +337,7 @@ fn last_three_at(
     at: usize,
     room: usize,
 ) -> Read<(Members<Expr>, Child, Child)>
-    requires { room ≤ 600 }
+    requires { room ≤ MOST_OPEN }
     ensures { GivesTree
         (λ x. (
           (
@@ -359,7 +359,7 @@ fn last_three_at(
 /// the byte behind it.
 #[cycle(network)]
 fn col_at(alloc: Global, text: &Text<'_>, at: usize, room: usize) -> Read<Members<Expr>>
-    requires { room ≤ 600 }
+    requires { room ≤ MOST_OPEN }
     ensures { GivesTree (members_left text.now) result (sort_at members_sort text.now room at) }
 {
     match front_at(text.bytes, at, room)? {
@@ -371,7 +371,7 @@ fn col_at(alloc: Global, text: &Text<'_>, at: usize, room: usize) -> Read<Member
 /// What stands behind the parenthesis of `(col f1 .. fn)`.
 #[cycle(network)]
 fn col_form_at(alloc: Global, text: &Text<'_>, at: usize, room: usize) -> Read<Members<Expr>>
-    requires { room ≤ 600 }
+    requires { room ≤ MOST_OPEN }
     ensures { GivesTree (members_left text.now) result (form_read members_sort text.now room at) }
 {
     let (start, end) = form_head(text.bytes, at, room)?;
@@ -385,7 +385,7 @@ fn col_form_at(alloc: Global, text: &Text<'_>, at: usize, room: usize) -> Read<M
 /// Networks up to the end of the form as members, and the form's end.
 #[cycle(network)]
 fn members_at(alloc: Global, text: &Text<'_>, at: usize, room: usize) -> Read<Members<Expr>>
-    requires { room ≤ 600 }
+    requires { room ≤ MOST_OPEN }
     ensures { GivesTree (members_left text.now) result
         (parts_read (places network_sort) networks_of text.now room at) }
 {
@@ -397,7 +397,7 @@ fn members_at(alloc: Global, text: &Text<'_>, at: usize, room: usize) -> Read<Me
 /// Networks up to the end of the form, and the form's end.
 #[cycle(network)]
 fn networks_at(alloc: Global, text: &Text<'_>, at: usize, room: usize) -> Read<Vec<Net<Expr>>>
-    requires { room ≤ 600 }
+    requires { room ≤ MOST_OPEN }
     ensures { GivesTree (λ x. (map tree_of x.0.items, x.1, from_byte x.1 text.now)) result
         (parts_read (places network_sort) (λ fs. fs) text.now room at) }
 {

@@ -4,7 +4,7 @@ ghost use Rattle.std.specs.Prelude.{◌≡◌, ◌++◌, ◌∷◌, [], codes, I
 ghost use Rattle.std.specs.Fmt.{decimal};
 ghost use Rattle.sample_core.specs.{Adding.Adds, TypeView.type_of};
 ghost use Rattle.leaf_core.specs.ExpressionView.{expression_of};
-ghost use Rattle.leaf_expr.specs.Sexpr.{atom, form, last, more, spelling, spellings};
+ghost use Rattle.leaf_expr.specs.Sexpr.{atom, form, last, more, sexpr_spelling, sexprs_spelling};
 ghost use Rattle.leaf_expr.specs.Printing.{one, two, three, expression_sexpr};
 ghost use Rattle.net_tree.specs.Network.{map_network, map_networks, old, p_switch, rp_switch};
 ghost use Rattle.net_tree.specs.NetworkView.{tree_of};
@@ -41,7 +41,7 @@ pub fn print_net(alloc: Global, input: &Ty, net: &Net<Expr>) -> Result<String, M
 #[cycle(push_net)]
 pub fn push_net(text: &mut String, net: &Net<Expr>) -> Result<(), Memory>
     ensures { Adds result (string_bytes text.old) (string_bytes text.new)
-        (spelling (network_sexpr (tree_of net.now))) }
+        (sexpr_spelling (network_sexpr (tree_of net.now))) }
 {
     match net {
         Net::Arr(e) => push_leaf(text, "arr", e),
@@ -89,7 +89,7 @@ fn push_open(text: &mut String, name: &str) -> Result<(), Memory>
 /// An expression as the next part of a form.
 pub(crate) fn push_next_expr(text: &mut String, expr: &Expr) -> Result<(), Memory>
     ensures { Adds result (string_bytes text.old) (string_bytes text.new)
-        (32 ∷ spelling (expression_sexpr (expression_of expr.now))) }
+        (32 ∷ sexpr_spelling (expression_sexpr (expression_of expr.now))) }
 {
     push_word(text, " ")?;
     push_expr(text, expr)
@@ -98,7 +98,7 @@ pub(crate) fn push_next_expr(text: &mut String, expr: &Expr) -> Result<(), Memor
 /// An expression as the last part of a form, and the form's end.
 fn push_last_expr(text: &mut String, expr: &Expr) -> Result<(), Memory>
     ensures { Adds result (string_bytes text.old) (string_bytes text.new)
-        (spellings (more (expression_sexpr (expression_of expr.now)) last) ++ (41 ∷ [])) }
+        (sexprs_spelling (more (expression_sexpr (expression_of expr.now)) last) ++ (41 ∷ [])) }
 {
     push_next_expr(text, expr)?;
     push_word(text, ")")
@@ -107,7 +107,7 @@ fn push_last_expr(text: &mut String, expr: &Expr) -> Result<(), Memory>
 /// A form of one expression.
 fn push_leaf(text: &mut String, name: &str, e: &Expr) -> Result<(), Memory>
     ensures { Adds result (string_bytes text.old) (string_bytes text.new)
-        (spelling (one name.now (expression_sexpr (expression_of e.now)))) }
+        (sexpr_spelling (one name.now (expression_sexpr (expression_of e.now)))) }
 {
     push_open(text, name)?;
     push_last_expr(text, e)
@@ -124,7 +124,7 @@ fn push_time(text: &mut String, q: u64) -> Result<(), Memory>
 /// A form of a time and an expression.
 fn push_timer(text: &mut String, name: &str, q: u64, c: &Expr) -> Result<(), Memory>
     ensures { Adds result (string_bytes text.old) (string_bytes text.new)
-        (spelling
+        (sexpr_spelling
         (two name.now (atom (decimal q)) (expression_sexpr (expression_of c.now)))) }
 {
     push_open(text, name)?;
@@ -135,7 +135,7 @@ fn push_timer(text: &mut String, name: &str, q: u64, c: &Expr) -> Result<(), Mem
 /// `(accumBy g z)`.
 fn push_accumulator(text: &mut String, g: &Expr, z: &Expr) -> Result<(), Memory>
     ensures { Adds result (string_bytes text.old) (string_bytes text.new)
-        (spelling
+        (sexpr_spelling
         (two (codes "accumBy") (expression_sexpr (expression_of g.now))
         (expression_sexpr (expression_of z.now)))) }
 {
@@ -147,7 +147,7 @@ fn push_accumulator(text: &mut String, g: &Expr, z: &Expr) -> Result<(), Memory>
 /// `(old k)`.
 fn push_old(text: &mut String, k: u32) -> Result<(), Memory>
     ensures { Adds result (string_bytes text.old) (string_bytes text.new)
-        (spelling (network_sexpr (old k))) }
+        (sexpr_spelling (network_sexpr (old k))) }
 {
     push_word(text, "(old ")?;
     push_word(text, Buffer::new().format(k))?;
@@ -158,7 +158,7 @@ fn push_old(text: &mut String, k: u32) -> Result<(), Memory>
 #[cycle(push_net)]
 pub(crate) fn push_next(text: &mut String, net: &Net<Expr>) -> Result<(), Memory>
     ensures { Adds result (string_bytes text.old) (string_bytes text.new)
-        (32 ∷ spelling (network_sexpr (tree_of net.now))) }
+        (32 ∷ sexpr_spelling (network_sexpr (tree_of net.now))) }
 {
     push_word(text, " ")?;
     push_net(text, net)
@@ -168,7 +168,7 @@ pub(crate) fn push_next(text: &mut String, net: &Net<Expr>) -> Result<(), Memory
 #[cycle(push_net)]
 fn push_last(text: &mut String, f: &NetChild<Expr>) -> Result<(), Memory>
     ensures { Adds result (string_bytes text.old) (string_bytes text.new)
-        (spellings (more (network_sexpr (map_network expression_of f.now)) last) ++ (41 ∷ [])) }
+        (sexprs_spelling (more (network_sexpr (map_network expression_of f.now)) last) ++ (41 ∷ [])) }
 {
     push_next(text, f.get())?;
     push_word(text, ")")
@@ -178,7 +178,7 @@ fn push_last(text: &mut String, f: &NetChild<Expr>) -> Result<(), Memory>
 #[cycle(push_net)]
 fn push_last_two(text: &mut String, f: &NetChild<Expr>, g: &NetChild<Expr>) -> Result<(), Memory>
     ensures { Adds result (string_bytes text.old) (string_bytes text.new)
-        (spellings
+        (sexprs_spelling
         (more (network_sexpr (map_network expression_of f.now))
         (more (network_sexpr (map_network expression_of g.now)) last)) ++ (41 ∷ [])) }
 {
@@ -190,7 +190,7 @@ fn push_last_two(text: &mut String, f: &NetChild<Expr>, g: &NetChild<Expr>) -> R
 #[cycle(push_net)]
 fn push_one(text: &mut String, name: &str, f: &NetChild<Expr>) -> Result<(), Memory>
     ensures { Adds result (string_bytes text.old) (string_bytes text.new)
-        (spelling (one name.now (network_sexpr (map_network expression_of f.now)))) }
+        (sexpr_spelling (one name.now (network_sexpr (map_network expression_of f.now)))) }
 {
     push_open(text, name)?;
     push_last(text, f)
@@ -205,7 +205,7 @@ fn push_two(
     g: &NetChild<Expr>,
 ) -> Result<(), Memory>
     ensures { Adds result (string_bytes text.old) (string_bytes text.new)
-        (spelling
+        (sexpr_spelling
         (two name.now (network_sexpr (map_network expression_of f.now))
         (network_sexpr (map_network expression_of g.now)))) }
 {
@@ -222,7 +222,7 @@ fn push_k_switch(
     t: &NetChild<Expr>,
 ) -> Result<(), Memory>
     ensures { Adds result (string_bytes text.old) (string_bytes text.new)
-        (spelling
+        (sexpr_spelling
         (three (codes "kSwitch") (network_sexpr (map_network expression_of f.now))
         (network_sexpr (map_network expression_of e.now))
         (network_sexpr (map_network expression_of t.now)))) }
@@ -236,7 +236,7 @@ fn push_k_switch(
 #[cycle(push_net)]
 fn push_last_fed(text: &mut String, c: &Expr, f: &NetChild<Expr>) -> Result<(), Memory>
     ensures { Adds result (string_bytes text.old) (string_bytes text.new)
-        (spellings
+        (sexprs_spelling
         (more (expression_sexpr (expression_of c.now))
         (more (network_sexpr (map_network expression_of f.now)) last)) ++ (41 ∷ [])) }
 {
@@ -248,7 +248,7 @@ fn push_last_fed(text: &mut String, c: &Expr, f: &NetChild<Expr>) -> Result<(), 
 #[cycle(push_net)]
 fn push_fed(text: &mut String, name: &str, c: &Expr, f: &NetChild<Expr>) -> Result<(), Memory>
     ensures { Adds result (string_bytes text.old) (string_bytes text.new)
-        (spelling
+        (sexpr_spelling
         (two name.now (expression_sexpr (expression_of c.now))
         (network_sexpr (map_network expression_of f.now)))) }
 {
@@ -265,7 +265,7 @@ fn push_rp_switch(
     t: &NetChild<Expr>,
 ) -> Result<(), Memory>
     ensures { Adds result (string_bytes text.old) (string_bytes text.new)
-        (spelling
+        (sexpr_spelling
         (network_sexpr
         (rp_switch (map_networks expression_of all.now) (expression_of m.now)
         (map_network expression_of t.now)))) }
@@ -279,7 +279,7 @@ fn push_rp_switch(
 #[cycle(push_net)]
 fn push_par(text: &mut String, all: &Members<Expr>) -> Result<(), Memory>
     ensures { Adds result (string_bytes text.old) (string_bytes text.new)
-        (spelling
+        (sexpr_spelling
         (form (codes "parB") (network_sexprs (map_networks expression_of all.now)))) }
 {
     push_open(text, "parB")?;
@@ -296,7 +296,7 @@ fn push_p_switch(
     t: &NetChild<Expr>,
 ) -> Result<(), Memory>
     ensures { Adds result (string_bytes text.old) (string_bytes text.new)
-        (spelling
+        (sexpr_spelling
         (network_sexpr
         (p_switch (expression_of r.now) (map_networks expression_of all.now)
         (map_network expression_of e.now) (map_network expression_of t.now)))) }
@@ -311,7 +311,7 @@ fn push_p_switch(
 #[cycle(push_net)]
 fn push_col(text: &mut String, all: &Members<Expr>) -> Result<(), Memory>
     ensures { Adds result (string_bytes text.old) (string_bytes text.new)
-        (32 ∷ spelling
+        (32 ∷ sexpr_spelling
         (form (codes "col") (network_sexprs (map_networks expression_of all.now)))) }
 {
     push_word(text, " (col")?;
@@ -322,7 +322,7 @@ fn push_col(text: &mut String, all: &Members<Expr>) -> Result<(), Memory>
 #[cycle(push_net)]
 fn push_members(text: &mut String, all: &Members<Expr>) -> Result<(), Memory>
     ensures { Adds result (string_bytes text.old) (string_bytes text.new)
-        (spellings (network_sexprs (map_networks expression_of all.now)) ++ (41 ∷ [])) }
+        (sexprs_spelling (network_sexprs (map_networks expression_of all.now)) ++ (41 ∷ [])) }
 {
     for net in all.as_slice() {
         push_next(text, net)?;

@@ -3,7 +3,7 @@
 ghost use Rattle.std.specs.Prelude.{◌≡◌, ◌++◌, ◌∷◌, [], IfOk, map, option_map, string_bytes};
 ghost use Rattle.std.specs.Fmt.{decimal};
 ghost use Rattle.sample_core.specs.Adding.{Adds};
-ghost use Rattle.leaf_expr.specs.Sexpr.{spelling, spellings};
+ghost use Rattle.leaf_expr.specs.Sexpr.{sexpr_spelling, sexprs_spelling};
 ghost use Rattle.net_tree.specs.LawStep.{step_of, part_of};
 ghost use Rattle.net_text.specs.CertificatePrinting.{law_spelling, direction_spelling, given_sexprs, step_sexpr, tree_sexpr, certificate_spelling, are_new_steps};
 ghost use Rattle.net_text.specs.CertificatePrinting as printing;
@@ -39,7 +39,7 @@ pub fn print_cert(alloc: Global, steps: &[LawStep]) -> Result<String, Memory>
 /// growth was refused; the text may then end with a part of it.
 pub fn push_tree(text: &mut String, tree: &Tree) -> Result<(), Memory>
     ensures { Adds result (string_bytes text.old) (string_bytes text.new)
-        (spelling (tree_sexpr (part_of tree.now))) }
+        (sexpr_spelling (tree_sexpr (part_of tree.now))) }
 {
     match tree {
         Tree::Net(net) => push_net(text, net),
@@ -84,7 +84,7 @@ fn is_new_given(given: &Option<Tree>) -> bool
 /// refused; the text may then end with a part of it.
 pub fn push_step(text: &mut String, step: &LawStep) -> Result<(), Memory>
     ensures { Adds result (string_bytes text.old) (string_bytes text.new)
-        (spelling (step_sexpr (step_of step.now)) ++ 10 ∷ []) }
+        (sexpr_spelling (step_sexpr (step_of step.now)) ++ 10 ∷ []) }
 {
     push_word(text, "(step ")?;
     push_law(text, step.law)?;
@@ -126,7 +126,7 @@ fn direction_word(direction: Direction) -> &'static str
 /// The given tree as the last part of a step, where there is one.
 fn push_given(text: &mut String, given: &Option<Tree>) -> Result<(), Memory>
     ensures { Adds result (string_bytes text.old) (string_bytes text.new)
-        (spellings (given_sexprs (option_map part_of given.now))) }
+        (sexprs_spelling (given_sexprs (option_map part_of given.now))) }
 {
     match given {
         None => Ok(()),

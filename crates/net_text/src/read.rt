@@ -14,7 +14,7 @@ ghost use Rattle.net_text.specs.declared.fault.NetTextFault.TheVariants as Fault
 use crate::fault::NetTextFault;
 use crate::network_reader::{both, network_at, type_at};
 use crate::text::{Text, Version};
-use leaf_expr::{Expr, ExprTextFault, Lexeme, MAX_LENGTH, MAX_OPEN, lexeme_at, token_at};
+use leaf_expr::{Expr, ExprTextFault, Lexeme, MOST_LENGTH, MOST_OPEN, lexeme_at, token_at};
 use net_tree::Net;
 use sample_core::{Ty, word_is};
 use std::alloc::Global;
@@ -39,7 +39,7 @@ pub fn read_net(alloc: Global, text: &[u8]) -> Result<(Ty, Net<Expr>), NetTextFa
     ensures only { (A : TypeTree) (f : Network Expression) → IsFile text.now A f
         → GivesFile result (Ok (A, f)) }
     // A text that is too long is refused as such, whatever its bytes are.
-    ensures long { 1048576 < length text.now → result ≡ Err Fault.TooLong }
+    ensures long { MOST_LENGTH < length text.now → result ≡ Err Fault.TooLong }
     // What is refused is so at the first token that doesn't fit, or for its length.
     ensures refused { IfErr result (IsFileFault text.now) }
 {
@@ -49,10 +49,10 @@ pub fn read_net(alloc: Global, text: &[u8]) -> Result<(Ty, Net<Expr>), NetTextFa
 /// What `read_net` answers. It stands apart, since the clauses of that contract follow from its
 /// own.
 fn file(alloc: Global, text: &[u8]) -> Result<(Ty, Net<Expr>), NetTextFault>
-    ensures long { 1048576 < length text.now → result ≡ Err Fault.TooLong }
+    ensures long { MOST_LENGTH < length text.now → result ≡ Err Fault.TooLong }
     ensures exact { GivesFile result (read_file text.now) }
 {
-    if text.len() > MAX_LENGTH {
+    if text.len() > MOST_LENGTH {
         return Err(NetTextFault::TooLong);
     }
     headed(alloc, text)
@@ -80,7 +80,7 @@ fn body_at(alloc: Global, text: &Text<'_>, at: usize) -> Result<(Ty, Net<Expr>),
         (read_body (length text.now.bytes.now) (version_of text.now.version)
         (from_byte at text.now)) }
 {
-    let (input, at) = type_at(alloc, text.bytes, at, MAX_OPEN)?;
+    let (input, at) = type_at(alloc, text.bytes, at, MOST_OPEN)?;
     both(input, last_network(alloc, text, at))
 }
 
@@ -88,7 +88,7 @@ fn body_at(alloc: Global, text: &Text<'_>, at: usize) -> Result<(Ty, Net<Expr>),
 fn last_network(alloc: Global, text: &Text<'_>, at: usize) -> Result<Net<Expr>, ExprTextFault>
     ensures { GivesTree tree_of result (last_network_at text.now at) }
 {
-    let (net, end) = network_at(alloc, text, at, MAX_OPEN)?;
+    let (net, end) = network_at(alloc, text, at, MOST_OPEN)?;
     match token_at(text.bytes, end) {
         None => Ok(net),
         Some((start, _)) => {

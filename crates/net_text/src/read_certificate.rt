@@ -12,7 +12,7 @@ use crate::certificate_reader::steps_at;
 use crate::fault::NetTextFault;
 use crate::read::{version_end, word_end};
 use crate::text::{Text, Version};
-use leaf_expr::MAX_LENGTH;
+use leaf_expr::MOST_LENGTH;
 use net_tree::LawStep;
 use std::alloc::Global;
 
@@ -36,7 +36,7 @@ pub fn read_cert(alloc: Global, text: &[u8]) -> Result<Vec<LawStep>, NetTextFaul
     // A certificate file is read, unless memory runs out.
     ensures only { (ss : List Step) → IsCertificate text.now ss → GivesSteps (λ steps. map step_of steps.items) result (Ok ss) }
     // A text that is too long is refused as such, whatever its bytes are.
-    ensures long { 1048576 < length text.now → result ≡ Err Fault.TooLong }
+    ensures long { MOST_LENGTH < length text.now → result ≡ Err Fault.TooLong }
     // What is refused is so at the first token that doesn't fit, or for its length.
     ensures refused { IfErr result (IsCertificateFault text.now) }
 {
@@ -46,11 +46,11 @@ pub fn read_cert(alloc: Global, text: &[u8]) -> Result<Vec<LawStep>, NetTextFaul
 /// What `read_cert` answers. It stands apart, since the clauses of that contract follow from its
 /// own.
 fn certificate(alloc: Global, text: &[u8]) -> Result<Vec<LawStep>, NetTextFault>
-    ensures long { 1048576 < length text.now → result ≡ Err Fault.TooLong }
+    ensures long { MOST_LENGTH < length text.now → result ≡ Err Fault.TooLong }
     ensures exact { GivesSteps (λ steps. map step_of steps.items) result
         (read_certificate text.now) }
 {
-    if text.len() > MAX_LENGTH {
+    if text.len() > MOST_LENGTH {
         return Err(NetTextFault::TooLong);
     }
     headed(alloc, text)

@@ -4,7 +4,7 @@ ghost use Rattle.std.specs.Prelude.{◌≡◌, IfOk};
 ghost use Rattle.leaf_core.specs.Expression.{input, fst, snd, and_expr, not_expr, pair_expr};
 ghost use Rattle.leaf_core.specs.ExpressionView.{expression_of};
 ghost use Rattle.net_tree.specs.{Network.arr, Network.hold, Network.map_network, NetworkView.tree_of};
-ghost use Rattle.net_text.specs.Sugar.{swap, rise};
+ghost use Rattle.net_text.specs.Sugar.{swap_sides, rise};
 ghost use Rattle.net_text.specs.Sugar as sugar;
 
 use leaf_expr::{Expr, ExprChild, Literal};
@@ -26,7 +26,7 @@ pub(crate) fn constant(alloc: Global, e: Expr) -> Made
 
 /// `(arr (pair (snd x) (fst x)))`.
 fn turned_round(alloc: Global) -> Result<NetChild<Expr>, Memory>
-    ensures { IfOk result (λ f. map_network expression_of f ≡ arr swap) }
+    ensures { IfOk result (λ f. map_network expression_of f ≡ arr swap_sides) }
 {
     let x = ExprChild::new(alloc, Expr::Input)?;
     let same = x.try_copy()?;

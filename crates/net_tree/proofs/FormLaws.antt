@@ -2,7 +2,7 @@
 use Rattle.std.proofs.Common.{◌≡◌, ◌↔◌, ◌<◌, ℕ, zero, suc, nat_eq, if◌then◌else◌, List, [], ◌∷◌, length, get_or, refl, ap, subst, sym, ◌∙◌, arith}
 use Rattle.leaf_core.specs.Expression.{Expression}
 use Rattle.leaf_core.specs.declared.expr.Expr.{Expr}
-use Rattle.net_tree.specs.Network.{Network, Networks, arr, seq, first, par, loop_pre, i_pre, delay, hold, accum_by, after, repeatedly, time, integral, switch, d_switch, r_switch, k_switch, p_switch, old, initial_out, initial_in, dr_switch, rp_switch, no_members, and_member, network_size, networks_size}
+use Rattle.net_tree.specs.Network.{Network, Networks, arr, seq, first, par, loop_pre, i_pre, delay, hold, accum_by, after, repeatedly, time, integral, at_once, delayed, switch, r_switch, k_switch, p_switch, old, initial_out, initial_in, rp_switch, no_members, and_member, network_size, networks_size}
 use Rattle.net_tree.specs.NetworkView.{tree_of, trees, members_of}
 use Rattle.net_tree.specs.FormParts.{FormParts, nothing, index, leaf, timed, leaves, one, fed, two, three, row, routed, collection, form_number, parts_of, parts_size}
 use Rattle.net_tree.specs.declared.net.Net.{Net}
@@ -16,8 +16,8 @@ form_with n (timed q e) = if nat_eq n 6 then delay q e else if nat_eq n 9 then a
 form_with n (leaves e d) = accum_by e d
 form_with n (one f) = first f
 form_with n (fed e f) = if nat_eq n 4 then loop_pre e f else if nat_eq n 19 then initial_out e f else initial_in e f
-form_with n (two f g) = if nat_eq n 1 then seq f g else if nat_eq n 13 then switch f g else if nat_eq n 14 then d_switch f g
-    else if nat_eq n 15 then r_switch f g else dr_switch f g
+form_with n (two f g) = if nat_eq n 1 then seq f g else if nat_eq n 13 then switch at_once f g
+    else if nat_eq n 14 then switch delayed f g else if nat_eq n 15 then r_switch at_once f g else r_switch delayed f g
 form_with n (three f g h) = k_switch f g h
 form_with n (row fs) = par fs
 form_with n (routed r fs e t) = p_switch r fs e t
@@ -38,15 +38,15 @@ forms (after q c) = (refl, refl)
 forms (repeatedly q c) = (refl, refl)
 forms time = (refl, refl)
 forms integral = (refl, refl)
-forms (switch f t) = (refl, refl)
-forms (d_switch f t) = (refl, refl)
-forms (r_switch f t) = (refl, refl)
+forms (switch at_once f t) = (refl, refl)
+forms (switch delayed f t) = (refl, refl)
+forms (r_switch at_once f t) = (refl, refl)
+forms (r_switch delayed f t) = (refl, refl)
 forms (k_switch f e t) = (refl, refl)
 forms (p_switch r fs e t) = (refl, refl)
 forms (old k) = (refl, refl)
 forms (initial_out c f) = (refl, refl)
 forms (initial_in c f) = (refl, refl)
-forms (dr_switch f t) = (refl, refl)
 forms (rp_switch fs m t) = (refl, refl)
 
 -- how many networks stand inside one another

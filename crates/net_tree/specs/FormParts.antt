@@ -4,7 +4,7 @@ use Rattle.sample_core.specs.CodeNode.{tag_of}
 use Rattle.leaf_core.specs.Expression.{Expression}
 use Rattle.leaf_core.specs.ExpressionCode.{expression_code}
 use Rattle.leaf_core.specs.ExpressionView.{expression_of}
-use Rattle.net_tree.specs.Network.{Network, Networks, arr, seq, first, par, loop_pre, initial_out, initial_in, i_pre, delay, hold, accum_by, after, repeatedly, time, integral, switch, d_switch, r_switch, dr_switch, rp_switch, k_switch, p_switch, old, network_size, networks_size}
+use Rattle.net_tree.specs.Network.{Network, Networks, arr, seq, first, par, loop_pre, initial_out, initial_in, i_pre, delay, hold, accum_by, after, repeatedly, time, integral, switch, r_switch, rp_switch, k_switch, p_switch, old, network_size, networks_size}
 use Rattle.net_tree.specs.NetworkCode.{to_code}
 use Rattle.net_tree.specs.NetworkView.{tree, trees}
 use Rattle.net_tree.specs.declared.equal.Parts.{Parts}
@@ -45,15 +45,13 @@ parts_of (after q c) = timed q c
 parts_of (repeatedly q c) = timed q c
 parts_of time = nothing
 parts_of integral = nothing
-parts_of (switch f t) = two f t
-parts_of (d_switch f t) = two f t
-parts_of (r_switch f t) = two f t
+parts_of (switch tm f t) = two f t
+parts_of (r_switch tm f t) = two f t
 parts_of (k_switch f e t) = three f e t
 parts_of (p_switch r fs e t) = routed r fs e t
 parts_of (old k) = index k
 parts_of (initial_out c f) = fed c f
 parts_of (initial_in c f) = fed c f
-parts_of (dr_switch f t) = two f t
 parts_of (rp_switch fs m t) = collection fs m t
 
 -- what the code's `Parts` say

@@ -1,6 +1,6 @@
 -- The height of a network: 1 without child networks, else 1 plus the greatest child's.
 use Rattle.std.specs.Prelude.{ℕ, suc, max, List, [], ◌∷◌, ◌++◌, get_or}
-use Rattle.net_tree.specs.Network.{Network, Networks, seq, first, par, loop_pre, initial_out, initial_in, switch, d_switch, r_switch, dr_switch, rp_switch, k_switch, p_switch, old, no_members, and_member}
+use Rattle.net_tree.specs.Network.{Network, Networks, seq, first, par, loop_pre, initial_out, initial_in, switch, r_switch, rp_switch, k_switch, p_switch, old, no_members, and_member}
 
 -- the height of the frozen network k, 0 where there is none
 abbrev pub height_at : List ℕ → ℕ → ℕ
@@ -19,9 +19,8 @@ abbrev mutual
   height (first f) hs = suc (height f hs)
   height (par fs) hs = suc (greatest (heights fs hs))
   height (loop_pre c f) hs = suc (height f hs)
-  height (switch f t) hs = suc (max (height f hs) (height t hs))
-  height (d_switch f t) hs = suc (max (height f hs) (height t hs))
-  height (r_switch f t) hs = suc (max (height f hs) (height t hs))
+  height (switch tm f t) hs = suc (max (height f hs) (height t hs))
+  height (r_switch tm f t) hs = suc (max (height f hs) (height t hs))
   height (k_switch f e t) hs =
       suc (max (max (height f hs) (height e hs)) (height t (hs ++ height f hs ∷ [])))
   height (p_switch r fs e t) hs =
@@ -29,7 +28,6 @@ abbrev mutual
   height (old k) hs = suc (height_at hs k)
   height (initial_out c f) hs = suc (height f hs)
   height (initial_in c f) hs = suc (height f hs)
-  height (dr_switch f t) hs = suc (max (height f hs) (height t hs))
   height (rp_switch fs m t) hs = suc (max (greatest (heights fs hs)) (height t hs))
   height _ hs = 1
 

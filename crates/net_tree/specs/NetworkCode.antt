@@ -5,7 +5,7 @@ use Rattle.std.specs.Coded.{Coded}
 use base.Stored.{Gv, gnil, gnum, gcons, num, coded_via}
 use denote.Struct.Codes.{itself}
 use Rattle.sample_core.specs.CodeNode.{node, tag_of, part0, part1, part2, part3, head_of, rest_of}
-use Rattle.net_tree.specs.Network.{Network, Networks, arr, seq, first, par, loop_pre, initial_out, initial_in, i_pre, delay, hold, accum_by, after, repeatedly, time, integral, switch, d_switch, r_switch, dr_switch, rp_switch, k_switch, p_switch, old, no_members, and_member}
+use Rattle.net_tree.specs.Network.{Network, Networks, arr, seq, first, par, loop_pre, initial_out, initial_in, i_pre, delay, hold, accum_by, after, repeatedly, time, integral, at_once, delayed, switch, r_switch, rp_switch, k_switch, p_switch, old, no_members, and_member}
 
 module _ {L : Type 0} (c : Coded L) where
   abbrev mutual
@@ -24,15 +24,15 @@ module _ {L : Type 0} (c : Coded L) where
     to_code (repeatedly q e) = node 10 (gnum q) (c.code e) gnil gnil
     to_code time = node 11 gnil gnil gnil gnil
     to_code integral = node 12 gnil gnil gnil gnil
-    to_code (switch f t) = node 13 (to_code f) (to_code t) gnil gnil
-    to_code (d_switch f t) = node 14 (to_code f) (to_code t) gnil gnil
-    to_code (r_switch f t) = node 15 (to_code f) (to_code t) gnil gnil
+    to_code (switch at_once f t) = node 13 (to_code f) (to_code t) gnil gnil
+    to_code (switch delayed f t) = node 14 (to_code f) (to_code t) gnil gnil
+    to_code (r_switch at_once f t) = node 15 (to_code f) (to_code t) gnil gnil
+    to_code (r_switch delayed f t) = node 21 (to_code f) (to_code t) gnil gnil
     to_code (k_switch f e t) = node 16 (to_code f) (to_code e) (to_code t) gnil
     to_code (p_switch r fs e t) = node 17 (c.code r) (to_codes fs) (to_code e) (to_code t)
     to_code (old k) = node 18 (gnum k) gnil gnil gnil
     to_code (initial_out e f) = node 19 (c.code e) (to_code f) gnil gnil
     to_code (initial_in e f) = node 20 (c.code e) (to_code f) gnil gnil
-    to_code (dr_switch f t) = node 21 (to_code f) (to_code t) gnil gnil
     to_code (rp_switch fs m t) = node 22 (to_codes fs) (c.code m) (to_code t) gnil
 
     -- the code of members
@@ -62,12 +62,14 @@ module _ {L : Type 0} (c : Coded L) where
         repeatedly (num (part0 (e i))) (c.inj a b (ap part1 e) i)
     to_code_inj time time e = refl
     to_code_inj integral integral e = refl
-    to_code_inj (switch f t) (switch f' t') e = λ i.
-        switch (to_code_inj f f' (ap part0 e) i) (to_code_inj t t' (ap part1 e) i)
-    to_code_inj (d_switch f t) (d_switch f' t') e = λ i.
-        d_switch (to_code_inj f f' (ap part0 e) i) (to_code_inj t t' (ap part1 e) i)
-    to_code_inj (r_switch f t) (r_switch f' t') e = λ i.
-        r_switch (to_code_inj f f' (ap part0 e) i) (to_code_inj t t' (ap part1 e) i)
+    to_code_inj (switch at_once f t) (switch at_once f' t') e = λ i.
+        switch at_once (to_code_inj f f' (ap part0 e) i) (to_code_inj t t' (ap part1 e) i)
+    to_code_inj (switch delayed f t) (switch delayed f' t') e = λ i.
+        switch delayed (to_code_inj f f' (ap part0 e) i) (to_code_inj t t' (ap part1 e) i)
+    to_code_inj (r_switch at_once f t) (r_switch at_once f' t') e = λ i.
+        r_switch at_once (to_code_inj f f' (ap part0 e) i) (to_code_inj t t' (ap part1 e) i)
+    to_code_inj (r_switch delayed f t) (r_switch delayed f' t') e = λ i.
+        r_switch delayed (to_code_inj f f' (ap part0 e) i) (to_code_inj t t' (ap part1 e) i)
     to_code_inj (k_switch f g t) (k_switch f' g' t') e = λ i.
         k_switch (to_code_inj f f' (ap part0 e) i) (to_code_inj g g' (ap part1 e) i)
         (to_code_inj t t' (ap part2 e) i)
@@ -79,11 +81,11 @@ module _ {L : Type 0} (c : Coded L) where
         initial_out (c.inj a b (ap part0 e) i) (to_code_inj f f' (ap part1 e) i)
     to_code_inj (initial_in a f) (initial_in b f') e = λ i.
         initial_in (c.inj a b (ap part0 e) i) (to_code_inj f f' (ap part1 e) i)
-    to_code_inj (dr_switch f t) (dr_switch f' t') e = λ i.
-        dr_switch (to_code_inj f f' (ap part0 e) i) (to_code_inj t t' (ap part1 e) i)
     to_code_inj (rp_switch fs m t) (rp_switch fs' m' t') e = λ i.
         rp_switch (to_codes_inj fs fs' (ap part0 e) i) (c.inj m m' (ap part1 e) i)
         (to_code_inj t t' (ap part2 e) i)
+    to_code_inj _ (switch at_once _ _) e = absurd (omega (arith, ap tag_of e))
+    to_code_inj _ (r_switch at_once _ _) e = absurd (omega (arith, ap tag_of e))
     to_code_inj _ _ e = absurd (omega (arith, ap tag_of e))
 
     -- members with one code are the same

@@ -3,7 +3,7 @@ use Rattle.std.specs.Prelude.{List, [], ◌∷◌}
 use Rattle.leaf_core.specs.Expression.{Expression}
 use Rattle.leaf_core.specs.ExpressionView.{expression_of}
 use Rattle.leaf_core.specs.declared.expr.Expr.{Expr}
-use Rattle.net_tree.specs.Network.{Network, Networks, arr, seq, first, par, loop_pre, initial_out, initial_in, i_pre, delay, hold, accum_by, after, repeatedly, time, integral, switch, d_switch, r_switch, dr_switch, rp_switch, k_switch, p_switch, old, no_members, and_member, map_network, map_networks}
+use Rattle.net_tree.specs.Network.{Network, Networks, arr, seq, first, par, loop_pre, initial_out, initial_in, i_pre, delay, hold, accum_by, after, repeatedly, time, integral, at_once, delayed, switch, r_switch, rp_switch, k_switch, p_switch, old, no_members, and_member, map_network, map_networks}
 use Rattle.net_tree.specs.declared.net.Net.{Net}
 use Rattle.net_tree.specs.declared.net.Net.TheVariants as V
 
@@ -22,15 +22,15 @@ network_of (V.After q c) = after q c
 network_of (V.Repeatedly q c) = repeatedly q c
 network_of V.Time = time
 network_of V.Integral = integral
-network_of (V.Switch f t) = switch f t
-network_of (V.DSwitch f t) = d_switch f t
-network_of (V.RSwitch f t) = r_switch f t
+network_of (V.Switch f t) = switch at_once f t
+network_of (V.DSwitch f t) = switch delayed f t
+network_of (V.RSwitch f t) = r_switch at_once f t
 network_of (V.KSwitch f e t) = k_switch f e t
 network_of (V.PSwitch r fs e t) = p_switch r fs e t
 network_of (V.Old k) = old k
 network_of (V.InitialOut c f) = initial_out c f
 network_of (V.InitialIn c f) = initial_in c f
-network_of (V.DrSwitch f t) = dr_switch f t
+network_of (V.DrSwitch f t) = r_switch delayed f t
 network_of (V.RpSwitch fs m t) = rp_switch fs m t
 
 -- the members that some `Net`s are

@@ -1,7 +1,7 @@
 -- What stands at a position: child numbers lead from the root through networks, and into an
 -- expression.
 use Rattle.std.specs.Prelude.{ℕ, zero, suc, List, [], ◌∷◌, Option, Some, None, option_map}
-use Rattle.net_tree.specs.Network.{Network, Networks, arr, seq, first, par, loop_pre, initial_out, initial_in, i_pre, delay, hold, accum_by, after, repeatedly, switch, d_switch, r_switch, dr_switch, rp_switch, k_switch, p_switch, no_members, and_member}
+use Rattle.net_tree.specs.Network.{Network, Networks, arr, seq, first, par, loop_pre, initial_out, initial_in, i_pre, delay, hold, accum_by, after, repeatedly, switch, r_switch, rp_switch, k_switch, p_switch, no_members, and_member}
 
 infixl 20 ◌>>=◌
 -- the next step, where there is something
@@ -68,12 +68,10 @@ child (accum_by g z) zero = Some (a_leaf g)
 child (accum_by g z) (suc zero) = Some (a_leaf z)
 child (after q c) zero = Some (a_leaf c)
 child (repeatedly q c) zero = Some (a_leaf c)
-child (switch f n) zero = Some (a_network f)
-child (switch f n) (suc zero) = Some (a_network n)
-child (d_switch f n) zero = Some (a_network f)
-child (d_switch f n) (suc zero) = Some (a_network n)
-child (r_switch f n) zero = Some (a_network f)
-child (r_switch f n) (suc zero) = Some (a_network n)
+child (switch tm f n) zero = Some (a_network f)
+child (switch tm f n) (suc zero) = Some (a_network n)
+child (r_switch tm f n) zero = Some (a_network f)
+child (r_switch tm f n) (suc zero) = Some (a_network n)
 child (k_switch f e n) zero = Some (a_network f)
 child (k_switch f e n) (suc zero) = Some (a_network e)
 child (k_switch f e n) (suc (suc zero)) = Some (a_network n)
@@ -84,8 +82,6 @@ child (initial_out c f) zero = Some (a_leaf c)
 child (initial_out c f) (suc zero) = Some (a_network f)
 child (initial_in c f) zero = Some (a_leaf c)
 child (initial_in c f) (suc zero) = Some (a_network f)
-child (dr_switch f n) zero = Some (a_network f)
-child (dr_switch f n) (suc zero) = Some (a_network n)
 child (rp_switch fs m n) k = collection_child (p_switch_child fs k) fs m n k
 child _ _ = None
 

@@ -2,9 +2,8 @@
 
 ghost use Rattle.std.specs.Prelude.{◌≡◌, IfOk};
 ghost use Rattle.net_tree.specs.FormView.{fed_form_of, leaf_form_of, pair_form_of};
-ghost use Rattle.net_tree.specs.declared.net.Net.TheVariants as V;
 
-use crate::net::{Members, Net, NetChild};
+use crate::net::{Net, NetChild};
 use leaf_core::Expr;
 use sample_core::Memory;
 use std::alloc::Global;
@@ -89,188 +88,38 @@ impl Net<Expr> {
         ensures { IfOk result (λ n. n ≡ self.now) }
     {
         match self {
-            Net::Arr(c) => copied_leaf(alloc, LeafForm::Arr, c),
-            Net::IPre(c) => copied_leaf(alloc, LeafForm::IPre, c),
-            Net::Delay(q, c) => copied_leaf(alloc, LeafForm::Delay(*q), c),
-            Net::Hold(c) => copied_leaf(alloc, LeafForm::Hold, c),
-            Net::After(q, c) => copied_leaf(alloc, LeafForm::After(*q), c),
-            Net::Repeatedly(q, c) => copied_leaf(alloc, LeafForm::Repeatedly(*q), c),
-            Net::AccumBy(g, z) => copied_accum(alloc, g, z),
+            Net::Arr(e) => Ok(Net::Arr(e.try_copy(alloc)?)),
+            Net::Seq(f, g) => Ok(Net::Seq(f.try_copy()?, g.try_copy()?)),
+            Net::First(f) => Ok(Net::First(f.try_copy()?)),
+            Net::Par(fs) => Ok(Net::Par(fs.try_copy()?)),
+            Net::LoopPre(c, f) => Ok(Net::LoopPre(c.try_copy(alloc)?, f.try_copy()?)),
+            Net::IPre(c) => Ok(Net::IPre(c.try_copy(alloc)?)),
+            Net::Delay(q, c) => Ok(Net::Delay(*q, c.try_copy(alloc)?)),
+            Net::Hold(c) => Ok(Net::Hold(c.try_copy(alloc)?)),
+            Net::AccumBy(g, z) => Ok(Net::AccumBy(g.try_copy(alloc)?, z.try_copy(alloc)?)),
+            Net::After(q, c) => Ok(Net::After(*q, c.try_copy(alloc)?)),
+            Net::Repeatedly(q, c) => Ok(Net::Repeatedly(*q, c.try_copy(alloc)?)),
             Net::Time => Ok(Net::Time),
             Net::Integral => Ok(Net::Integral),
+            Net::Switch(f, t) => Ok(Net::Switch(f.try_copy()?, t.try_copy()?)),
+            Net::DSwitch(f, t) => Ok(Net::DSwitch(f.try_copy()?, t.try_copy()?)),
+            Net::RSwitch(f, t) => Ok(Net::RSwitch(f.try_copy()?, t.try_copy()?)),
+            Net::KSwitch(f, e, t) => {
+                Ok(Net::KSwitch(f.try_copy()?, e.try_copy()?, t.try_copy()?))
+            }
+            Net::PSwitch(r, fs, e, t) => Ok(Net::PSwitch(
+                r.try_copy(alloc)?,
+                fs.try_copy()?,
+                e.try_copy()?,
+                t.try_copy()?,
+            )),
             Net::Old(k) => Ok(Net::Old(*k)),
-            Net::Seq(f, g) => copied_pair(PairForm::Seq, f, g),
-            Net::Switch(f, t) => copied_pair(PairForm::Switch, f, t),
-            Net::DSwitch(f, t) => copied_pair(PairForm::DSwitch, f, t),
-            Net::RSwitch(f, t) => copied_pair(PairForm::RSwitch, f, t),
-            Net::First(f) => copied_first(f),
-            Net::LoopPre(c, f) => copied_fed(alloc, FedForm::LoopPre, c, f),
-            Net::Par(fs) => copied_par(fs),
-            Net::KSwitch(f, e, t) => copied_freeze(f, e, t),
-            Net::PSwitch(r, fs, e, t) => copied_freeze_all(alloc, r, fs, e, t),
-            Net::InitialOut(c, f) => copied_fed(alloc, FedForm::InitialOut, c, f),
-            Net::InitialIn(c, f) => copied_fed(alloc, FedForm::InitialIn, c, f),
-            Net::DrSwitch(f, t) => copied_pair(PairForm::DrSwitch, f, t),
-            Net::RpSwitch(fs, m, t) => copied_collection(alloc, fs, m, t),
-        }
-    }
-}
-
-/// A copy of a form of one leaf.
-fn copied_leaf(alloc: Global, form: LeafForm, leaf: &Expr) -> Result<Net<Expr>, Memory>
-    ensures { IfOk result (λ n. n ≡ leaf_form_of form leaf.now) }
-{
-    let leaf = leaf.try_copy(alloc)?;
-    Ok(form.of(leaf))
-}
-
-/// A copy of `accumBy`.
-fn copied_accum(alloc: Global, g: &Expr, z: &Expr) -> Result<Net<Expr>, Memory>
-    ensures { IfOk result (λ n. n ≡ V.AccumBy g.now z.now) }
-{
-    let g = g.try_copy(alloc)?;
-    match z.try_copy(alloc) {
-        Ok(z) => Ok(Net::AccumBy(g, z)),
-        Err(refused) => {
-            drop(g);
-            Err(refused)
-        }
-    }
-}
-
-/// A copy of a form of two networks.
-fn copied_pair(form: PairForm, f: &NetChild<Expr>, g: &NetChild<Expr>) -> Result<Net<Expr>, Memory>
-    ensures { IfOk result (λ n. n ≡ pair_form_of form f.now g.now) }
-{
-    let (f, g) = copied_children(f, g)?;
-    Ok(form.of(f, g))
-}
-
-/// A copy of `first`.
-fn copied_first(f: &NetChild<Expr>) -> Result<Net<Expr>, Memory>
-    ensures { IfOk result (λ n. n ≡ V.First f.now) }
-{
-    let f = f.try_copy()?;
-    Ok(Net::First(f))
-}
-
-/// A copy of a form of an expression and a network.
-fn copied_fed(
-    alloc: Global,
-    form: FedForm,
-    c: &Expr,
-    f: &NetChild<Expr>,
-) -> Result<Net<Expr>, Memory>
-    ensures { IfOk result (λ n. n ≡ fed_form_of form c.now f.now) }
-{
-    let f = f.try_copy()?;
-    match c.try_copy(alloc) {
-        Ok(c) => Ok(form.of(c, f)),
-        Err(refused) => {
-            drop(f);
-            Err(refused)
-        }
-    }
-}
-
-/// A copy of `parB`.
-fn copied_par(fs: &Members<Expr>) -> Result<Net<Expr>, Memory>
-    ensures { IfOk result (λ n. n ≡ V.Par fs.now) }
-{
-    let fs = fs.try_copy()?;
-    Ok(Net::Par(fs))
-}
-
-/// A copy of `kSwitch`.
-fn copied_freeze(
-    f: &NetChild<Expr>,
-    e: &NetChild<Expr>,
-    t: &NetChild<Expr>,
-) -> Result<Net<Expr>, Memory>
-    ensures { IfOk result (λ n. n ≡ V.KSwitch f.now e.now t.now) }
-{
-    let f = f.try_copy()?;
-    match copied_children(e, t) {
-        Ok((e, t)) => Ok(Net::KSwitch(f, e, t)),
-        Err(refused) => {
-            drop(f);
-            Err(refused)
-        }
-    }
-}
-
-/// A copy of `pSwitch`.
-fn copied_freeze_all(
-    alloc: Global,
-    r: &Expr,
-    fs: &Members<Expr>,
-    e: &NetChild<Expr>,
-    t: &NetChild<Expr>,
-) -> Result<Net<Expr>, Memory>
-    ensures { IfOk result (λ n. n ≡ V.PSwitch r.now fs.now e.now t.now) }
-{
-    let (e, t) = copied_children(e, t)?;
-    match copied_route(alloc, r, fs) {
-        Ok((r, fs)) => Ok(Net::PSwitch(r, fs, e, t)),
-        Err(refused) => {
-            drop(e);
-            drop(t);
-            Err(refused)
-        }
-    }
-}
-
-/// A copy of `rpSwitchB`.
-fn copied_collection(
-    alloc: Global,
-    fs: &Members<Expr>,
-    m: &Expr,
-    t: &NetChild<Expr>,
-) -> Result<Net<Expr>, Memory>
-    ensures { IfOk result (λ n. n ≡ V.RpSwitch fs.now m.now t.now) }
-{
-    let t = t.try_copy()?;
-    match copied_route(alloc, m, fs) {
-        Ok((m, fs)) => Ok(Net::RpSwitch(fs, m, t)),
-        Err(refused) => {
-            drop(t);
-            Err(refused)
-        }
-    }
-}
-
-/// Copies of two networks, whose parts are shared with them. They take no memory; `Memory` only
-/// where a count of references is full, and nothing is kept then.
-pub fn copied_children(
-    e: &NetChild<Expr>,
-    t: &NetChild<Expr>,
-) -> Result<(NetChild<Expr>, NetChild<Expr>), Memory>
-    ensures { IfOk result (λ p. (p.0 ≡ e.now) × (p.1 ≡ t.now)) }
-{
-    let e = e.try_copy()?;
-    match t.try_copy() {
-        Ok(t) => Ok((e, t)),
-        Err(refused) => {
-            drop(e);
-            Err(refused)
-        }
-    }
-}
-
-/// Copies of an expression and of members.
-fn copied_route(
-    alloc: Global,
-    r: &Expr,
-    fs: &Members<Expr>,
-) -> Result<(Expr, Members<Expr>), Memory>
-    ensures { IfOk result (λ p. (p.0 ≡ r.now) × (p.1 ≡ fs.now)) }
-{
-    let fs = fs.try_copy()?;
-    match r.try_copy(alloc) {
-        Ok(r) => Ok((r, fs)),
-        Err(refused) => {
-            drop(fs);
-            Err(refused)
+            Net::InitialOut(c, f) => Ok(Net::InitialOut(c.try_copy(alloc)?, f.try_copy()?)),
+            Net::InitialIn(c, f) => Ok(Net::InitialIn(c.try_copy(alloc)?, f.try_copy()?)),
+            Net::DrSwitch(f, t) => Ok(Net::DrSwitch(f.try_copy()?, t.try_copy()?)),
+            Net::RpSwitch(fs, m, t) => {
+                Ok(Net::RpSwitch(fs.try_copy()?, m.try_copy(alloc)?, t.try_copy()?))
+            }
         }
     }
 }

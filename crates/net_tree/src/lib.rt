@@ -20,7 +20,7 @@ mod net;
 mod position;
 
 pub use equal::{Parts, parts_inside, same_net};
-pub use forms::{FedForm, LeafForm, PairForm, copied_children};
+pub use forms::{FedForm, LeafForm, PairForm};
 pub use law_step::{Direction, Law, LawStep, Tree};
 pub use measure::{MOST_HEIGHT, MOST_SIZE, MOST_WEIGHT, Measures, height, measured, weight};
 pub use net::{Members, Net, NetChild};

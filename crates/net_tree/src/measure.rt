@@ -4,7 +4,7 @@ ghost use Rattle.std.specs.Prelude.{◌≡◌, ◌+◌, ◌*◌, ◌++◌, ◌�
 ghost use Rattle.leaf_core.specs.Expression.{input};
 ghost use Rattle.net_tree.specs.Height.{height as height_of, heights as heights_of, greatest};
 ghost use Rattle.net_tree.specs.Measured.{AddsMeasures, Counts, GathersMeasures, Measured, capped};
-ghost use Rattle.net_tree.specs.Network.{seq, first, par, old, k_switch, p_switch, dr_switch, rp_switch, network_size, networks_size};
+ghost use Rattle.net_tree.specs.Network.{seq, first, par, old, k_switch, p_switch, delayed, r_switch, rp_switch, network_size, networks_size};
 ghost use Rattle.net_tree.specs.NetworkView.{members_of, tree, tree_of, trees};
 ghost use Rattle.net_tree.specs.Weight.{weight as weight_of, weights as weights_of};
 ghost use Rattle.net_tree.specs.declared.measure.Stop.TheVariants as S;
@@ -286,7 +286,7 @@ fn measure_late(
     by: &Measuring,
     size: u32,
 ) -> Result<Measures, Stop>
-    ensures { AddsMeasures result by.now size (dr_switch (tree f.now) (tree t.now)) }
+    ensures { AddsMeasures result by.now size (r_switch delayed (tree f.now) (tree t.now)) }
 {
     let f = measure_net(alloc, f.get(), by, more(size))?;
     let t = measure_net(alloc, t.get(), by, f.size)?;

@@ -1,7 +1,7 @@
 -- Where a part stands is one place, and is the same where the part is another.
 use Rattle.std.proofs.Common.{◌≡◌, ℕ, zero, suc, Option, Some, None, IfSome, option_map, refl, sym, ap, ◌∙◌}
 use Rattle.leaf_core.specs.Expression.{Expression}
-use Rattle.net_tree.specs.Network.{Network, Networks, arr, seq, first, par, loop_pre, i_pre, delay, hold, accum_by, after, repeatedly, switch, d_switch, r_switch, k_switch, p_switch, initial_out, initial_in, dr_switch, rp_switch, no_members, and_member}
+use Rattle.net_tree.specs.Network.{Network, Networks, arr, seq, first, par, loop_pre, i_pre, delay, hold, accum_by, after, repeatedly, switch, r_switch, k_switch, p_switch, initial_out, initial_in, rp_switch, no_members, and_member}
 use Rattle.net_tree.specs.Place.{◌>>=◌, Tree, a_network, a_leaf, member, child, child_network, collection_child, PSwitchChild, p_switch_child, member_child, event_child, continuation_child, no_child}
 use Rattle.net_syntax.specs.Placed.{with_member, with_child, with_p_switch_child, with_collection_child}
 use Rattle.net_syntax.specs.Standing.{Standing}
@@ -43,12 +43,10 @@ kept R (accum_by g z) zero (a_leaf s) = (refl, refl)
 kept R (accum_by g z) (suc zero) (a_leaf s) = (refl, refl)
 kept R (after q c) zero (a_leaf s) = (refl, refl)
 kept R (repeatedly q c) zero (a_leaf s) = (refl, refl)
-kept R (switch f t) zero (a_network s) = (refl, refl)
-kept R (switch f t) (suc zero) (a_network s) = (refl, refl)
-kept R (d_switch f t) zero (a_network s) = (refl, refl)
-kept R (d_switch f t) (suc zero) (a_network s) = (refl, refl)
-kept R (r_switch f t) zero (a_network s) = (refl, refl)
-kept R (r_switch f t) (suc zero) (a_network s) = (refl, refl)
+kept R (switch tm f t) zero (a_network s) = (refl, refl)
+kept R (switch tm f t) (suc zero) (a_network s) = (refl, refl)
+kept R (r_switch tm f t) zero (a_network s) = (refl, refl)
+kept R (r_switch tm f t) (suc zero) (a_network s) = (refl, refl)
 kept R (k_switch f e t) zero (a_network s) = (refl, refl)
 kept R (k_switch f e t) (suc zero) (a_network s) = (refl, refl)
 kept R (k_switch f e t) (suc (suc zero)) (a_network s) = (refl, refl)
@@ -81,8 +79,6 @@ kept R (initial_out c f) zero (a_leaf s) = (refl, refl)
 kept R (initial_out c f) (suc zero) (a_network s) = (refl, refl)
 kept R (initial_in c f) zero (a_leaf s) = (refl, refl)
 kept R (initial_in c f) (suc zero) (a_network s) = (refl, refl)
-kept R (dr_switch f t) zero (a_network s) = (refl, refl)
-kept R (dr_switch f t) (suc zero) (a_network s) = (refl, refl)
 kept R (rp_switch fs m t) k s = go (p_switch_child fs k) refl s
   where
     Changed : Tree Expression → Option (Network Expression) → Type 0

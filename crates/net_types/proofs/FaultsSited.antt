@@ -5,7 +5,7 @@ use Rattle.leaf_core.specs.TypeLimits.{type_fits, same_tree}
 use Rattle.leaf_core.specs.Expression.{Expression}
 use Rattle.leaf_core.specs.ExpressionCheck.{type_answer}
 use Rattle.leaf_core.specs.declared.typing.ExprFault.{ExprFault}
-use Rattle.net_tree.specs.Network.{Network, Networks, network_size, arr, seq, first, par, loop_pre, i_pre, delay, hold, accum_by, after, repeatedly, time, integral, switch, d_switch, r_switch, k_switch, p_switch, old, initial_out, initial_in, dr_switch, rp_switch, no_members, and_member}
+use Rattle.net_tree.specs.Network.{Network, Networks, network_size, arr, seq, first, par, loop_pre, i_pre, delay, hold, accum_by, after, repeatedly, time, integral, switch, r_switch, k_switch, p_switch, old, initial_out, initial_in, rp_switch, no_members, and_member}
 use Rattle.net_meaning.specs.Typing.{Arrow, copies, members}
 use Rattle.net_tree.specs.Height.{height}
 use Rattle.net_tree.specs.Weight.{weight}
@@ -227,16 +227,14 @@ module _ {L : Type 0} (t : LeafChecker L) where
         (λ v w. ends_next (by_leaf (repeatedly q c) P 0 Ps unit_ty c refl) (λ C u. by_within (repeatedly q c) P (event_ty C)))
     sited P Ps Os A time = ended tt
     sited P Ps Os A integral = by_same integral P P int_ty A (here integral P)
-    sited P Ps Os A (switch f n) = ends_next (in_child (switch f n) P 0 f refl (sited (P ↓ 0) Ps Os A f))
-        (λ F u. by_switched (switch f n) P f n refl refl F _ (λ C. in_child (switch f n) P 1 n refl (sited (P ↓ 1) (Ps ++ C ∷ []) Os A n)))
-    sited P Ps Os A (d_switch f n) = ends_next (in_child (d_switch f n) P 0 f refl (sited (P ↓ 0) Ps Os A f))
-        (λ F u. by_switched (d_switch f n) P f n refl refl F _ (λ C. in_child (d_switch f n) P 1 n refl (sited (P ↓ 1) (Ps ++ C ∷ []) Os A n)))
-    sited P Ps Os A (r_switch f n) =
-        ends_next (by_pair (r_switch f n) P P A (here (r_switch f n) P))
-        (λ q v. ends_next (by_event (r_switch f n) P P q.1 (here (r_switch f n) P))
-        (λ C w. ends_next (in_child (r_switch f n) P 0 f refl (sited (P ↓ 0) Ps Os q.0 f))
-        (λ B u. ends_next (in_child (r_switch f n) P 1 n refl (sited (P ↓ 1) (Ps ++ C ∷ []) Os q.0 n))
-        (λ D i. by_same (r_switch f n) P (P ↓ 1) B D (at_child (r_switch f n) P 1 n refl)))))
+    sited P Ps Os A (switch tm f n) = ends_next (in_child (switch tm f n) P 0 f refl (sited (P ↓ 0) Ps Os A f))
+        (λ F u. by_switched (switch tm f n) P f n refl refl F _ (λ C. in_child (switch tm f n) P 1 n refl (sited (P ↓ 1) (Ps ++ C ∷ []) Os A n)))
+    sited P Ps Os A (r_switch tm f n) =
+        ends_next (by_pair (r_switch tm f n) P P A (here (r_switch tm f n) P))
+        (λ q v. ends_next (by_event (r_switch tm f n) P P q.1 (here (r_switch tm f n) P))
+        (λ C w. ends_next (in_child (r_switch tm f n) P 0 f refl (sited (P ↓ 0) Ps Os q.0 f))
+        (λ B u. ends_next (in_child (r_switch tm f n) P 1 n refl (sited (P ↓ 1) (Ps ++ C ∷ []) Os q.0 n))
+        (λ D i. by_same (r_switch tm f n) P (P ↓ 1) B D (at_child (r_switch tm f n) P 1 n refl)))))
     sited P Ps Os A (k_switch f e n) =
         ends_next (in_child (k_switch f e n) P 0 f refl (sited (P ↓ 0) Ps Os A f))
         (λ B u. ends_next (by_within (k_switch f e n) P (pair_ty A B))
@@ -271,12 +269,6 @@ module _ {L : Type 0} (t : LeafChecker L) where
         ends_next (by_leaf (initial_in c f) P 0 Ps unit_ty c refl)
         (λ C u. ends_next (by_same (initial_in c f) P P A C (here (initial_in c f) P))
         (λ N v. in_child (initial_in c f) P 1 f refl (sited (P ↓ 1) Ps Os A f)))
-    sited P Ps Os A (dr_switch f n) =
-        ends_next (by_pair (dr_switch f n) P P A (here (dr_switch f n) P))
-        (λ q v. ends_next (by_event (dr_switch f n) P P q.1 (here (dr_switch f n) P))
-        (λ C w. ends_next (in_child (dr_switch f n) P 0 f refl (sited (P ↓ 0) Ps Os q.0 f))
-        (λ B u. ends_next (in_child (dr_switch f n) P 1 n refl (sited (P ↓ 1) (Ps ++ C ∷ []) Os q.0 n))
-        (λ D i. by_same (dr_switch f n) P (P ↓ 1) B D (at_child (dr_switch f n) P 1 n refl)))))
     sited P Ps Os A (rp_switch fs m n) =
         ends_next (by_counted (rp_switch fs m n) P fs)
         (λ u v. ends_next (by_pair (rp_switch fs m n) P P A (here (rp_switch fs m n) P))

@@ -4,13 +4,13 @@ use Rattle.std.specs.Result.{result_ok}
 use Rattle.sample_core.specs.TypeTree.{TypeTree, unit_ty, int_ty, pair_ty, event_ty, list_ty}
 use Rattle.leaf_core.specs.Expression.{Expression}
 use Rattle.net_tree.specs.Network.{Network, Networks, par, p_switch, rp_switch, no_members, and_member}
-use Rattle.net_meaning.specs.Typing.{Arrow, arrow, copies, members, arr_typed, seq_typed, first_typed, par_typed, loop_typed, i_pre_typed, delay_typed, hold_typed, accum_typed, after_typed, repeatedly_typed, switch_typed, d_switch_typed, r_switch_typed, k_switch_typed, p_switch_typed, initial_out_typed, initial_in_typed, dr_switch_typed, rp_switch_typed, no_members_typed, and_member_typed}
+use Rattle.net_meaning.specs.Typing.{Arrow, arrow, copies, members, arr_typed, seq_typed, first_typed, par_typed, loop_typed, i_pre_typed, delay_typed, hold_typed, accum_typed, after_typed, repeatedly_typed, switch_typed, r_switch_typed, k_switch_typed, p_switch_typed, initial_out_typed, initial_in_typed, rp_switch_typed, no_members_typed, and_member_typed}
 use Rattle.net_meaning.specs.NetworkLimits.{NetTypedWithin}
 use Rattle.net_tree.specs.Place.{Tree, a_network, a_leaf, member, child, child_network, collection_child, PSwitchChild, p_switch_child, member_child, event_child, continuation_child, no_child}
 use Rattle.net_syntax.specs.Placed.{with_member, with_child, with_p_switch_child, with_collection_child}
-use Rattle.net_syntax.specs.Standing.{Standing, standing, ChildStands, in_arr, first_in_seq, second_in_seq, in_first, in_par, constant_in_loop, network_in_loop, in_i_pre, in_delay, in_hold, step_in_accum, start_in_accum, in_after, in_repeatedly, network_in_switch, continuation_in_switch, network_in_d_switch, continuation_in_d_switch, network_in_r_switch, continuation_in_r_switch, network_in_k_switch, event_in_k_switch, continuation_in_k_switch, route_in_p_switch, member_in_p_switch, event_in_p_switch, continuation_in_p_switch, constant_in_initial_out, network_in_initial_out, constant_in_initial_in, network_in_initial_in, network_in_dr_switch, continuation_in_dr_switch, member_in_rp_switch, choice_in_rp_switch, continuation_in_rp_switch}
+use Rattle.net_syntax.specs.Standing.{Standing, standing, TreeWithin, ChildStands, in_arr, first_in_seq, second_in_seq, in_first, in_par, constant_in_loop, network_in_loop, in_i_pre, in_delay, in_hold, step_in_accum, start_in_accum, in_after, in_repeatedly, network_in_switch, continuation_in_switch, network_in_r_switch, continuation_in_r_switch, network_in_k_switch, event_in_k_switch, continuation_in_k_switch, route_in_p_switch, member_in_p_switch, event_in_p_switch, continuation_in_p_switch, constant_in_initial_out, network_in_initial_out, constant_in_initial_in, network_in_initial_in, member_in_rp_switch, choice_in_rp_switch, continuation_in_rp_switch}
 use Rattle.net_syntax.specs.StandingWalk.{inside}
-use Rattle.net_syntax.proofs.FoundTypes.{TreeWithin, MembersWithin, ChildThere, child_there, forget, forget_all}
+use Rattle.net_syntax.proofs.FoundTypes.{MembersWithin, ChildThere, child_there, forget, forget_all}
 use Rattle.net_syntax.proofs.OnePlace.{populated, one_place}
 use Rattle.net_syntax.proofs.SamePlaces.{Filler, filled}
 use Rattle.net_types.specs.KeptTypes.{checked_output}
@@ -162,20 +162,6 @@ hole {Ps = Ps} {Os = Os} (switch_typed {A = A} {B = B} {C = C} d k) (suc zero) =
   typed = k;
   put = λ n i. switch_typed d i;
 }
-hole {Ps = Ps} {Os = Os} (d_switch_typed {A = A} {B = B} {C = C} d k) zero = record {
-  place = standing Ps Os A;
-  stands = network_in_d_switch;
-  out = pair_ty B (event_ty C);
-  typed = d;
-  put = λ n i. d_switch_typed i k;
-}
-hole {Ps = Ps} {Os = Os} (d_switch_typed {A = A} {B = B} {C = C} d k) (suc zero) = record {
-  place = standing (Ps ++ C ∷ []) Os A;
-  stands = continuation_in_d_switch (forget d);
-  out = B;
-  typed = k;
-  put = λ n i. d_switch_typed d i;
-}
 hole {Ps = Ps} {Os = Os} (r_switch_typed {D = D} {B = B} {C = C} d k) zero = record {
   place = standing Ps Os D;
   stands = network_in_r_switch;
@@ -293,20 +279,6 @@ hole {Ps = Ps} {Os = Os} (initial_in_typed {A = A} {B = B} h d) (suc zero) = rec
   out = B;
   typed = d;
   put = λ n i. initial_in_typed h i;
-}
-hole {Ps = Ps} {Os = Os} (dr_switch_typed {D = D} {B = B} {C = C} d k) zero = record {
-  place = standing Ps Os D;
-  stands = network_in_dr_switch;
-  out = B;
-  typed = d;
-  put = λ n i. dr_switch_typed i k;
-}
-hole {Ps = Ps} {Os = Os} (dr_switch_typed {D = D} {B = B} {C = C} d k) (suc zero) = record {
-  place = standing (Ps ++ C ∷ []) Os D;
-  stands = continuation_in_dr_switch;
-  out = B;
-  typed = k;
-  put = λ n i. dr_switch_typed d i;
 }
 hole {Ps = Ps} {Os = Os} (rp_switch_typed {fs = fs} {m = m} {t = t} {D = D} {B = B} {C = C} {V = V} some few ds h dt w) k = go (p_switch_child fs k) refl
   where

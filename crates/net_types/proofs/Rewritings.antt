@@ -1,5 +1,5 @@
 -- A type is kept at a position, as the code finds it, exactly where the tree with another there is typed within the limits.
-use Rattle.std.proofs.Common.{◌≡◌, ◌≤◌, ◌<◌, ℕ, leb, leb-true, le-leb, arith, Bool, true, false, ◌&&◌, List, [], ◌∷◌, Option, Some, None, IfSome, option_map, Result, Ok, Err, refl, sym, ap, subst, ◌∙◌}
+use Rattle.std.proofs.Common.{◌≡◌, ◌≤◌, ℕ, leb, leb-true, le-leb, arith, Bool, true, false, ◌&&◌, List, [], ◌∷◌, Option, Some, None, IfSome, option_map, Result, Ok, Err, refl, sym, ap, subst, ◌∙◌}
 use Rattle.std.specs.Option.{option_and_then}
 use Rattle.std.specs.Result.{result_ok}
 use Rattle.std.proofs.lemmas.Option.{none-some, same_Some}
@@ -24,10 +24,10 @@ use Rattle.net_tree.specs.Place.{◌>>=◌, Tree, a_network, a_leaf, child}
 use Rattle.net_syntax.specs.Placed.{with_child, replaced}
 use Rattle.net_meaning.specs.TypedNetwork.{TypedNetwork}
 use Rattle.net_meaning.specs.NetworkLimits.{NetTypedWithin, WithinLimits}
-use Rattle.net_syntax.specs.Standing.{Standing, standing, alone, TreeTyped, StandsAt, at_network, inside_network, inside_expression}
+use Rattle.net_syntax.specs.Standing.{Standing, standing, alone, TreeTyped, TreeWithin, StandsAt, at_network, inside_network, inside_expression}
 use Rattle.net_syntax.specs.StandingWalk.{inside}
 use Rattle.net_meaning.proofs.StreamLaws.{one-output-type}
-use Rattle.net_syntax.proofs.FoundTypes.{TreeWithin, forget}
+use Rattle.net_syntax.proofs.FoundTypes.{forget}
 use Rattle.net_syntax.proofs.SamePlaces.{Filler, filled}
 use Rattle.net_types.specs.KeptTypes.{checked_output, same_type, kept_in_leaf, both_there, type_kept}
 use Rattle.net_types.specs.Answered.{NoRewriting}

@@ -1,32 +1,16 @@
 -- The lists of what is in scope, and the members of a network, as the code has them.
-use Rattle.std.proofs.Common.{◌≡◌, ◌∙◌, ℕ, zero, suc, ◌<◌, ◌≤◌, List, [], ◌∷◌, ◌++◌, length, get_or, map, Ok, Err, append_assoc, refl, sym, ap, arith}
-use Rattle.std.proofs.lemmas.List.{map-append}
+use Rattle.std.proofs.Common.{◌≡◌, ℕ, zero, suc, ◌<◌, ◌≤◌, List, [], ◌∷◌, length, get_or, map, Ok, Err, refl, ap, arith}
 use Rattle.leaf_core.specs.ExpressionView.{expression_of}
 use Rattle.leaf_core.specs.declared.expr.Expr.{Expr}
 use Rattle.net_syntax.specs.ArrowView.{arrow_of}
 use Rattle.net_tree.specs.Network.{map_networks}
 use Rattle.net_tree.specs.NetworkView.{members_of}
-use Rattle.net_meaning.specs.Typing as T
-use Rattle.net_meaning.specs.Typing.{copies, members}
+use Rattle.net_meaning.specs.Typing.{members}
 use Rattle.net_syntax.specs.declared.arrow.Arrow.{Arrow}
 use Rattle.net_tree.specs.declared.net.Net.{Net}
 use Rattle.net_types.specs.declared.fault.TypeFault.TheVariants as Fault
 use Rattle.net_types.specs.Walk.{old_at, test_members}
 use Rattle.net_types.proofs.WalkTests.{counted_passes, counted_fails}
-
--- one copy more
-pub copies_more : (n : ℕ) (o : T.Arrow) → copies (suc n) o ≡ copies n o ++ o ∷ []
-copies_more zero o = refl
-copies_more (suc n) o = ap (λ os. o ∷ os) (copies_more n o)
-
-pub copied_once : (xs ys zs : List Arrow) (y : Arrow) (n m : ℕ) (o : T.Arrow) → map arrow_of xs ≡ map arrow_of zs ++ copies n o → arrow_of y ≡ o
-    → ys ≡ xs ++ y ∷ [] → m ≡ suc n → map arrow_of ys ≡ map arrow_of zs ++ copies m o
-copied_once xs ys zs y n m o h e f g =
-    ap (map arrow_of) f ∙ (map-append arrow_of xs (y ∷ [])
-    ∙ (ap (λ os. os ++ arrow_of y ∷ []) h
-    ∙ (ap (λ q. (map arrow_of zs ++ copies n o) ++ q ∷ []) e
-    ∙ (append_assoc (map arrow_of zs) (copies n o) (o ∷ [])
-    ∙ (ap (λ os. map arrow_of zs ++ os) (sym (copies_more n o)) ∙ ap (λ k. map arrow_of zs ++ copies k o) (sym g))))))
 
 pub old_found : (P : List ℕ) (Os : List Arrow) (k : ℕ) (o : Arrow) → k < length Os → old_at P (map arrow_of Os) k ≡ Ok (arrow_of (get_or Os k o))
 old_found P [] k o h = absurd (omega arith)

@@ -2,15 +2,16 @@
 use Rattle.std.proofs.Common.{◌≡◌, ℕ, suc, ◌+◌, ◌*◌, ◌<◌, ◌≤◌, Bool, true, false, leb, leb-true, leb-false, List, [], ◌∷◌, ◌++◌, refl, arith}
 use Rattle.std.proofs.Math.Nat.{mul-le-mul_right, suc-mul}
 use Rattle.sample_core.specs.TypeTree.{TypeTree}
-use Rattle.net_tree.specs.Network.{Network, Networks, network_size, networks_size, seq}
+use Rattle.net_tree.specs.Network.{Network, Networks, at_once, delayed, network_size, networks_size, seq, r_switch}
 use Rattle.net_tree.specs.Height.{greatest}
-use Rattle.net_meaning.specs.Typing.{Arrow, LeafTyping, members, Typed, AllTyped, seq_typed, first_typed, par_typed, loop_typed, switch_typed, d_switch_typed, r_switch_typed, k_switch_typed, p_switch_typed, old_typed, initial_out_typed, initial_in_typed, dr_switch_typed, rp_switch_typed, no_members_typed, and_member_typed}
+use Rattle.net_meaning.specs.Typing.{Arrow, LeafTyping, members, Typed, AllTyped, seq_typed, first_typed, par_typed, loop_typed, switch_typed, r_switch_typed, k_switch_typed, p_switch_typed, old_typed, initial_out_typed, initial_in_typed, rp_switch_typed, no_members_typed, and_member_typed}
 use Rattle.net_tree.specs.Weight.{weight, weights, weight_at, total}
 use Rattle.net_types.specs.TypingLaws.{SizeLaw}
 
 -- a node weighs something
 heavy : {L : Type 0} (net : Network L) (ws : List ℕ) → 1 ≤ weight net ws
 heavy (seq f g) ws = omega arith
+heavy (r_switch at_once f t) ws = omega arith
 heavy _ ws = omega arith
 
 module _ {L : Type 0} (T : LeafTyping L) (M : TypeTree → Type 0) where
@@ -37,10 +38,17 @@ module _ {L : Type 0} (T : LeafTyping L) (M : TypeTree → Type 0) where
       sized (loop_typed {f = f} c w d) ws h = omega (arith, sized d ws (omega arith), one_more (weight f ws))
       sized (switch_typed {f = f} {t = t} d e) ws h =
           omega (arith, sized d ws (omega arith), sized e ws (omega arith), adds (weight f ws) (weight t ws), one_more (weight f ws + weight t ws))
-      sized (d_switch_typed {f = f} {t = t} d e) ws h =
+      sized (r_switch_typed {tm = at_once} {f = f} {t = t} d e) ws h =
           omega (arith, sized d ws (omega arith), sized e ws (omega arith), adds (weight f ws) (weight t ws), one_more (weight f ws + weight t ws))
-      sized (r_switch_typed {f = f} {t = t} d e) ws h =
-          omega (arith, sized d ws (omega arith), sized e ws (omega arith), adds (weight f ws) (weight t ws), one_more (weight f ws + weight t ws))
+      sized (r_switch_typed {tm = delayed} {f = f} {t = t} d e) ws h =
+          omega (
+            arith,
+            sized d ws (omega arith),
+            sized e ws (omega arith),
+            adds (weight f ws) (weight t ws),
+            grows (weight f ws + weight t ws) (weight f ws + 2 * weight t ws) (omega arith),
+            one_more (weight f ws + 2 * weight t ws),
+          )
       sized (k_switch_typed {f = f} {e = e} {t = t} df w de dt) ws h =
           let us = ws ++ weight f ws ∷ [] in
           omega (
@@ -66,15 +74,6 @@ module _ {L : Type 0} (T : LeafTyping L) (M : TypeTree → Type 0) where
       sized (old_typed {k = k} i) ws h = omega (arith, one_more (weight_at ws k))
       sized (initial_out_typed {f = f} c d) ws h = omega (arith, sized d ws (omega arith), one_more (weight f ws))
       sized (initial_in_typed {f = f} c d) ws h = omega (arith, sized d ws (omega arith), one_more (weight f ws))
-      sized (dr_switch_typed {f = f} {t = t} d e) ws h =
-          omega (
-            arith,
-            sized d ws (omega arith),
-            sized e ws (omega arith),
-            adds (weight f ws) (weight t ws),
-            grows (weight f ws + weight t ws) (weight f ws + 2 * weight t ws) (omega arith),
-            one_more (weight f ws + 2 * weight t ws),
-          )
       sized (rp_switch_typed {Ps = Ps} {Os = Os} {fs = fs} {t = t} {D = D} {B = C} {V = V} some few ds m d w) ws h =
           collected Ps (Ps ++ V ∷ []) Os fs t D C few ds d ws h
       sized _ ws h = omega (arith, one_more 0)

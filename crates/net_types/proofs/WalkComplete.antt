@@ -2,7 +2,7 @@
 use Rattle.std.proofs.Common.{◌≡◌, ℕ, suc, List, [], ◌∷◌, ◌++◌, Ok, refl, ap, ◌^◌, ◌≤◌, arith}
 use Rattle.net_tree.specs.Network.{Network, Networks, no_members, and_member}
 use Rattle.sample_core.specs.TypeTree.{TypeTree, unit_ty, int_ty, pair_ty, event_ty, list_ty}
-use Rattle.net_meaning.specs.Typing.{Arrow, LeafTyping, copies, members, Typed, AllTyped, arr_typed, seq_typed, first_typed, par_typed, loop_typed, i_pre_typed, delay_typed, hold_typed, accum_typed, after_typed, repeatedly_typed, time_typed, integral_typed, switch_typed, d_switch_typed, r_switch_typed, k_switch_typed, p_switch_typed, old_typed, initial_out_typed, initial_in_typed, dr_switch_typed, rp_switch_typed, no_members_typed, and_member_typed}
+use Rattle.net_meaning.specs.Typing.{Arrow, LeafTyping, copies, members, Typed, AllTyped, arr_typed, seq_typed, first_typed, par_typed, loop_typed, i_pre_typed, delay_typed, hold_typed, accum_typed, after_typed, repeatedly_typed, time_typed, integral_typed, switch_typed, r_switch_typed, k_switch_typed, p_switch_typed, old_typed, initial_out_typed, initial_in_typed, rp_switch_typed, no_members_typed, and_member_typed}
 use Rattle.leaf_core.specs.TypeLimits.{TypeFits}
 use Rattle.net_types.specs.Walk.{LeafChecker, ◌↓◌, all_same, one_output, leaf_fault_at, leaf, walk, walk_all}
 use Rattle.net_types.proofs.WalkTests.{goes_on, within_passes, same_passes, between_passes, counted_passes, frozen_passes, IsExact}
@@ -53,8 +53,6 @@ module _ {L : Type 0} (t : LeafChecker L) (T : LeafTyping L) (ex : IsExact t T) 
     complete P Ps Os A net B integral_typed = refl
     complete P Ps Os A net B (switch_typed {f = f} {t = n} {C = C} d k) =
         goes_on _ (complete (P ↓ 0) Ps Os A f (pair_ty B (event_ty C)) d) (goes_on _ (complete (P ↓ 1) (Ps ++ C ∷ []) Os A n B k) (same_passes (P ↓ 1) B))
-    complete P Ps Os A net B (d_switch_typed {f = f} {t = n} {C = C} d k) =
-        goes_on _ (complete (P ↓ 0) Ps Os A f (pair_ty B (event_ty C)) d) (goes_on _ (complete (P ↓ 1) (Ps ++ C ∷ []) Os A n B k) (same_passes (P ↓ 1) B))
     complete P Ps Os A net B (r_switch_typed {f = f} {t = n} {D = D} {C = C} d k) =
         goes_on _ (complete (P ↓ 0) Ps Os D f B d) (goes_on _ (complete (P ↓ 1) (Ps ++ C ∷ []) Os D n B k) (same_passes (P ↓ 1) B))
     complete P Ps Os A net B (k_switch_typed {f = f} {e = e} {t = n} {C = C} d w h k) =
@@ -77,8 +75,6 @@ module _ {L : Type 0} (t : LeafChecker L) (T : LeafTyping L) (ex : IsExact t T) 
         goes_on _ (leaf_passes (P ↓ 0) Ps unit_ty c B h) (goes_on _ (complete (P ↓ 1) Ps Os A f B d) (same_passes P B))
     complete P Ps Os A net B (initial_in_typed {c = c} {f = f} h d) =
         goes_on _ (leaf_passes (P ↓ 0) Ps unit_ty c A h) (goes_on _ (same_passes P A) (complete (P ↓ 1) Ps Os A f B d))
-    complete P Ps Os A net B (dr_switch_typed {f = f} {t = n} {D = D} {C = C} d k) =
-        goes_on _ (complete (P ↓ 0) Ps Os D f B d) (goes_on _ (complete (P ↓ 1) (Ps ++ C ∷ []) Os D n B k) (same_passes (P ↓ 1) B))
     complete P Ps Os A net B (rp_switch_typed {fs = fs} {m = m} {t = n} {D = D} {B = G} {C = C} {V = V} c l ds h k w) =
         goes_on _ (counted_passes P fs c l)
         (goes_on _ (all_complete P 0 Ps Os D fs G ds)

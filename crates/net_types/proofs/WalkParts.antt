@@ -11,7 +11,7 @@ use Rattle.net_tree.specs.declared.net.Net.{Net}
 use Rattle.net_types.specs.declared.fault.TypeFault.{TypeFault}
 use Rattle.net_types.specs.Walk.{◌>>=◌, ◌>>◌, ◌↓◌, as_choice, as_event, as_pair, expect_same, one_output, test_members, within}
 use Rattle.net_types.specs.Check.{GivesTyped, net_walk_all}
-use Rattle.net_types.specs.Scopes.{InScope, and_olds, and_param}
+use Rattle.net_syntax.specs.Scopes.{InScope, and_olds, and_param}
 use Rattle.net_types.specs.WalkParts.{choice_walk, freezing_walk, leaf_walk, members_walk, next_walk, routed_walk, started_walk, walk_in, watch_walk}
 use Rattle.net_types.proofs.ScopeLists.{members_counted}
 

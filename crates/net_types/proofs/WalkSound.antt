@@ -1,8 +1,8 @@
 -- What the walk answers is a type of the network within the limits.
 use Rattle.std.proofs.Common.{◌≡◌, ◌∙◌, ℕ, suc, List, [], ◌∷◌, ◌++◌, Result, Ok, Err, refl, sym, ap, subst, ◌^◌}
-use Rattle.net_tree.specs.Network.{Network, Networks, arr, seq, first, par, loop_pre, i_pre, delay, hold, accum_by, after, repeatedly, time, integral, switch, d_switch, r_switch, k_switch, p_switch, old, initial_out, initial_in, dr_switch, rp_switch, no_members, and_member}
+use Rattle.net_tree.specs.Network.{Network, Networks, arr, seq, first, par, loop_pre, i_pre, delay, hold, accum_by, after, repeatedly, time, integral, switch, r_switch, k_switch, p_switch, old, initial_out, initial_in, rp_switch, no_members, and_member}
 use Rattle.sample_core.specs.TypeTree.{TypeTree, unit_ty, int_ty, pair_ty, event_ty, list_ty}
-use Rattle.net_meaning.specs.Typing.{Arrow, LeafTyping, copies, members, Typed, AllTyped, arr_typed, seq_typed, first_typed, par_typed, loop_typed, i_pre_typed, delay_typed, hold_typed, accum_typed, after_typed, repeatedly_typed, time_typed, integral_typed, switch_typed, d_switch_typed, r_switch_typed, k_switch_typed, p_switch_typed, old_typed, initial_out_typed, initial_in_typed, dr_switch_typed, rp_switch_typed, no_members_typed, and_member_typed}
+use Rattle.net_meaning.specs.Typing.{Arrow, LeafTyping, copies, members, Typed, AllTyped, arr_typed, seq_typed, first_typed, par_typed, loop_typed, i_pre_typed, delay_typed, hold_typed, accum_typed, after_typed, repeatedly_typed, time_typed, integral_typed, switch_typed, r_switch_typed, k_switch_typed, p_switch_typed, old_typed, initial_out_typed, initial_in_typed, rp_switch_typed, no_members_typed, and_member_typed}
 use Rattle.leaf_core.specs.TypeLimits.{TypeFits}
 use Rattle.leaf_core.specs.declared.typing.ExprFault.{ExprFault}
 use Rattle.net_types.specs.declared.fault.TypeFault.{TypeFault}
@@ -97,11 +97,9 @@ module _ {L : Type 0} (t : LeafChecker L) (T : LeafTyping L) (ex : IsExact t T) 
     sound P Ps Os A time = ok_holds time_typed
     sound P Ps Os A integral = same_ends (λ Z. Typed T TypeFits Ps Os integral Z int_ty
         → Typed T TypeFits Ps Os integral A int_ty) P int_ty A (λ d. d) (λ s. s integral_typed)
-    sound P Ps Os A (switch f n) =
+    sound P Ps Os A (switch tm f n) =
         next (sound (P ↓ 0) Ps Os A f) (λ F d. switched_tells P d (λ C. sound (P ↓ 1) (Ps ++ C ∷ []) Os A n) (λ B C k m. switch_typed k m))
-    sound P Ps Os A (d_switch f n) =
-        next (sound (P ↓ 0) Ps Os A f) (λ F d. switched_tells P d (λ C. sound (P ↓ 1) (Ps ++ C ∷ []) Os A n) (λ B C k m. d_switch_typed k m))
-    sound P Ps Os A (r_switch f n) =
+    sound P Ps Os A (r_switch tm f n) =
         next (pair_tells P A)
         (λ q e.
         next (event_tells P q.1)
@@ -137,13 +135,6 @@ module _ {L : Type 0} (t : LeafChecker L) (T : LeafTyping L) (ex : IsExact t T) 
         next (leaf_tells (P ↓ 0) Ps unit_ty c)
         (λ C h. next (same_tells P A C)
         (λ N s. weaker (sound (P ↓ 1) Ps Os A f) (λ B d. initial_in_typed (subst (λ Z. T c Ps unit_ty Z) s.1 h) d)))
-    sound P Ps Os A (dr_switch f n) =
-        next (pair_tells P A)
-        (λ q e.
-        next (event_tells P q.1)
-        (λ C i. next (sound (P ↓ 0) Ps Os q.0 f)
-        (λ B d. next (sound (P ↓ 1) (Ps ++ C ∷ []) Os q.0 n)
-        (λ E k. same_ends (λ Z. Typed T TypeFits (Ps ++ C ∷ []) Os n q.0 Z) (P ↓ 1) B E k (λ m. under (e ∙ ap (pair_ty q.0) i) (dr_switch_typed d m))))))
     sound P Ps Os A (rp_switch fs m n) =
         next (counted_tells P fs)
         (λ u c. next (pair_tells P A)

@@ -1,7 +1,6 @@
 -- What the type checker of networks is to do, a file a line.
 pub mod Walk
 pub mod Check
-pub mod Scopes
 pub mod WalkParts
 pub mod Sites
 pub mod FaultPlaces

@@ -8,7 +8,7 @@ use Rattle.net_meaning.specs.Typing.{Arrow, arrow}
 use Rattle.net_types.specs.declared.fault.TypeFault.{TypeFault}
 use Rattle.net_types.specs.Walk.{◌>>=◌, ◌>>◌, ◌↓◌, as_choice, as_event, as_pair, expect_same, leaf_fault_at, one_output, switched, test_range, within}
 use Rattle.net_types.specs.Check.{net_walk, net_walk_all}
-use Rattle.net_types.specs.Scopes.{InScope, and_param, and_olds}
+use Rattle.net_syntax.specs.Scopes.{InScope, and_param, and_olds}
 
 -- the type of the expression at P under a scope and an input, or its fault
 abbrev pub leaf_walk : List ℕ → InScope → TypeTree → Expression → Result TypeTree TypeFault

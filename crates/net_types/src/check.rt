@@ -5,10 +5,9 @@ ghost use Rattle.net_tree.specs.NetworkView.{tree_of};
 ghost use Rattle.net_types.specs.Check.{check, GivesTyped};
 
 use crate::fault::TypeFault;
-use crate::scope::ScopeTypes;
 use crate::walk::walk;
 use leaf_core::{Expr, type_fits};
-use net_syntax::TypedNet;
+use net_syntax::{ScopeTypes, TypedNet};
 use net_tree::{MOST_HEIGHT, MOST_SIZE, MOST_WEIGHT, Measures, Net, measured};
 use sample_core::Ty;
 use std::alloc::Global;

@@ -17,7 +17,6 @@ mod fault;
 mod laws;
 mod nodes;
 mod rewriting;
-mod scope;
 mod site;
 mod types;
 mod walk;

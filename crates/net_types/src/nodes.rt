@@ -9,11 +9,10 @@ ghost use Rattle.net_types.specs.{Walk.◌↓◌, Walk.expect_same, Walk.old_at,
 ghost use Rattle.net_types.specs.WalkParts.{leaf_walk, route_walk, step_walk, timer_walk, walk_in};
 
 use crate::fault::TypeFault;
-use crate::scope::ScopeTypes;
 use crate::site::{Site, event_at, in_range, same_at, wanted_at};
 use crate::types::{event_of, pair_of};
 use leaf_core::{Expr, ExprFault, type_of_expr};
-use net_syntax::Arrow;
+use net_syntax::{Arrow, ScopeTypes};
 use net_tree::Position;
 use sample_core::Ty;
 use std::alloc::Global;

@@ -6,12 +6,11 @@ ghost use Rattle.leaf_core.specs.{ExpressionView.expression_of, TypeLimits.same_
 ghost use Rattle.net_tree.specs.NetworkView.{tree_of};
 ghost use Rattle.net_tree.specs.{LawStep.part_of, Place.a_leaf, Place.a_network};
 ghost use Rattle.net_meaning.specs.{NetworkLimits.WithinLimits};
-ghost use Rattle.net_syntax.specs.{Placed.replaced, Rewriting.Rewrites, Standing.alone, Standing.standing, StandingWalk.standing_of};
+ghost use Rattle.net_syntax.specs.{Placed.replaced, Rewriting.Rewrites, Standing.alone, StandingWalk.standing_of};
 ghost use Rattle.net_types.specs.Answered.{AnswersRewritten, NoRewriting};
 ghost use Rattle.net_types.specs.KeptTypes.{checked_output, kept_in_leaf, same_type, type_kept};
 
 use crate::fault::TypeFault;
-use crate::scope::ScopeTypes;
 use crate::walk::walk;
 use leaf_core::{Expr, expr_fits, part_type, with_part_at};
 use net_syntax::{Standing, TreeRef, TypedNet, child, child_standing, replace};
@@ -112,79 +111,65 @@ fn keeps_type(alloc: Global, net: &TypedNet, path: &[u32], tree: &Tree) -> Resul
         (part_of tree.now)) }
 {
     let before = net.net();
-    let at = Standing {
-        params: Vec::new(alloc),
-        olds: Vec::new(alloc),
-        input: net.input().try_copy(alloc)?,
-    };
-    type_kept(alloc, at, before, path, tree)
+    let at = Standing::alone(alloc, net.input())?;
+    let kept = type_kept(alloc, &at, before, path, tree);
+    drop(at);
+    kept
 }
 
 /// Whether the tree has, at the path of a network that stands there, the type of what stands at the
 /// path; an expression that it becomes a part of must be within the limits too.
 fn type_kept(
     alloc: Global,
-    at: Standing,
+    at: &Standing,
     net: &Net<Expr>,
     path: &[u32],
     other: &Tree,
 ) -> Result<bool, Memory>
     ensures { IfOk result (λ kept. kept
-        ≡ type_kept (standing_of at) (a_network (tree_of net.now)) path.now
+        ≡ type_kept (standing_of at.now) (a_network (tree_of net.now)) path.now
         (part_of other.now)) }
 {
     let Some((k, rest)) = path.split_first() else {
         return kept_here(alloc, at, net, other);
     };
     let Some(inner) = child(net, *k) else {
-        drop(at);
         return Ok(false);
     };
     match child_standing(alloc, at, net, *k)? {
-        Some(at) => match inner {
-            TreeRef::Net(inner) => type_kept(alloc, at, inner, rest, other),
-            TreeRef::Expr(inner) => kept_inside(alloc, at, inner, rest, other),
-        },
+        Some(there) => {
+            let kept = match inner {
+                TreeRef::Net(inner) => type_kept(alloc, &there, inner, rest, other),
+                TreeRef::Expr(inner) => kept_inside(alloc, &there, inner, rest, other),
+            };
+            drop(there);
+            kept
+        }
         None => Ok(false),
     }
 }
 
 /// Whether the tree is a network of the other one's output type.
-fn kept_here(alloc: Global, at: Standing, net: &Net<Expr>, other: &Tree) -> Result<bool, Memory>
+fn kept_here(alloc: Global, at: &Standing, net: &Net<Expr>, other: &Tree) -> Result<bool, Memory>
     ensures { IfOk result (λ kept. kept
-        ≡ type_kept (standing_of at) (a_network (tree_of net.now)) [] (part_of other.now)) }
+        ≡ type_kept (standing_of at.now) (a_network (tree_of net.now)) []
+        (part_of other.now)) }
 {
     let Tree::Net(other) = other else {
-        drop(at);
         return Ok(false);
     };
-    let Standing {
-        params,
-        olds,
-        input,
-    } = at;
-    let scope = ScopeTypes::of(params, olds);
-    let before = output_of(alloc, &scope, &input, net)?;
-    let after = output_of(alloc, &scope, &input, other)?;
-    drop(scope);
-    drop(input);
+    let before = output_of(alloc, at, net)?;
+    let after = output_of(alloc, at, other)?;
     Ok(are_same(before, after))
 }
 
-/// The output type of a network under a scope and an input of this type; `None` where it has none
-/// within the limits.
-fn output_of(
-    alloc: Global,
-    scope: &ScopeTypes,
-    input: &Ty,
-    net: &Net<Expr>,
-) -> Result<Option<Ty>, Memory>
+/// The output type of a network that stands there; `None` where it has none within the limits.
+fn output_of(alloc: Global, at: &Standing, net: &Net<Expr>) -> Result<Option<Ty>, Memory>
     ensures { IfOk result (λ found. option_map type_of found
-        ≡ checked_output (standing scope.now.params scope.now.olds (type_of input.now))
-        (tree_of net.now)) }
+        ≡ checked_output (standing_of at.now) (tree_of net.now)) }
 {
     let mut path = Vec::new(alloc);
-    match walk(alloc, &mut path, scope, input, net) {
+    match walk(alloc, &mut path, &at.scope, &at.input, net) {
         Ok(found) => Ok(Some(found)),
         Err(TypeFault::Memory) => Err(Memory),
         Err(_) => Ok(None),
@@ -211,26 +196,23 @@ fn same(before: &Ty, after: &Ty) -> bool
 /// Whether an expression of a network keeps its type with the other tree at the path in it.
 fn kept_inside(
     alloc: Global,
-    at: Standing,
+    at: &Standing,
     expr: &Expr,
     path: &[u32],
     other: &Tree,
 ) -> Result<bool, Memory>
     ensures { IfOk result (λ kept. kept
-        ≡ type_kept (standing_of at) (a_leaf (expression_of expr.now)) path.now
+        ≡ type_kept (standing_of at.now) (a_leaf (expression_of expr.now)) path.now
         (part_of other.now)) }
 {
     let Tree::Expr(other) = other else {
-        drop(at);
         return Ok(false);
     };
     let Some(changed) = with_part_at(alloc, expr, path, other)? else {
-        drop(at);
         return Ok(false);
     };
-    let kept = kept_in_leaf(alloc, &at, expr, path, &changed);
+    let kept = kept_in_leaf(alloc, at, expr, path, &changed);
     drop(changed);
-    drop(at);
     kept
 }
 
@@ -250,7 +232,7 @@ fn kept_in_leaf(
     if !expr_fits(changed) {
         return Ok(false);
     }
-    let before = part_type(alloc, &at.params, &at.input, expr, path)?;
-    let after = part_type(alloc, &at.params, &at.input, changed, path)?;
+    let before = part_type(alloc, at.scope.params(), &at.input, expr, path)?;
+    let after = part_type(alloc, at.scope.params(), &at.input, changed, path)?;
     Ok(are_same(before, after))
 }

@@ -4,7 +4,7 @@ ghost use Rattle.std.specs.Prelude.{◌≡◌, ◌+◌, ◌≤◌, ◌++◌, Ok,
 ghost use Rattle.sample_core.specs.{Answer.◌>>=◌ as on_ok, TypeTree.list_ty, TypeView.type_of};
 ghost use Rattle.leaf_core.specs.ExpressionView.{expression_of};
 ghost use Rattle.net_syntax.specs.ArrowView.{arrow_of};
-ghost use Rattle.net_tree.specs.Network.{first as first_of, initial_in, initial_out, k_switch, loop_pre, map_network, map_networks, p_switch, par, r_switch, rp_switch, seq, switch};
+ghost use Rattle.net_tree.specs.Network.{first as first_of, initial_in, initial_out, k_switch, loop_pre, map_network, map_networks, p_switch, par, r_switch, rp_switch, seq, switch, at_once};
 ghost use Rattle.net_tree.specs.{NetworkView.members_of, NetworkView.tree_of};
 ghost use Rattle.net_meaning.specs.{Typing.arrow};
 ghost use Rattle.net_types.specs.{Walk.◌↓◌, Check.GivesTyped, Check.net_walk_all};
@@ -15,13 +15,12 @@ use crate::nodes::{
     accumulator_type, constant_type, delay_type, integral_type, leaf_type, old_type, route_type,
     timer_type,
 };
-use crate::scope::{ScopeTypes, arrow_between};
 use crate::site::{
     Site, choice_at, count_members, event_at, one_type, pair_at, same_at, wanted_at,
 };
-use crate::types::{limited_list_of, list_of, pair_of};
+use crate::types::{limited_list_of, pair_of};
 use leaf_core::Expr;
-use net_syntax::Arrow;
+use net_syntax::{Arrow, ScopeTypes, arrow_from, list_of};
 use net_tree::{Members, Net, NetChild};
 use sample_core::Ty;
 use std::alloc::Global;
@@ -242,7 +241,8 @@ fn walk_initial_in(
     walk_child(alloc, path, 1, scope, input, f)
 }
 
-/// The output type of a network up to its first event, and then of the continuation.
+/// The output type of a network up to its first event, and then of the continuation; it is the same
+/// at either timing.
 #[cycle(walk)]
 fn walk_switch(
     alloc: Global,
@@ -254,7 +254,7 @@ fn walk_switch(
 ) -> Result<Ty, TypeFault>
     ensures answer { GivesTyped type_of result
         (walk_in path.old.items scope.now (type_of input.now)
-        (switch (map_network expression_of f.now) (map_network expression_of t.now))) }
+        (switch at_once (map_network expression_of f.now) (map_network expression_of t.now))) }
     ensures path { OnOk result (path.new.items ≡ path.old.items) }
 {
     let found = walk_child(alloc, path, 0, scope, input, f)?;
@@ -284,7 +284,8 @@ fn walk_switched(
     walk_next(alloc, path, 1, &inner, input, output, t)
 }
 
-/// The output type of a network, and from each event in the input on of the continuation.
+/// The output type of a network, and from each event in the input on of the continuation; it is the
+/// same at either timing.
 #[cycle(walk)]
 fn walk_r_switch(
     alloc: Global,
@@ -296,7 +297,7 @@ fn walk_r_switch(
 ) -> Result<Ty, TypeFault>
     ensures answer { GivesTyped type_of result
         (walk_in path.old.items scope.now (type_of input.now)
-        (r_switch (map_network expression_of f.now) (map_network expression_of t.now))) }
+        (r_switch at_once (map_network expression_of f.now) (map_network expression_of t.now))) }
     ensures path { OnOk result (path.new.items ≡ path.old.items) }
 {
     let (sample, event) = pair_at(alloc, path, Site::Node, input)?;
@@ -349,7 +350,8 @@ fn walk_frozen(
     ensures path { OnOk result (path.new.items ≡ path.old.items) }
 {
     let mut inner = walk_event(alloc, path, 1, scope, input, output, e)?;
-    let types = arrow_between(alloc, input, output)?;
+    let copy = output.try_copy(alloc)?;
+    let types = arrow_from(alloc, input, copy)?;
     let added = inner.add_olds(alloc, 1, &types);
     drop(types);
     added?;
@@ -443,8 +445,10 @@ fn walk_routed(
 {
     let routed = route_type(alloc, path, scope, input, r)?;
     let output = members_type(alloc, path, 1, scope, &routed, members)?;
-    let types = arrow_between(alloc, &routed, &output)?;
-    Ok(types)
+    Ok(Arrow {
+        input: routed,
+        output,
+    })
 }
 
 /// The output type of a `pSwitch` whose members, `count` of them, have the types.
@@ -467,7 +471,8 @@ fn walk_gathered(
         (map_network expression_of t.now)) }
     ensures path { OnOk result (path.new.items ≡ path.old.items) }
 {
-    let list = list_of(alloc, &types.output)?;
+    let output = types.output.try_copy(alloc)?;
+    let list = list_of(alloc, output)?;
     let mut inner = walk_event(alloc, path, count + 1, scope, input, &list, e)?;
     inner.add_olds(alloc, count, types)?;
     walk_next(alloc, path, count + 2, &inner, input, &list, t)

@@ -20,7 +20,7 @@ use Rattle.law_rules.specs.Answer as N
 use Rattle.law_rules.proofs.Numbers.{row-numbers}
 use Rattle.cert_check.specs.TreeAnswer.{TreeAnswer}
 use Rattle.net_syntax.specs.Rewriting.{Rewrites}
-use Rattle.cert_check.specs.Derives.{Next, tree_at}
+use Rattle.cert_check.specs.Derives.{Next, standing_tree}
 use Rattle.cert_check.specs.CheckAnswer.{NowhereIn, Unmatched}
 use Rattle.cert_check.specs.StepAnswers.{StepFault}
 use Rattle.cert_check.specs.declared.answer.CheckFault.{CheckFault}
@@ -238,12 +238,12 @@ no_tree_after t s n fault forward other h =
     λ u x. refused_by t s.law s.position n fault other (subst (λ z. StepFault t z n fault) e h) u (subst (λ z. Next t z u) e x)
 
 -- what stands at the position of a step that was taken
-pub tree_after : (t u : TypedNetwork) (s : Step) (found : Option (Tree Expression)) → Next t s u → found ≡ tree_at u s.position → IsTreeAfter t s found
+pub tree_after : (t u : TypedNetwork) (s : Step) (found : Option (Tree Expression)) → Next t s u → found ≡ standing_tree u s.position → IsTreeAfter t s found
 tree_after t u s None x e = absurd (none-some x.new (e ∙ next_there t u s x))
 tree_after t u s (Some tree) x e = record { to = u; next = x; stands = sym e }
 
 -- the same of what the code answers
-pub ok_after : (t u v : TypedNetwork) (s : Step) (r : Result (Option C.Tree) Refusal.Memory) → v ≡ t → Next v s u → IfOk r (λ found. option_map part_of found ≡ tree_at u s.position)
+pub ok_after : (t u v : TypedNetwork) (s : Step) (r : Result (Option C.Tree) Refusal.Memory) → v ≡ t → Next v s u → IfOk r (λ found. option_map part_of found ≡ standing_tree u s.position)
     → IfOk r (λ found. IsTreeAfter t s (option_map part_of found))
 ok_after t u v s (Ok found) same x e = tree_after t u s (option_map part_of found) (subst (λ z. Next z s u) same x) e
 ok_after t u v s (Err m) same x e = tt

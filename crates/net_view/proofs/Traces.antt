@@ -9,7 +9,7 @@ use Rattle.net_syntax.specs.Placed.{Placed, placed_at}
 use Rattle.net_tree.specs.declared.law_step.Tree as C
 use Rattle.net_tree.specs.declared.law_step.Direction.TheVariants.{Forward}
 use Rattle.cert_check.specs.declared.answer.CheckFault.{CheckFault}
-use Rattle.cert_check.specs.Derives.{Next, tree_at}
+use Rattle.cert_check.specs.Derives.{Next, standing_tree}
 use Rattle.cert_check.specs.StepAnswers.{IsTreeAnswer, StepFault}
 use Rattle.cert_check.specs.TreeAnswer.{TreeAnswer}
 use Rattle.cert_check.proofs.StandsNow.{next_there}
@@ -55,7 +55,7 @@ stopped_at t u xs i x cs n stop h e hn a s =
     }
 
 -- something stands at the position behind a step that led on
-pub after_there : (t u : TypedNetwork) (s : Step) (o : Option C.Tree) → Next t s u → option_map part_of o ≡ tree_at u s.position → IsSome o
+pub after_there : (t u : TypedNetwork) (s : Step) (o : Option C.Tree) → Next t s u → option_map part_of o ≡ standing_tree u s.position → IsSome o
 after_there t u s (Some tree) x e = refl
 after_there t u s None x e = absurd (none-some x.new (e ∙ next_there t u s x))
 
@@ -67,7 +67,7 @@ stops_so t u s n fault (Ok (Taken change)) why e h = absurd h
 stops_so t u s n fault (Ok (Refused stop)) why e h = record {
   why = subst (StepFault t s n) (sym h.0) why;
   refused = λ m. h.1 (sym h.0 ∙ m);
-  there = h.2 ∙ ap (λ z. tree_at z s.position) e;
+  there = h.2 ∙ ap (λ z. standing_tree z s.position) e;
   led = subst (λ z. IsLedTo z s (option_map part_of stop.led)) e h.3;
 }
 

@@ -3,13 +3,13 @@ use Rattle.std.specs.Prelude.{◌≡◌, ℕ, List, [], ◌∷◌, ◌++◌, map
 use Rattle.std.specs.List.{All, Contains}
 use Rattle.net_syntax.specs.Placed.{Placed, placed_at}
 use Rattle.net_meaning.specs.TypedNetwork.{TypedNetwork}
-use Rattle.cert_check.specs.Derives.{tree_at}
+use Rattle.cert_check.specs.Derives.{standing_tree}
 use Rattle.net_opt.specs.Order.{Before}
 use Rattle.net_opt.specs.Walk.{Reached}
 
 -- something stands at the position of the network
 abbrev pub IsThere : TypedNetwork → List ℕ → Type 0
-IsThere t p = IsSome (tree_at t p)
+IsThere t p = IsSome (standing_tree t p)
 
 -- the second position is the first one, or leads on from it
 abbrev pub IsAtOrBelow : List ℕ → List ℕ → Type 0

@@ -8,7 +8,7 @@ use Rattle.net_meaning.specs.TypedNetwork.{TypedNetwork}
 use Rattle.net_tree.specs.declared.law_step.Law.{Law}
 use Rattle.net_tree.specs.declared.law_step.Law.TheVariants as L
 use Rattle.net_tree.specs.declared.law_step.Direction.TheVariants.{Forward}
-use Rattle.cert_check.specs.Derives.{Next, tree_at}
+use Rattle.cert_check.specs.Derives.{Next, standing_tree}
 use Rattle.net_opt.specs.Optimising.{NoStepBy, forward_step}
 use Rattle.net_opt.specs.Order.{Before}
 use Rattle.net_view.specs.Listed.{IsAtOrBelow, Lists}
@@ -44,7 +44,7 @@ pub data EarlierStep (s r : Step) : Type 0 where
 pub record IsPossible (t : TypedNetwork) (x : Possible) : Type 0 where
   pub to : TypedNetwork
   pub next : Next t x.step to
-  pub stands : tree_at to x.step.position ≡ Some x.tree
+  pub stands : standing_tree to x.step.position ≡ Some x.tree
 
 -- the step is forward, with no tree given
 abbrev pub IsForward : Step → Type 0

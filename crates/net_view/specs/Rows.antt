@@ -9,7 +9,7 @@ use Rattle.net_syntax.specs.Standing.{alone, TypeAt}
 use Rattle.net_tree.specs.Weight.{weight}
 use Rattle.net_tree.specs.LawStep.{part_of}
 use Rattle.net_meaning.specs.TypedNetwork.{TypedNetwork}
-use Rattle.cert_check.specs.Derives.{tree_at}
+use Rattle.cert_check.specs.Derives.{standing_tree}
 use Rattle.net_view.specs.Listed.{ArePositions}
 use Rattle.net_view.specs.declared.rows.OutlineRow.{OutlineRow}
 
@@ -37,7 +37,7 @@ weight_in (a_leaf e) = None
 
 -- the row says what stands at its position, the type that it has there, and its weight
 pub record IsRow (t : TypedNetwork) (r : OutlinedRow) : Type 0 where
-  pub there : tree_at t r.position ≡ Some r.tree
+  pub there : standing_tree t r.position ≡ Some r.tree
   pub typed : TypeAt (alone t.input) (a_network t.net) r.position r.output
   pub weighs : r.weight ≡ weight_in r.tree
 

@@ -18,8 +18,8 @@ first_word (atom w) = w
 first_word (form w ps) = w
 
 -- the word of a tree's form; of a literal its own text
-abbrev pub form_word : Tree Expression → List ℕ
-form_word u = first_word (tree_sexpr u)
+abbrev pub tree_word : Tree Expression → List ℕ
+tree_word u = first_word (tree_sexpr u)
 
 -- two blanks for each child number
 abbrev pub indent : List ℕ → List ℕ
@@ -35,7 +35,7 @@ weight_spelling (Some w) = 9 ∷ decimal w
 abbrev pub row_spelling : OutlinedRow → List ℕ
 row_spelling r = indent r.position
     ++ (position_spelling r.position
-    ++ (9 ∷ (form_word r.tree
+    ++ (9 ∷ (tree_word r.tree
     ++ (9 ∷ (type_spelling r.output ++ (weight_spelling r.weight ++ 10 ∷ []))))))
 
 -- a line for each row

@@ -9,8 +9,9 @@ use Rattle.net_tree.specs.declared.law_step.Direction.TheVariants.{Forward}
 use Rattle.cert_check.specs.declared.answer.CheckFault.{CheckFault}
 use Rattle.cert_check.specs.declared.answer.CheckFault.TheVariants.{TooManySteps, Memory}
 use Rattle.cert_check.specs.TreeAnswer.{TreeAnswer}
-use Rattle.cert_check.specs.Derives.{Next, tree_at}
+use Rattle.cert_check.specs.Derives.{Next, standing_tree}
 use Rattle.cert_check.specs.StepAnswers.{StepFault}
+use Rattle.cert_check.specs.declared.derivation.TheConstants.{MOST_STEPS}
 use Rattle.net_view.specs.declared.trace.Change.{Change}
 use Rattle.net_view.specs.declared.trace.RefusedStep.{RefusedStep}
 use Rattle.net_view.specs.declared.trace.Trace.{Trace}
@@ -46,8 +47,8 @@ stopped_of s =
 -- a step leads from t to u, and changes this
 pub record Changes (t : TypedNetwork) (s : Step) (c : Changed) (u : TypedNetwork) : Type 0 where
   pub next : Next t s u
-  pub before : tree_at t s.position ≡ Some c.before
-  pub after : tree_at u s.position ≡ Some c.after
+  pub before : standing_tree t s.position ≡ Some c.before
+  pub after : standing_tree u s.position ≡ Some c.after
 
 -- steps lead from one network to another, one after the other, and each changes this
 pub data AreChanges : TypedNetwork → List Step → List Changed → TypedNetwork → Type 0 where
@@ -72,7 +73,7 @@ IsLedTo t s led = MatchOption led ((new : Tree Expression) → LeadsTo t s new �
 pub record StopsAt (t : TypedNetwork) (s : Step) (n : ℕ) (stop : Stopped) : Type 0 where
   pub why : StepFault t s n stop.fault
   pub refused : stop.fault ≢ Memory
-  pub there : stop.there ≡ tree_at t s.position
+  pub there : stop.there ≡ standing_tree t s.position
   pub led : IsLedTo t s stop.led
 
 -- all steps are taken
@@ -103,9 +104,9 @@ TracesSteps t ss trace =
 
 -- it is told of at most 10,000 steps; there are more; or memory was short
 abbrev pub TraceAnswer : TypedNetwork → List Step → Result Trace CheckFault → Type 0
-TraceAnswer t ss (Ok trace) = (length ss ≤ 10000) × TracesSteps t ss trace
-TraceAnswer t ss (Err TooManySteps) = 10000 < length ss
-TraceAnswer t ss (Err Memory) = length ss ≤ 10000
+TraceAnswer t ss (Ok trace) = (length ss ≤ MOST_STEPS) × TracesSteps t ss trace
+TraceAnswer t ss (Err TooManySteps) = MOST_STEPS < length ss
+TraceAnswer t ss (Err Memory) = length ss ≤ MOST_STEPS
 TraceAnswer t ss (Err fault) = ⊥
 
 -- what comes of step n, where the network was t and now is u
@@ -118,5 +119,5 @@ abbrev pub IsRefusedSo : TypedNetwork → Step → CheckFault → StepTrace → 
 IsRefusedSo t s fault (Taken change) = ⊥
 IsRefusedSo t s fault (Refused stop) =
     (stop.fault ≡ fault) × (fault ≢ Memory)
-    × (option_map part_of stop.there ≡ tree_at t s.position)
+    × (option_map part_of stop.there ≡ standing_tree t s.position)
     × IsLedTo t s (option_map part_of stop.led)

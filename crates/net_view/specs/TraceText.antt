@@ -1,7 +1,7 @@
 -- The text of what came of steps.
 use Rattle.std.specs.Prelude.{◌≡◌, ℕ, List, [], ◌∷◌, ◌++◌, Option, Some, None, codes}
 use Rattle.leaf_core.specs.Expression.{Expression}
-use Rattle.leaf_expr.specs.Sexpr.{spelling}
+use Rattle.leaf_expr.specs.Sexpr.{sexpr_spelling}
 use Rattle.net_tree.specs.Place.{Tree}
 use Rattle.net_tree.specs.LawStep.{Step}
 use Rattle.net_meaning.specs.TypedNetwork.{TypedNetwork}
@@ -10,11 +10,11 @@ use Rattle.net_view.specs.Trace.{Changed, Stopped, IsTrace}
 
 -- a step's line
 abbrev pub step_line : Step → List ℕ
-step_line s = spelling (step_sexpr s) ++ 10 ∷ []
+step_line s = sexpr_spelling (step_sexpr s) ++ 10 ∷ []
 
 -- the line of a tree behind a mark
 abbrev pub marked_line : List ℕ → Tree Expression → List ℕ
-marked_line mark tree = mark ++ (spelling (tree_sexpr tree) ++ 10 ∷ [])
+marked_line mark tree = mark ++ (sexpr_spelling (tree_sexpr tree) ++ 10 ∷ [])
 
 -- the same, if there is a tree
 abbrev pub marked_lines : List ℕ → Option (Tree Expression) → List ℕ

@@ -6,7 +6,7 @@ ghost use Rattle.leaf_core.specs.ExpressionView.{expression_of};
 ghost use Rattle.leaf_expr.specs.Printing.{expression_sexpr};
 ghost use Rattle.net_tree.specs.{LawStep.part_of, NetworkView.tree_of};
 ghost use Rattle.net_text.specs.Printing.{network_sexpr};
-ghost use Rattle.net_view.specs.Texts.{first_word, form_word};
+ghost use Rattle.net_view.specs.Texts.{first_word, tree_word};
 
 use leaf_core::Expr;
 use leaf_expr::push_expr;
@@ -24,7 +24,7 @@ pub(crate) fn push_word(text: &mut String, word: &str) -> Result<(), Memory>
 /// Adds the word of the tree's form; of a literal its own text.
 pub(crate) fn push_form(text: &mut String, tree: &Tree) -> Result<(), Memory>
     ensures { Adds result (string_bytes text.old) (string_bytes text.new)
-        (form_word (part_of tree.now)) }
+        (tree_word (part_of tree.now)) }
 {
     match tree {
         Tree::Net(net) => push_word(text, net_word(net)),

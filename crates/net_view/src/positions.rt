@@ -3,7 +3,7 @@
 ghost use Rattle.std.specs.Prelude.{◌≡◌, ◌↔◌, IfOk, IsTrue, OnOk, option_map};
 ghost use Rattle.net_syntax.specs.ChildParts.{seen, seen_place};
 ghost use Rattle.net_tree.specs.LawStep.{part_of};
-ghost use Rattle.cert_check.specs.Derives.{tree_at};
+ghost use Rattle.cert_check.specs.Derives.{standing_tree};
 ghost use Rattle.net_view.specs.Listed.{AddsPositions, ArePositions, IsInside, IsReached, IsThere};
 
 use cert_check::place_in;
@@ -26,7 +26,7 @@ pub(crate) fn tree_at(
     net: &TypedNet,
     position: &Position,
 ) -> Result<Option<Tree>, Memory>
-    ensures { IfOk result (λ found. option_map part_of found ≡ tree_at net.now position.now) }
+    ensures { IfOk result (λ found. option_map part_of found ≡ standing_tree net.now position.now) }
 {
     match place_in(net, position) {
         Some(place) => Ok(Some(copied(alloc, place.tree)?)),

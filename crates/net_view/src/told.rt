@@ -2,7 +2,7 @@
 
 ghost use Rattle.std.specs.Prelude.{◌≡◌, ◌++◌, ◌∷◌, [], map, option_map, string_bytes, IfOk};
 ghost use Rattle.sample_core.specs.Adding.{Adds};
-ghost use Rattle.leaf_expr.specs.Sexpr.{spelling};
+ghost use Rattle.leaf_expr.specs.Sexpr.{sexpr_spelling};
 ghost use Rattle.net_tree.specs.LawStep.{part_of, step_of};
 ghost use Rattle.net_text.specs.CertificatePrinting.{tree_sexpr};
 ghost use Rattle.net_view.specs.Trace.{changed_of, stopped_of};

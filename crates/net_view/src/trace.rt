@@ -3,7 +3,7 @@
 ghost use Rattle.std.specs.Prelude.{◌≡◌, ◌≤◌, length, map, option_map, IfOk};
 ghost use Rattle.net_syntax.specs.{ChildParts.seen};
 ghost use Rattle.net_tree.specs.{LawStep.part_of, LawStep.step_of};
-ghost use Rattle.cert_check.specs.Derives.{tree_at};
+ghost use Rattle.cert_check.specs.Derives.{standing_tree};
 ghost use Rattle.net_view.specs.Trace.{IsLedTo, IsRefusedSo, IsStepTrace, TraceAnswer, TracesSteps, first_steps};
 
 use crate::positions::tree_at;
@@ -79,7 +79,7 @@ pub fn trace_steps(alloc: Global, source: &TypedNet, steps: &[LawStep]) -> Resul
 
 /// Takes the steps on the network, which is left where they led, and tells what each changes.
 fn trace_on(alloc: Global, net: &mut TypedNet, steps: &[LawStep]) -> Result<Trace, Memory>
-    requires { length steps.now ≤ 10000 }
+    requires { length steps.now ≤ MOST_STEPS }
     ensures { IfOk result (TracesSteps net.old (map step_of steps.now)) }
 {
     let mut changes = Vec::new(alloc);
@@ -132,7 +132,7 @@ fn refused(
     there: Option<Tree>,
     fault: CheckFault,
 ) -> Result<StepTrace, Memory>
-    requires { option_map part_of there ≡ tree_at net.now step.now.position }
+    requires { option_map part_of there ≡ standing_tree net.now step.now.position }
     ensures { IfOk result (IsRefusedSo net.now (step_of step.now) fault) }
 {
     match fault {

@@ -15,7 +15,7 @@ use step_core::{Bound, Runner};
 /// A runner, with the type of its inputs, how many pushes it refused, and whether it tells another
 /// count of samples or of visits behind a refusal.
 #[derive(Drop)]
-pub struct Running<'a> {
+pub struct WatchedRunner<'a> {
     runner: Runner<'a>,
     input: &'a Ty,
     refused: u64,
@@ -23,13 +23,13 @@ pub struct Running<'a> {
     ghost same_input: { (runner_state runner).input ≡ type_of input.now } by { Prim.hlevel (props, type_code) },
 }
 
-impl<'a> Running<'a> {
+impl<'a> WatchedRunner<'a> {
     /// The network before its first sample.
-    pub fn new(alloc: Global, bound: &'a Bound, table: &'a LeafTable) -> Running<'a>
+    pub fn new(alloc: Global, bound: &'a Bound, table: &'a LeafTable) -> WatchedRunner<'a>
         requires { FitsTable (rows_of table.now) bound.now }
     {
         let runner = Runner::new(alloc, bound, table);
-        Running {
+        WatchedRunner {
             runner,
             input: bound.input(),
             refused: 0,

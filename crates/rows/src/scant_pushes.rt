@@ -5,7 +5,7 @@ ghost use Rattle.step_core.specs.Binding.{FitsTable};
 
 use crate::ballast::{ROOM, take_all};
 use crate::found::{Probe, all_are_found};
-use crate::running::Running;
+use crate::running::WatchedRunner;
 use crate::texts::{say, say_at};
 use crate::working::answer_told;
 use leaf_table::LeafTable;
@@ -25,7 +25,7 @@ pub fn scant_stream_told(
 )
     requires { FitsTable (rows_of table.now) bound.now }
 {
-    let mut running = Running::new(alloc, bound, table);
+    let mut running = WatchedRunner::new(alloc, bound, table);
     let room = take_all(alloc, ROOM);
     for line in stream.lines() {
         line_told(alloc, &mut running, line, out);
@@ -35,7 +35,7 @@ pub fn scant_stream_told(
     drop(running);
 }
 
-fn refusals_of(running: &Running<'_>) -> &'static str {
+fn refusals_of(running: &WatchedRunner<'_>) -> &'static str {
     match (running.changed(), running.refused()) {
         (true, _) => "changed by a refusal",
         (false, 0) => "never refused",
@@ -43,7 +43,7 @@ fn refusals_of(running: &Running<'_>) -> &'static str {
     }
 }
 
-fn line_told(alloc: Global, running: &mut Running<'_>, line: &str, out: &mut String) {
+fn line_told(alloc: Global, running: &mut WatchedRunner<'_>, line: &str, out: &mut String) {
     match running.line(alloc, line) {
         (step, Some(sample)) => {
             answer_told(scant_push(alloc, running, step, &sample), out);
@@ -57,7 +57,7 @@ fn line_told(alloc: Global, running: &mut Running<'_>, line: &str, out: &mut Str
 /// What the pushes of the sample are answered in the end.
 fn scant_push(
     alloc: Global,
-    running: &mut Running<'_>,
+    running: &mut WatchedRunner<'_>,
     step: u64,
     sample: &Sample,
 ) -> Result<Sample, Memory> {

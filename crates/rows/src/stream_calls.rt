@@ -1,7 +1,7 @@
 // What successive calls of a reader of lines answer.
 
 ghost use Rattle.sample_core.specs.TypeView.{type_of};
-ghost use Rattle.stream_text.specs.{LineReaderView.state_of, StreamText.IsBefore};
+ghost use Rattle.stream_text.specs.{LineReaderView.stream_state, StreamText.IsBefore};
 
 use crate::ballast::take_all;
 use crate::devices::Pieces;
@@ -72,8 +72,8 @@ fn scant_told(alloc: Global, ty: &Ty, stream: &str, out: &mut String) {
 
 /// Tells five answers of the reader.
 pub fn answers_told<R: Read + Device + Drop>(reader: &mut LineReader<R>, ty: &Ty, out: &mut String)
-    requires { IsBefore (type_of ty.now) (state_of reader.old).lines (state_of reader.old).before }
-    ensures { IsBefore (type_of ty.now) (state_of reader.new).lines (state_of reader.new).before }
+    requires { IsBefore (type_of ty.now) (stream_state reader.old).lines (stream_state reader.old).before }
+    ensures { IsBefore (type_of ty.now) (stream_state reader.new).lines (stream_state reader.new).before }
 {
     answer_told(reader, ty, out);
     answer_told(reader, ty, out);
@@ -83,8 +83,8 @@ pub fn answers_told<R: Read + Device + Drop>(reader: &mut LineReader<R>, ty: &Ty
 }
 
 fn answer_told<R: Read + Device + Drop>(reader: &mut LineReader<R>, ty: &Ty, out: &mut String)
-    requires { IsBefore (type_of ty.now) (state_of reader.old).lines (state_of reader.old).before }
-    ensures { IsBefore (type_of ty.now) (state_of reader.new).lines (state_of reader.new).before }
+    requires { IsBefore (type_of ty.now) (stream_state reader.old).lines (stream_state reader.old).before }
+    ensures { IsBefore (type_of ty.now) (stream_state reader.new).lines (stream_state reader.new).before }
 {
     match reader.next(ty) {
         Ok(Some((step, sample))) => sample_told(step, sample, out),

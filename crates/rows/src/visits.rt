@@ -4,7 +4,7 @@ ghost use Rattle.leaf_table.specs.Rows.{rows_of};
 ghost use Rattle.step_core.specs.Binding.{FitsTable};
 
 use crate::found::{Probe, all_are_found};
-use crate::running::Running;
+use crate::running::WatchedRunner;
 use crate::texts::{say, say_at};
 use leaf_table::LeafTable;
 use std::alloc::Global;
@@ -15,7 +15,7 @@ use step_core::Bound;
 pub fn visits_told(alloc: Global, bound: &Bound, table: &LeafTable, stream: &str, out: &mut String)
     requires { FitsTable (rows_of table.now) bound.now }
 {
-    let mut running = Running::new(alloc, bound, table);
+    let mut running = WatchedRunner::new(alloc, bound, table);
     say_at(out, "at first", running.last_visits());
     for line in stream.lines() {
         visit_told(alloc, &mut running, line, out);
@@ -23,7 +23,7 @@ pub fn visits_told(alloc: Global, bound: &Bound, table: &LeafTable, stream: &str
     drop(running);
 }
 
-fn visit_told(alloc: Global, running: &mut Running<'_>, line: &str, out: &mut String) {
+fn visit_told(alloc: Global, running: &mut WatchedRunner<'_>, line: &str, out: &mut String) {
     match running.line(alloc, line) {
         (step, Some(sample)) => {
             drop(running.push(step, &sample));

@@ -13,7 +13,7 @@ pub record CountedFunction : Type 0 where
 abbrev pub visits_at : VisitCounts → TimedList → ℕ × Datum → ℕ
 visits_at v p x = last_or 0 (v (p ++ x ∷ []))
 
--- the signal function answers each sample by the samples so far, and the counts are bounded
+-- signal function and counts go by the samples so far, and the counts are bounded
 pub record IsCountedFunction (c : CountedFunction) : Type 0 where
   pub is_signal_function : IsSignalFunction c.function
   pub heaviest : ℕ

@@ -1,68 +1,38 @@
--- Counts that don't look ahead, and what is made of them.
-use Rattle.std.proofs.Common.{◌≡◌, ℕ, zero, suc, ◌+◌, ◌-◌, ◌≤◌, ◌<◌, List, [], ◌∷◌, ◌++◌, map, flat_map, length, take, drop, refl, sym, ap, ◌∙◌, arith, Some, None, inl, inr, length-take, length-drop, length-append, append-nil, append_assoc, take-take, take_all}
-use Rattle.std.proofs.lemmas.List.{length-map, take-map, drop-take, take-append-le, take_at}
+-- Counts keep pace: as many as samples, and no look ahead.
+use Rattle.std.proofs.Common.{◌≡◌, ℕ, zero, suc, ◌+◌, ◌-◌, ◌≤◌, ◌<◌, List, [], ◌∷◌, ◌++◌, length, take, drop, refl, sym, ap, ◌∙◌, arith, Some, None, inl, inr, length-take, length-drop, length-append, take-take, take_all}
+use Rattle.std.proofs.lemmas.List.{length-map, take-map, drop-take, take-append-le}
 use Rattle.std.proofs.lemmas.Bool.{cases_lt}
-use Rattle.sample_core.specs.Datum.{Datum, left, pair, event}
-use Rattle.net_meaning.specs.SignalFunction.{TimedList, SignalFunction, zip_with, pieces, route, first_event, step_of, IsSignalFunction}
-use Rattle.state_core.specs.Visits.{VisitCounts, add_counts, and_one, first_and_one, both_at_first, switch_counts, resume_counts, freeze_counts, sum_by_route, sum_of_all, counts_at, zeros, at_first, late_counts}
-use Rattle.net_meaning.proofs.Zips.{length-zip_with, take-zip_with}
+use Rattle.sample_core.specs.Datum.{Datum}
+use Rattle.net_tree.specs.Network.{Timing, at_once, delayed}
+use Rattle.net_meaning.specs.SignalFunction.{TimedList, SignalFunction, until, first_event, step_of, IsSignalFunction}
+use Rattle.state_core.specs.Visits.{VisitCounts, first_and_one, both_at_first, switch_counts, resume_counts, zeros, unheard}
 use Rattle.net_meaning.proofs.Events.{IsFirst, Outlook, never, once, outlook}
 use Rattle.net_meaning.proofs.Switched.{take_into, take_into_at}
-use Rattle.net_meaning.proofs.Restarting.{IsUncut, uncut_or_cut}
-use Rattle.net_meaning.proofs.LateRestarts.{KeepsPace, late_keeps}
-use Rattle.step_core.proofs.VisitSums.{length-taken_over, length-at_first}
+use Rattle.net_meaning.proofs.Restarting.{KeepsPace}
 
--- as many counts as samples, and no look ahead
-pub record IsCausal (v : VisitCounts) : Type 0 where
-  pub counted : (xs : TimedList) → length (v xs) ≡ length xs
-  pub causal : (n : ℕ) (xs : TimedList) → v (take n xs) ≡ take n (v xs)
-
-pub IsCausal-constant : (k : ℕ) → IsCausal (λ xs. map (λ x. k) xs)
-IsCausal-constant k = record { counted = λ xs. length-map xs (λ x. k); causal = λ n xs. sym (take-map (λ x. k) n xs) }
-
-pub IsCausal-and_one : (v : VisitCounts) → IsCausal v → IsCausal (λ xs. and_one (v xs))
-IsCausal-and_one v c = record {
-  counted = λ xs. length-map (v xs) suc ∙ c.counted xs;
-  causal = λ n xs. ap and_one (c.causal n xs) ∙ sym (take-map suc n (v xs));
-}
-
-length-first_and_one : (ns : List ℕ) → length (first_and_one ns) ≡ length ns
+pub length-first_and_one : (ns : List ℕ) → length (first_and_one ns) ≡ length ns
 length-first_and_one [] = refl
 length-first_and_one (n ∷ ns) = refl
 
-take-first_and_one : (k : ℕ) (ns : List ℕ) → first_and_one (take k ns) ≡ take k (first_and_one ns)
+pub take-first_and_one : (k : ℕ) (ns : List ℕ) → first_and_one (take k ns) ≡ take k (first_and_one ns)
 take-first_and_one zero ns = refl
 take-first_and_one (suc k) [] = refl
 take-first_and_one (suc k) (n ∷ ns) = refl
 
-pub IsCausal-first_and_one : (v : VisitCounts) → IsCausal v → IsCausal (λ xs. first_and_one (v xs))
-IsCausal-first_and_one v c = record {
-  counted = λ xs. length-first_and_one (v xs) ∙ c.counted xs;
-  causal = λ n xs. ap first_and_one (c.causal n xs) ∙ take-first_and_one n (v xs);
-}
+length-both : (ms ns : List ℕ) → length ms ≡ length ns → length (both_at_first ms ns) ≡ length ns
+length-both [] [] e = refl
+length-both [] (n ∷ ns) e = e
+length-both (m ∷ ms) [] e = refl
+length-both (m ∷ ms) (n ∷ ns) e = refl
 
-pub IsCausal-added : (f g : VisitCounts) → IsCausal f → IsCausal g → IsCausal (λ xs. add_counts (f xs) (g xs))
-IsCausal-added f g cf cg = record {
-  counted = λ xs. length-zip_with _ (f xs) (g xs) (cg.counted xs ∙ sym (cf.counted xs)) ∙ cf.counted xs;
-  causal = λ n xs. ap (λ ms. add_counts ms (g (take n xs))) (cf.causal n xs) ∙ ap (add_counts (take n (f xs))) (cg.causal n xs)
-      ∙ sym (take-zip_with _ n (f xs) (g xs));
-}
-
--- a part that gets another list, as long and without a look ahead
-pub IsCausal-before : (h : TimedList → TimedList) (v : VisitCounts) → ((xs : TimedList) → length (h xs) ≡ length xs)
-    → ((n : ℕ) (xs : TimedList) → h (take n xs) ≡ take n (h xs)) → IsCausal v → IsCausal (λ xs. v (h xs))
-IsCausal-before h v lh th c = record { counted = λ xs. c.counted (h xs) ∙ lh xs; causal = λ n xs. ap v (th n xs) ∙ c.causal n (h xs) }
-
--- each sample changed
-pub IsCausal-each : (h : ℕ × Datum → ℕ × Datum) (v : VisitCounts) → IsCausal v → IsCausal (λ xs. v (map h xs))
-IsCausal-each h v c = IsCausal-before (map h) v (λ xs. length-map xs h) (λ n xs. sym (take-map h n xs)) c
-
--- each sample changed by what a signal has there
-pub IsCausal-beside : (h : ℕ × Datum → Datum → ℕ × Datum) (f : SignalFunction) → IsSignalFunction f → (v : VisitCounts) → IsCausal v
-    → IsCausal (λ xs. v (zip_with h xs (f xs)))
-IsCausal-beside h f sf v c =
-    IsCausal-before (λ xs. zip_with h xs (f xs)) v (λ xs. length-zip_with h xs (f xs) (sf.sized xs))
-    (λ n xs. ap (zip_with h (take n xs)) (sf.causal n xs) ∙ sym (take-zip_with h n xs (f xs))) c
+length-taken_over : (vs : List Datum) (ns : List ℕ) (go : ℕ → Datum → List ℕ) → length vs ≡ length ns
+    → ((n : ℕ) (c : Datum) → n < length vs → length (go n c) ≡ length ns - n) → Outlook vs → length (switch_counts (first_event vs) ns go) ≡ length ns
+length-taken_over vs ns go e l (never i) = ap (λ o. length (switch_counts o ns go)) i.is
+length-taken_over vs ns go e l (once n c i) =
+    let w : n < length vs = i.within in
+    let lg : length (go n c) ≡ length ns - n = l n c w in
+    let lb : length (both_at_first (drop n ns) (go n c)) ≡ length (go n c) = length-both (drop n ns) (go n c) (omega (arith, length-drop n ns)) in
+    ap (λ o. length (switch_counts o ns go)) i.is ∙ (omega (arith, length-append (take n ns) (both_at_first (drop n ns) (go n c)), length-take n ns))
 
 take-both : (k : ℕ) (ms ns : List ℕ) → both_at_first (take (suc k) ms) (take (suc k) ns) ≡ take (suc k) (both_at_first ms ns)
 take-both k [] ns = refl
@@ -73,8 +43,8 @@ step_of-take : (k : ℕ) (xs : TimedList) → step_of (take (suc k) xs) ≡ step
 step_of-take k [] = refl
 step_of-take k (x ∷ xs) = refl
 
-module _ (e : SignalFunction) (se : IsSignalFunction e) (v : VisitCounts) (cv : IsCausal v) (u : Datum → TimedList → ℕ → VisitCounts)
-    (cu : (c : Datum) (p : TimedList) (d : ℕ) → IsCausal (u c p d)) where
+module _ (e : SignalFunction) (se : IsSignalFunction e) (v : VisitCounts) (cv : KeepsPace v) (u : Datum → TimedList → ℕ → VisitCounts)
+    (cu : (c : Datum) (p : TimedList) (d : ℕ) → KeepsPace (u c p d)) where
   -- the counts of what takes over at sample n
   abbrev over : TimedList → ℕ → Datum → List ℕ
   over xs n c = u c (take n xs) (step_of (drop n xs)) (drop n xs)
@@ -105,7 +75,7 @@ module _ (e : SignalFunction) (se : IsSignalFunction e) (v : VisitCounts) (cv : 
   once-take n k c xs i =
       let w : n < length (e xs) = i.within in
       let le : length (e xs) ≡ length xs = se.sized xs in
-      let lv : length (v xs) ≡ length xs = cv.counted xs in
+      let lv : length (v xs) ≡ length xs = cv.sized xs in
       let l : n ≤ n + suc k = omega arith in
       let ln : length (take n (v xs)) ≡ n = omega (arith, length-take n (v xs)) in
       let cut : TimedList = take (n + suc k) xs in
@@ -122,7 +92,7 @@ module _ (e : SignalFunction) (se : IsSignalFunction e) (v : VisitCounts) (cv : 
   before-take m n c xs l i =
       let w : n < length (e xs) = i.within in
       let le : length (e xs) ≡ length xs = se.sized xs in
-      let lv : length (v xs) ≡ length xs = cv.counted xs in
+      let lv : length (v xs) ≡ length xs = cv.sized xs in
       let ln : m ≤ length (take n (v xs)) = omega (arith, length-take n (v xs)) in
       none-take m xs (i.unseen m l)
       ∙ sym (take-take m n (v xs) l)
@@ -137,101 +107,38 @@ module _ (e : SignalFunction) (se : IsSignalFunction e) (v : VisitCounts) (cv : 
     | inr h ↦ before-take m n c xs h i
   ]
 
-  pub IsCausal-taken_over : IsCausal (λ xs. switch_counts (first_event (e xs)) (v xs) (λ n c. u c (take n xs) (step_of (drop n xs)) (drop n xs)))
-  IsCausal-taken_over = record {
-    counted = λ xs.
-        length-taken_over (e xs) (v xs) (over xs) (se.sized xs ∙ sym (cv.counted xs))
-        (λ n c h. (cu c (take n xs) (step_of (drop n xs))).counted (drop n xs) ∙ length-drop n xs ∙ ap (λ k. k - n) (sym (cv.counted xs)))
+  pub taken_over_keeps : KeepsPace (λ xs. switch_counts (first_event (e xs)) (v xs) (λ n c. u c (take n xs) (step_of (drop n xs)) (drop n xs)))
+  taken_over_keeps = record {
+    sized = λ xs.
+        length-taken_over (e xs) (v xs) (over xs) (se.sized xs ∙ sym (cv.sized xs))
+        (λ n c h. (cu c (take n xs) (step_of (drop n xs))).sized (drop n xs) ∙ length-drop n xs ∙ ap (λ k. k - n) (sym (cv.sized xs)))
         (outlook (e xs))
-        ∙ cv.counted xs;
+        ∙ cv.sized xs;
     causal = λ m xs. take-switched m xs (outlook (e xs));
   }
 
--- the counts of the pieces, where f has seen q of its piece
-abbrev from : VisitCounts → (Datum → VisitCounts) → TimedList → VisitCounts
-from f t q xs = f (q ++ (pieces xs).0) ++ flat_map (λ piece. t piece.0 piece.1) (pieces xs).1
+-- a switch that starts anew
+pub length-unheard : (tm : Timing) (v : VisitCounts) → ((xs : TimedList) → length (v xs) ≡ length xs) → (xs : TimedList)
+    → length (unheard tm v xs) ≡ length xs
+length-unheard tm v lv xs =
+    let k : ℕ = until tm 0 in
+    let l : length (v xs) ≡ length xs = lv xs in
+    let z : length (zeros (drop k xs)) ≡ length (drop k xs) = length-map (drop k xs) (λ x. 0) in
+    omega (arith, length-append (take k (v xs)) (zeros (drop k xs)), length-take k (v xs), length-drop k xs)
 
-from-uncut : (f : VisitCounts) (t : Datum → VisitCounts) (q : TimedList) (d : ℕ) (v : Datum) (xs : TimedList) → IsUncut v
-    → from f t q ((d, v) ∷ xs) ≡ from f t (q ++ (d, left v) ∷ []) xs
-from-uncut f t q d v xs u =
-    ap (λ ps. f (q ++ ps.0) ++ flat_map (λ piece. t piece.0 piece.1) ps.1) (u d (pieces xs))
-    ∙ ap (λ ys. f ys ++ flat_map (λ piece. t piece.0 piece.1) (pieces xs).1) (sym (append_assoc q ((d, left v) ∷ []) (pieces xs).0))
-
-from-cut : (f : VisitCounts) (t : Datum → VisitCounts) (q : TimedList) (d : ℕ) (a c : Datum) (xs : TimedList)
-    → from f t q ((d, pair a (event c)) ∷ xs) ≡ f q ++ from (t c) t ((d, a) ∷ []) xs
-from-cut f t q d a c xs = ap (λ p. f p ++ from (t c) t ((d, a) ∷ []) xs) (append-nil q)
-
-from-nil : (f : VisitCounts) (t : Datum → VisitCounts) (q : TimedList) → from f t q [] ≡ f q
-from-nil f t q = append-nil (f (q ++ [])) ∙ ap f (append-nil q)
-
-module _ (t : Datum → VisitCounts) (ct : (c : Datum) → IsCausal (t c)) where
-  length-from : (f : VisitCounts) → IsCausal f → (q xs : TimedList) → length (from f t q xs) ≡ length q + length xs
-  length-from f cf q [] = ap length (from-nil f t q) ∙ cf.counted q ∙ (omega arith)
-  length-from f cf q (x ∷ xs) = elim (uncut_or_cut x.1) [
-    | inl u ↦
-        let q' : TimedList = q ++ (x.0, left x.1) ∷ [] in
-        let ih : length (from f t q' xs) ≡ length q' + length xs = length-from f cf q' xs in
-        ap length (from-uncut f t q x.0 x.1 xs u) ∙ (omega (arith, length-append q ((x.0, left x.1) ∷ [])))
-    | inr h ↦
-        let ih : length (from (t h.1) t ((x.0, h.0) ∷ []) xs) ≡ 1 + length xs = length-from (t h.1) (ct h.1) ((x.0, h.0) ∷ []) xs in
-        let l : length (f q) ≡ length q = cf.counted q in
-        ap (λ v. length (from f t q ((x.0, v) ∷ xs))) h.2 ∙ ap length (from-cut f t q x.0 h.0 h.1 xs)
-        ∙ (omega (arith, length-append (f q) (from (t h.1) t ((x.0, h.0) ∷ []) xs)))
-  ]
-
-  -- the counts of the samples seen
-  from-front : (f : VisitCounts) → IsCausal f → (q xs : TimedList) → take (length q) (from f t q xs) ≡ f q
-  from-front f cf q xs =
-      let p : TimedList = (pieces xs).0 in
-      let l : length (f (q ++ p)) ≡ length (q ++ p) = cf.counted (q ++ p) in
-      let a : length (q ++ p) ≡ length q + length p = length-append q p in
-      take-append-le (length q) (f (q ++ p)) (flat_map (λ piece. t piece.0 piece.1) (pieces xs).1) (omega arith)
-      ∙ sym (cf.causal (length q) (q ++ p))
-      ∙ ap f (take_at q p (length q) refl)
-
-  from-take : (f : VisitCounts) → IsCausal f → (q : TimedList) (n : ℕ) (xs : TimedList)
-      → from f t q (take n xs) ≡ take (length q + n) (from f t q xs)
-  from-take f cf q zero xs = let e : length q + 0 ≡ length q = omega arith in from-nil f t q ∙ sym (from-front f cf q xs)
-      ∙ ap (λ k. take k (from f t q xs)) (sym e)
-  from-take f cf q (suc n) [] =
-      let l : length (from f t q []) ≡ length q + 0 = length-from f cf q [] in
-      sym (take_all (length q + suc n) (from f t q []) (omega arith))
-  from-take f cf q (suc n) (x ∷ xs) = elim (uncut_or_cut x.1) [
-    | inl u ↦
-        let q' : TimedList = q ++ (x.0, left x.1) ∷ [] in
-        let e : length q' + n ≡ length q + suc n = omega (arith, length-append q ((x.0, left x.1) ∷ [])) in
-        from-uncut f t q x.0 x.1 (take n xs) u ∙ from-take f cf q' n xs ∙ ap (λ k. take k (from f t q' xs)) e
-        ∙ ap (take (length q + suc n)) (sym (from-uncut f t q x.0 x.1 xs u))
-    | inr h ↦
-        let q' : TimedList = (x.0, h.0) ∷ [] in
-        let e : 1 + n ≡ suc n = omega arith in
-        ap (λ v. from f t q ((x.0, v) ∷ take n xs)) h.2
-        ∙ from-cut f t q x.0 h.0 h.1 (take n xs)
-        ∙ ap (λ ns. f q ++ ns) (from-take (t h.1) (ct h.1) q' n xs ∙ ap (λ k. take k (from (t h.1) t q' xs)) e)
-        ∙ sym (take_into_at (f q) (from (t h.1) t q' xs) (length q) (suc n) (cf.counted q))
-        ∙ ap (take (length q + suc n)) (sym (ap (λ v. from f t q ((x.0, v) ∷ xs)) h.2 ∙ from-cut f t q x.0 h.0 h.1 xs))
-  ]
-
-  pub IsCausal-pieces : (f : VisitCounts) → IsCausal f
-      → IsCausal (λ xs. f (pieces xs).0 ++ flat_map (λ piece. t piece.0 piece.1) (pieces xs).1)
-  IsCausal-pieces f cf = record {
-    counted = λ xs. length-from f cf [] xs ∙ (omega arith);
-    causal = λ n xs. let e : 0 + n ≡ n = omega arith in from-take f cf [] n xs ∙ ap (λ k. take k (from f t [] xs)) e;
-  }
-
--- `drSwitch`
-take-at_first : (v : VisitCounts) → IsCausal v → (n : ℕ) (xs : TimedList) → at_first v (take n xs) ≡ take n (at_first v xs)
-take-at_first v c zero xs = nothing (at_first v []) (length-at_first v c.counted [])
+take-unheard : (tm : Timing) (v : VisitCounts) → KeepsPace v → (n : ℕ) (xs : TimedList) → unheard tm v (take n xs) ≡ take n (unheard tm v xs)
+take-unheard at_once v c n xs = sym (take-map (λ x. 0) n xs)
+take-unheard delayed v c zero xs = nothing (unheard delayed v []) (length-unheard delayed v c.sized [])
   where
     nothing : (ns : List ℕ) → length ns ≡ 0 → ns ≡ []
     nothing [] e = refl
     nothing (m ∷ ns) e = absurd (omega arith)
-take-at_first v c (suc n) [] =
-    let l : length (at_first v []) ≡ 0 = length-at_first v c.counted [] in
-    sym (take_all (suc n) (at_first v []) (omega arith))
-take-at_first v c (suc n) (x ∷ xs) =
+take-unheard delayed v c (suc n) [] =
+    let l : length (unheard delayed v []) ≡ 0 = length-unheard delayed v c.sized [] in
+    sym (take_all (suc n) (unheard delayed v []) (omega arith))
+take-unheard delayed v c (suc n) (x ∷ xs) =
     let ns : List ℕ = v (x ∷ xs) in
-    let l : length ns ≡ suc (length xs) = c.counted (x ∷ xs) in
+    let l : length ns ≡ suc (length xs) = c.sized (x ∷ xs) in
     let e : 1 + n ≡ suc n = omega arith in
     ap (λ ms. take 1 ms ++ zeros (take n xs)) (c.causal (suc n) (x ∷ xs))
     ∙ ap (λ ms. ms ++ zeros (take n xs)) (take-take 1 (suc n) ns (omega arith))
@@ -239,24 +146,19 @@ take-at_first v c (suc n) (x ∷ xs) =
     ∙ sym (take_into_at (take 1 ns) (zeros xs) 1 n (omega (arith, length-take 1 ns)))
     ∙ ap (λ k. take k (take 1 ns ++ zeros xs)) e
 
-pub causal_keeps : (v : VisitCounts) → IsCausal v → KeepsPace v
-causal_keeps v c = record { sized = c.counted; causal = c.causal }
+pub unheard_keeps : (tm : Timing) (v : VisitCounts) → KeepsPace v → KeepsPace (unheard tm v)
+unheard_keeps tm v c = record { sized = length-unheard tm v c.sized; causal = take-unheard tm v c }
 
-pub IsCausal-late : (f : VisitCounts) (t : Datum → VisitCounts) → IsCausal f → ((c : Datum) → IsCausal (t c)) → IsCausal (late_counts f t)
-IsCausal-late f t cf ct =
-    let k = late_keeps t (λ c. causal_keeps (t c) (ct c)) f (causal_keeps f cf) in
-    IsCausal-added _ _ (record { counted = k.sized; causal = k.causal })
-    (IsCausal-pieces (λ c. at_first (t c)) (λ c. record { counted = length-at_first (t c) (ct c).counted; causal = take-at_first (t c) (ct c) }) zeros (IsCausal-constant 0))
-
-length-resumed : (v : VisitCounts) → IsCausal v → (p : TimedList) (d : ℕ) (xs : TimedList) → length (resume_counts v p d xs) ≡ length xs
+-- a frozen network
+length-resumed : (v : VisitCounts) → KeepsPace v → (p : TimedList) (d : ℕ) (xs : TimedList) → length (resume_counts v p d xs) ≡ length xs
 length-resumed v c p d [] = refl
 length-resumed v c p d (x ∷ xs) =
     let ys : TimedList = p ++ (d, x.1) ∷ xs in
-    let l : length (v ys) ≡ length ys = c.counted ys in
+    let l : length (v ys) ≡ length ys = c.sized ys in
     let a : length ys ≡ length p + suc (length xs) = length-append p ((d, x.1) ∷ xs) in
     omega (arith, length-drop (length p) (v ys))
 
-take-resumed : (v : VisitCounts) → IsCausal v → (p : TimedList) (d n : ℕ) (xs : TimedList) → resume_counts v p d (take n xs) ≡ take n (resume_counts v p d xs)
+take-resumed : (v : VisitCounts) → KeepsPace v → (p : TimedList) (d n : ℕ) (xs : TimedList) → resume_counts v p d (take n xs) ≡ take n (resume_counts v p d xs)
 take-resumed v c p d zero xs = refl
 take-resumed v c p d (suc n) [] = refl
 take-resumed v c p d (suc n) (x ∷ xs) =
@@ -264,32 +166,5 @@ take-resumed v c p d (suc n) (x ∷ xs) =
     ∙ ap (drop (length p)) (c.causal (length p + suc n) (p ++ (d, x.1) ∷ xs))
     ∙ drop-take (length p) (suc n) (v (p ++ (d, x.1) ∷ xs))
 
-pub IsCausal-resume : (v : VisitCounts) → IsCausal v → (p : TimedList) (d : ℕ) → IsCausal (resume_counts v p d)
-IsCausal-resume v c p d = record { counted = length-resumed v c p d; causal = take-resumed v c p d }
-
--- each of a list
-pub data AllCausal : List VisitCounts → Type 0 where
-  none_causal : AllCausal []
-  and_causal : {v : VisitCounts} {vs : List VisitCounts} → IsCausal v → AllCausal vs → AllCausal (v ∷ vs)
-
-pub AllCausal-append : (fs gs : List VisitCounts) → AllCausal fs → AllCausal gs → AllCausal (fs ++ gs)
-AllCausal-append [] gs a b = b
-AllCausal-append (f ∷ fs) gs (and_causal c a) b = and_causal c (AllCausal-append fs gs a b)
-
-pub AllCausal-frozen : (r : Datum → Datum) (i : ℕ) (vs : List VisitCounts) → AllCausal vs → (p : TimedList) (d : ℕ) → AllCausal (freeze_counts r i vs p d)
-AllCausal-frozen r i [] a p d = none_causal
-AllCausal-frozen r i (v ∷ vs) (and_causal c a) p d = and_causal (IsCausal-resume v c (route r i p) d) (AllCausal-frozen r (suc i) vs a p d)
-
-pub IsCausal-sum_of_all : (vs : List VisitCounts) → AllCausal vs → IsCausal (sum_of_all vs)
-IsCausal-sum_of_all [] a = IsCausal-constant 0
-IsCausal-sum_of_all (v ∷ vs) (and_causal c a) = IsCausal-added v (sum_of_all vs) c (IsCausal-sum_of_all vs a)
-
-pub IsCausal-sum_by_route : (r : Datum → Datum) (i : ℕ) (vs : List VisitCounts) → AllCausal vs → IsCausal (sum_by_route r i vs)
-IsCausal-sum_by_route r i [] a = IsCausal-constant 0
-IsCausal-sum_by_route r i (v ∷ vs) (and_causal c a) =
-    IsCausal-added (λ xs. v (route r i xs)) (sum_by_route r (suc i) vs) (IsCausal-each _ v c) (IsCausal-sum_by_route r (suc i) vs a)
-
-pub IsCausal-counts_at : (vs : List VisitCounts) → AllCausal vs → (k : ℕ) → IsCausal (counts_at vs k)
-IsCausal-counts_at [] a k = IsCausal-constant 0
-IsCausal-counts_at (v ∷ vs) (and_causal c a) zero = c
-IsCausal-counts_at (v ∷ vs) (and_causal c a) (suc k) = IsCausal-counts_at vs a k
+pub resume_keeps : (v : VisitCounts) → KeepsPace v → (p : TimedList) (d : ℕ) → KeepsPace (resume_counts v p d)
+resume_keeps v c p d = record { sized = length-resumed v c p d; causal = take-resumed v c p d }

@@ -1,5 +1,5 @@
 -- How counted functions go on, and the visits of one sample more.
-use Rattle.std.proofs.Common.{◌≡◌, ℕ, suc, ◌+◌, ◌<◌, List, [], ◌∷◌, ◌++◌, length, refl, sym, ap, ◌∙◌, arith, append_assoc, append-nil, length-append}
+use Rattle.std.proofs.Common.{◌≡◌, ℕ, suc, ◌+◌, ◌<◌, List, [], ◌∷◌, ◌++◌, length, refl, sym, ap, ◌∙◌, arith, append_assoc, append-nil, length-append, subst}
 use Rattle.sample_core.specs.Datum.{Datum}
 use Rattle.net_meaning.specs.SignalFunction.{TimedList, answer}
 use Rattle.state_core.specs.Visits.{IsCount, VisitCounts, add_counts, and_one}
@@ -40,6 +40,11 @@ Took-continues c d p q x y n k t = record {
   answered = t.answered ∙ sym (answer-continues c d p q x k);
   counted = t.counted ∙ sym (tally-continues c d p q x k);
 }
+
+-- the same of one that goes on as what equals it
+pub Took-equal : {P : CountedFunction → TimedList → Type 0} (c d e : CountedFunction) (p q : TimedList) (x : ℕ × Datum) (y : Datum) (n : ℕ)
+    → Continues c p d q → d ≡ e → TakesSample (StandsVia P) e q x y n → TakesSample (StandsVia P) c p x y n
+Took-equal {P} c d e p q x y n k i t = Took-continues c d p q x y n k (subst (λ f. TakesSample (StandsVia P) f q x y n) (sym i) t)
 
 -- a sample more is a count more
 pub counts-some : (w : ℕ) (v : VisitCounts) → IsCount w v → (p : TimedList) (x : ℕ × Datum) → 0 < length (v (p ++ x ∷ []))

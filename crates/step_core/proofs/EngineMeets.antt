@@ -2,31 +2,30 @@
 use Rattle.std.proofs.Common.{◌≡◌, ℕ, suc, ◌+◌, List, [], ◌∷◌, map, refl, sym, ap, ap₂, subst, None}
 use Rattle.sample_core.specs.Datum.{Datum, unit, left, right, pair, list, list_of, no_event}
 use Rattle.net_meaning.specs.SignalFunction.{TimedList, SignalFunction, last_or, each_value, first_event, rights, watch, collect, i_pre_value, latest_event, values, if_event, Member, first_members, IsSignalFunction}
-use Rattle.net_tree.specs.Network.{Network, Networks, arr, loop_pre, i_pre, delay, hold, accum_by, after, repeatedly, switch, d_switch, r_switch, initial_out, initial_in, dr_switch, rp_switch, p_switch}
+use Rattle.net_tree.specs.Network.{Network, Networks, arr, loop_pre, i_pre, delay, hold, accum_by, after, repeatedly, at_once, delayed, switch, r_switch, initial_out, initial_in, rp_switch, p_switch}
 use Rattle.state_core.specs.Visits.{first_and_one}
 use Rattle.std.proofs.lemmas.List.{map_push}
 use Rattle.state_core.specs.CountedFunction.{CountedFunction, IsCountedFunction, StandsVia, TakesSample}
-use Rattle.state_core.specs.CountedForms.{functions_of, same_input, route_by, counted_rp_switch, counted_k_switch, counted_p_switch, counted_resume, counted_resume_each}
+use Rattle.state_core.specs.CountedForms.{functions_of, counted_cell, same_input, route_by, counted_rp_switch, counted_k_switch, counted_p_switch, counted_resume, counted_resume_each}
 use Rattle.state_core.specs.CountedContext.{CountedContext, context_with_param, context_with_olds, counted_meaning, counted_meanings}
 use Rattle.cell_core.specs.Cell.{previous, queue, latest, recurring}
 use Rattle.state_core.specs.State.{State, States, Scope, Frozen, scope, no_frozen, and_frozen, unstarted, paused, params_of, frozens_of, push_param, all_unstarted, all_paused, arr_state, par_state, loop_state, cell_state, accum_state, k_switch_state, p_switch_state, rp_switch_state, first_frozen}
+use Rattle.state_core.specs.StandsByForm.{CellStands}
 use Rattle.state_core.specs.Stands.{StandsDirectly, StandDirectly, StandEach, Denotes, AllDenote, FrozenDenotes, Stands}
 use Rattle.step_core.specs.Stepping
-use Rattle.step_core.specs.Stepping.{Starts, StartsEach, Resumes, ResumesEach, Steps, StepsEach, event_in, restart_in}
+use Rattle.step_core.specs.Stepping.{Starts, StartsEach, Resumes, ResumesEach, Steps, StepsEach, heard}
 use Rattle.net_meaning.proofs.Steps.{signal-nil}
-use Rattle.step_core.proofs.CountedFunctions.{Took-continues}
+use Rattle.step_core.proofs.CountedFunctions.{Took-continues, Took-equal}
 use Rattle.step_core.proofs.PlainCounts.{arr_took, seq_took, first_took, loop_took}
-use Rattle.step_core.proofs.CellCounts.{cell_starts, accum_took, delay_starts, after_starts, repeatedly_starts, time_starts, integral_starts}
-use Rattle.step_core.proofs.SwitchCounts.{switch_took, switch_over_took, d_switch_took, d_switch_over_took, k_switch_took, k_switch_over_took}
-use Rattle.step_core.proofs.RestartCounts.{r_switch_took, r_switch_over_took, cut_is, Uncut-nil}
+use Rattle.step_core.proofs.CellCounts.{cell_starts, cell_took, accum_took, delay_starts, after_starts, repeatedly_starts, time_starts, integral_starts}
+use Rattle.step_core.proofs.SwitchCounts.{switch_took, switch_over_took, k_switch_took, k_switch_over_took}
+use Rattle.step_core.proofs.RestartCounts.{r_switch_took, cut_at_once_took, cut_delayed_took, cut_is, Uncut-nil}
 use Rattle.step_core.proofs.MemberCounts.{AllCounted, no_counted, and_counted, AllCounted-append, AllCounted-resume, IsCounted-resume, EachTook, par_took, p_switch_took, p_switch_over_took}
 use Rattle.step_core.proofs.OpeningCounts.{initial_out_took, initial_in_took}
-use Rattle.step_core.proofs.LateRestartCounts.{dr_switch_took, dr_switch_over_took}
 use Rattle.step_core.proofs.CollectionCounts.{AllTook}
 use Rattle.step_core.proofs.CollectionStands.{AllPaired, no_pair, and_pair, GoesAs, goes-counted, first-go, first-counted, collection_took, collection_moves}
 use Rattle.step_core.proofs.OldCounts.{old_counted, resume_took}
 use Rattle.step_core.proofs.CountedContexts.{IsCounted-counted, AllCounted-counted_each, Denotes-counted_each, Denotes-push_param, Denotes-push_olds, AllDenote-unstarted, AllDenote-paused, StandDirectly-counted_each, Found, found, counted-par, counted-rp_switch, counted-k_switch, counted-p_switch}
-use Rattle.step_core.proofs.Forms.{arr_moves, seq_moves, first_moves, par_moves, loop_moves, cell_moves, accum_moves, switch_moves, switch_over_moves, d_switch_moves, d_switch_over_moves, r_switch_moves, r_switch_over_moves, dr_switch_moves, dr_switch_over_moves, k_switch_moves, k_switch_over_moves, p_switch_moves, p_switch_over_moves}
 
 pub Took-weaker : {P Q : CountedFunction → TimedList → Type 0} (c : CountedFunction) (p : TimedList) (x : ℕ × Datum) (y : Datum) (n : ℕ)
     → ((d : CountedFunction) (q : TimedList) → P d q → Q d q) → TakesSample (StandsVia P) c p x y n → TakesSample (StandsVia Q) c p x y n
@@ -69,12 +68,18 @@ module _ {L : Type 0} (val : L → List Datum → Datum → Datum) where
   FrozenDenotes-all : (s : Scope L) (S : CountedContext) → Denotes val s S → AllDenote val (frozens_of s) S.olds
   FrozenDenotes-all (scope ps fs) S h = h.1
 
-  -- counted functions in what a switch puts in scope
-  counted-over : (t : Network L) (S : CountedContext) → AllCounted S.olds → (v : Datum) → IsCountedFunction (counted_meaning val t (context_with_param S v))
+  -- what takes over, with the event's value in scope, and frozen networks
+  abbrev over : Network L → CountedContext → Datum → CountedFunction
+  over t S v = counted_meaning val t (context_with_param S v)
+
+  abbrev over_olds : Network L → CountedContext → Datum → List CountedFunction → CountedFunction
+  over_olds t S v os = counted_meaning val t (context_with_olds (context_with_param S v) os)
+
+  counted-over : (t : Network L) (S : CountedContext) → AllCounted S.olds → (v : Datum) → IsCountedFunction (over t S v)
   counted-over t S a v = IsCounted-counted val t (context_with_param S v) a
 
   counted-olds : (t : Network L) (S : CountedContext) → AllCounted S.olds → (v : Datum) (os : List CountedFunction) → AllCounted os
-      → IsCountedFunction (counted_meaning val t (context_with_olds (context_with_param S v) os))
+      → IsCountedFunction (over_olds t S v os)
   counted-olds t S a v os b = IsCounted-counted val t (context_with_olds (context_with_param S v) os) (AllCounted-append S.olds os a b)
 
   mutual
@@ -119,37 +124,32 @@ module _ {L : Type 0} (val : L → List Datum → Datum → Datum) where
         by_own (repeatedly (suc q) c) s S (cell_state (recurring (suc q) (suc q) u)) (d, x) no_event 1 h (repeatedly_starts q u (d, x))
     starts (Stepping.start_time {s = s} {x = x}) S d h = time_starts (d, x)
     starts (Stepping.start_integral {s = s} {x = x}) S d h = integral_starts (d, x)
-    starts (Stepping.start_switch {f = f} {t = t} {s = s} {x = x} {v = v} {n = n} kf e) S d h =
-        Took-weaker (counted_meaning val (switch f t) S) [] (d, x) (left v) (suc n) (λ c q sh. (S, h, sh))
-        (switch_took (counted_meaning val f S) (λ v. counted_meaning val t (context_with_param S v)) (part_of f s S h) [] (d, x)
+    starts (Stepping.start_switch {tm = tm} {f = f} {t = t} {s = s} {x = x} {v = v} {n = n} kf e) S d h =
+        Took-weaker (counted_meaning val (switch tm f t) S) [] (d, x) (left v) (suc n) (λ c q sh. (S, h, sh))
+        (switch_took tm (counted_meaning val f S) (over t S) (part_of f s S h) [] (d, x)
         (unseen_in f s S h) v n (starts kf S d h) e)
-    starts (Stepping.start_d_switch {f = f} {t = t} {s = s} {x = x} {v = v} {n = n} kf e) S d h =
-        Took-weaker (counted_meaning val (d_switch f t) S) [] (d, x) (left v) (suc n) (λ c q sh. (S, h, sh))
-        (d_switch_took (counted_meaning val f S) (λ v. counted_meaning val t (context_with_param S v)) (part_of f s S h) [] (d, x)
-        (unseen_in f s S h) v n (starts kf S d h) e)
-    starts (Stepping.fire_switch {f = f} {t = t} {s = s} {x = x} {b = b} {v = v} {c = c} {y = y} {m = m} {n = n} kf e kt) S d h =
-        switch_over_took (counted_meaning val f S) (λ v. counted_meaning val t (context_with_param S v)) (part_of f s S h) [] (d, x)
+    starts (Stepping.fire_switch {tm = tm} {f = f} {t = t} {s = s} {x = x} {b = b} {v = v} {c = c} {y = y} {m = m} {n = n} kf e kt) S d h =
+        switch_over_took tm (counted_meaning val f S) (over t S) (part_of f s S h) [] (d, x)
         (unseen_in f s S h) {P = StandsDirectly val b} v c y m n (counted-over t S (Denotes-counted_each val s S h) c)
         (starts kf S d h) e (starts kt (context_with_param S c) d (Denotes-push_param val s S c h))
-    starts (Stepping.fire_d_switch {f = f} {t = t} {s = s} {x = x} {b = b} {v = v} {c = c} {y = y} {m = m} {n = n} kf e kt) S d h =
-        d_switch_over_took (counted_meaning val f S) (λ v. counted_meaning val t (context_with_param S v)) (part_of f s S h) [] (d, x)
-        (unseen_in f s S h) {P = StandsDirectly val b} v c y m n (counted-over t S (Denotes-counted_each val s S h) c)
-        (starts kf S d h) e (starts kt (context_with_param S c) d (Denotes-push_param val s S c h))
-    starts (Stepping.start_r_switch {f = f} {t = t} {s = s} {x = x} {y = y} {n = n} e kf) S d h =
-        let cf : IsCountedFunction (counted_meaning val f S) = part_of f s S h in
-        Took-weaker (counted_meaning val (r_switch f t) S) [] (d, x) y (suc n) (λ c q sh. (S, h, sh))
-        (r_switch_took (counted_meaning val f S) (λ v. counted_meaning val t (context_with_param S v)) cf [] (d, x) Uncut-nil y n e (starts kf S d h))
-    starts (Stepping.cut_r_switch {f = f} {t = t} {s = s} {x = x} {u = u} {c = c} {y = y} {n = n} e kt) S d h =
-        let all : AllCounted S.olds = Denotes-counted_each val s S h in
-        let cf : IsCountedFunction (counted_meaning val f S) = IsCounted-counted val f S all in
-        Took-weaker (counted_meaning val (r_switch f t) S) [] (d, x) y (suc n) (λ c q sh. (S, h, sh))
-        (r_switch_over_took (counted_meaning val f S) (λ v. counted_meaning val t (context_with_param S v)) cf [] (d, x) Uncut-nil u c (cut_is x u c e)
-        (counted-over t S all c) y n (starts kt (context_with_param S c) d (Denotes-push_param val s S c h)))
+    starts (Stepping.start_r_switch {tm = tm} {f = f} {t = t} {s = s} {x = x} {y = y} {n = n} e kf) S d h =
+        Took-weaker (counted_meaning val (r_switch tm f t) S) [] (d, x) y (suc n) (λ c q sh. (S, h, sh))
+        (r_switch_took tm (over t S) (counted-over t S (Denotes-counted_each val s S h)) (counted_meaning val f S)
+        (part_of f s S h) [] (d, x) Uncut-nil y n e (starts kf S d h))
+    starts (Stepping.cut_at_once {f = f} {t = t} {s = s} {x = x} {u = u} {c = c} {y = y} {n = n} e kt) S d h =
+        Took-weaker (counted_meaning val (r_switch at_once f t) S) [] (d, x) y (suc n) (λ c q sh. (S, h, sh))
+        (cut_at_once_took (over t S) (counted-over t S (Denotes-counted_each val s S h)) (counted_meaning val f S)
+        (part_of f s S h) [] (d, x) Uncut-nil u c (cut_is x u c e) y n (starts kt (context_with_param S c) d (Denotes-push_param val s S c h)))
+    starts (Stepping.cut_delayed {f = f} {t = t} {s = s} {x = x} {a = a} {u = u} {c = c} {v = v} {y = y} {m = m} {n = n} e kf kt) S d h =
+        Took-weaker (counted_meaning val (r_switch delayed f t) S) [] (d, x) v (suc (m + n)) (λ c q sh. (S, h, sh))
+        (cut_delayed_took (over t S) (counted-over t S (Denotes-counted_each val s S h)) (counted_meaning val f S)
+        (part_of f s S h) [] (d, x) Uncut-nil u c (cut_is x u c e) {A = Stands val a} v y m n (starts kf S d h)
+        (starts kt (context_with_param S c) d (Denotes-push_param val s S c h)))
     starts (Stepping.start_k_switch {f = f} {e = e} {t = t} {s = s} {x = x} {a = a} {b = b} {v = v} {w = w} {m = m} {n = n} kf ke i) S d h =
         let all : AllCounted S.olds = Denotes-counted_each val s S h in
         let cf : IsCountedFunction (counted_meaning val f S) = IsCounted-counted val f S all in
         let ce : IsCountedFunction (counted_meaning val e S) = IsCounted-counted val e S all in
-        let tc : Datum → CountedFunction → CountedFunction = λ v o. counted_meaning val t (context_with_olds (context_with_param S v) (o ∷ [])) in
+        let tc : Datum → CountedFunction → CountedFunction = λ v o. over_olds t S v (o ∷ []) in
         subst (λ c. TakesSample (Stands val (k_switch_state a b t s)) c [] (d, x) v (suc (m + n))) (sym (counted-k_switch val f e t S))
         (Took-weaker (counted_k_switch (counted_meaning val f S) (counted_meaning val e S) tc) [] (d, x) v (suc (m + n)) (λ c q sh. (S, h, sh))
         (k_switch_took (counted_meaning val f S) (counted_meaning val e S) cf ce tc [] (d, x)
@@ -161,7 +161,7 @@ module _ {L : Type 0} (val : L → List Datum → Datum → Datum) where
         let all : AllCounted S.olds = Denotes-counted_each val s S h in
         let cf : IsCountedFunction (counted_meaning val f S) = IsCounted-counted val f S all in
         let ce : IsCountedFunction (counted_meaning val e S) = IsCounted-counted val e S all in
-        let tc : Datum → CountedFunction → CountedFunction = λ v o. counted_meaning val t (context_with_olds (context_with_param S v) (o ∷ [])) in
+        let tc : Datum → CountedFunction → CountedFunction = λ v o. over_olds t S v (o ∷ []) in
         let r : CountedFunction = counted_resume (counted_meaning val f S) [] d in
         let cr : IsCountedFunction r = IsCounted-resume (counted_meaning val f S) cf [] d in
         subst (λ g. TakesSample (Stands val o) g [] (d, x) y (suc (m + n) + k)) (sym (counted-k_switch val f e t S))
@@ -179,7 +179,7 @@ module _ {L : Type 0} (val : L → List Datum → Datum → Datum) where
         let rv : Datum → Datum = val r (params_of s) in
         let cs : List CountedFunction = counted_meanings val fs own_S in
         let ce : IsCountedFunction (counted_meaning val e own_S) = IsCounted-counted val e own_S all in
-        let tc : Datum → List CountedFunction → CountedFunction = λ v os. counted_meaning val t (context_with_olds (context_with_param own_S v) os) in
+        let tc : Datum → List CountedFunction → CountedFunction = over_olds t own_S in
         by_own (p_switch r fs e t) s S (p_switch_state r as' b t s) (d, x) (list (list_of vs)) (suc (m + n)) h
         (subst (λ c. TakesSample (Stands val (p_switch_state r as' b t s)) c [] (d, x) (list (list_of vs)) (suc (m + n)))
         (sym (counted-p_switch val r fs e t own_S))
@@ -197,7 +197,7 @@ module _ {L : Type 0} (val : L → List Datum → Datum → Datum) where
         let cs : List CountedFunction = counted_meanings val fs own_S in
         let acs : AllCounted cs = AllCounted-counted_each val fs own_S all in
         let ce : IsCountedFunction (counted_meaning val e own_S) = IsCounted-counted val e own_S all in
-        let tc : Datum → List CountedFunction → CountedFunction = λ v os. counted_meaning val t (context_with_olds (context_with_param own_S v) os) in
+        let tc : Datum → List CountedFunction → CountedFunction = over_olds t own_S in
         let rs : List CountedFunction = counted_resume_each rv 0 cs [] d in
         by_own (p_switch r fs e t) s S o (d, x) y (suc (m + n) + k) h
         (subst (λ g. TakesSample (Stands val o) g [] (d, x) y (suc (m + n) + k)) (sym (counted-p_switch val r fs e t own_S))
@@ -223,21 +223,12 @@ module _ {L : Type 0} (val : L → List Datum → Datum → Datum) where
         by_own (initial_in c f) s S a (d, x) y (suc n) h
         (initial_in_took u (counted_meaning val f (own s S)) (part_of f s (own s S) (Denotes-own s S h)) (d, x) {P = StandsDirectly val a} y n
         (starts kf (own s S) d (Denotes-own s S h)))
-    starts (Stepping.start_dr_switch {f = f} {t = t} {s = s} {x = x} {y = y} {n = n} e kf) S d h =
-        Took-weaker (counted_meaning val (dr_switch f t) S) [] (d, x) y (suc n) (λ c q sh. (S, h, sh))
-        (dr_switch_took (λ v. counted_meaning val t (context_with_param S v)) (counted-over t S (Denotes-counted_each val s S h)) (counted_meaning val f S)
-        (part_of f s S h) [] (d, x) Uncut-nil y n e (starts kf S d h))
-    starts (Stepping.cut_dr_switch {f = f} {t = t} {s = s} {x = x} {a = a} {u = u} {c = c} {y = y} {z = z} {m = m} {n = n} e kf kt) S d h =
-        Took-weaker (counted_meaning val (dr_switch f t) S) [] (d, x) y (suc (m + n)) (λ c q sh. (S, h, sh))
-        (dr_switch_over_took (λ v. counted_meaning val t (context_with_param S v)) (counted-over t S (Denotes-counted_each val s S h)) (counted_meaning val f S)
-        (part_of f s S h) [] (d, x) Uncut-nil u c (cut_is x u c e) {A = Stands val a} y z m n (starts kf S d h)
-        (starts kt (context_with_param S c) d (Denotes-push_param val s S c h)))
     starts (Stepping.start_rp_switch {fs = fs} {m = m} {t = t} {s = s} {x = x} {as' = as'} {ys = ys} {n = n} ks) S d h =
         let own_S : CountedContext = own s S in
         let own_h : Denotes val s own_S = Denotes-own s S h in
         let r : Datum → Datum = val m (params_of s) in
         let cs : List CountedFunction = counted_meanings val fs own_S in
-        let tc : Datum → CountedFunction = λ v. counted_meaning val t (context_with_param own_S v) in
+        let tc : Datum → CountedFunction = over t own_S in
         by_own (rp_switch fs m t) s S (rp_switch_state m as' t s) (d, x) (list (list_of ys)) (suc n) h
         (subst (λ c. TakesSample (Stands val (rp_switch_state m as' t s)) c [] (d, x) (list (list_of ys)) (suc n)) (sym (counted-rp_switch val fs m t own_S))
         (Took-weaker (counted_rp_switch r cs tc) [] (d, x) (list (list_of ys)) (suc n) (λ c q sh. (own_S, own_h, sh))
@@ -270,118 +261,113 @@ module _ {L : Type 0} (val : L → List Datum → Datum → Datum) where
     pub steps : {a a' : State L} {x : ℕ × Datum} {y : Datum} {n : ℕ} → Steps val a x a' y n → (c : CountedFunction) (p : TimedList) → Stands val a c p
         → TakesSample (Stands val a') c p x y n
     steps (Stepping.step_arr {e = e} {ps = ps} {x = x}) c p st =
-        Took-continues c st.other p st.past x (val e ps x.1) 1 st.goes_on (arr_moves x st.other st.past (val e ps) st.holds)
+        Took-equal c st.other _ p st.past x (val e ps x.1) 1 st.goes_on st.holds.same (arr_took (val e ps) st.past x)
     steps (Stepping.step_seq {x = x} {v = v} {y = y} {m = m} {n = n} ka kb) c p st =
-        Took-continues c st.other p st.past x y (suc (m + n)) st.goes_on
-        (seq_moves x st.other st.past v y m n st.holds (λ f q a. steps ka f q a) (λ g q b. steps kb g q b))
+        let h = st.holds in
+        Took-equal c st.other _ p st.past x y (suc (m + n)) st.goes_on h.same
+        (seq_took h.f h.g st.past x v y m n h.is_f h.is_g (steps ka h.f st.past h.first_part) (steps kb h.g _ h.second_part))
     steps (Stepping.step_first {x = x} {v = v} {n = n} ka) c p st =
-        Took-continues c st.other p st.past x (pair v (right x.1)) (suc n) st.goes_on
-        (first_moves x st.other st.past v n st.holds (λ f q a. steps ka f q a))
+        let h = st.holds in
+        Took-equal c st.other _ p st.past x (pair v (right x.1)) (suc n) st.goes_on h.same (first_took h.f st.past x v n h.is_f (steps ka h.f _ h.first_part))
     steps (Stepping.step_par {as' = as'} {x = x} {ys = ys} {n = n} ks) c p st =
-        Took-continues c st.other p st.past x (list (list_of ys)) (suc n) st.goes_on
-        (par_moves x st.other st.past ys n (λ cs ms. StandDirectly-counted_each val as' same_input 0 cs st.past ms) st.holds (λ cs q ms. steps_each ks cs q ms))
+        let h = st.holds in
+        Took-equal c st.other _ p st.past x (list (list_of ys)) (suc n) st.goes_on h.same
+        (par_took h.cs st.past x ys n (StandDirectly-counted_each val as' same_input 0 h.cs st.past h.members) (steps_each ks h.cs st.past h.members))
     steps (Stepping.step_loop {u = u} {x = x} {v = v} {n = n} ka) c p st =
-        Took-continues c st.other p st.past x (left v) (suc n) st.goes_on
-        (loop_moves x st.other st.past u v n st.holds (λ f q a. steps ka f q a))
+        let h = st.holds in
+        Took-equal c st.other _ p st.past x (left v) (suc n) st.goes_on h.same
+        (loop_took h.z h.f st.past x u v n h.is_f h.fed_next (steps ka h.f _ h.first_part))
     steps (Stepping.step_cell {k = k} {k' = k'} {x = x} {y = y} e) c p st =
-        Took-continues c st.other p st.past x y 1 st.goes_on (cell_moves x st.other st.past k k' y e st.holds)
+        let h = st.holds in
+        Took-equal c st.other _ p st.past x y 1 st.goes_on h.same
+        (subst (λ q. TakesSample (StandsVia (CellStands k')) (counted_cell h.h) q x y 1) (sym h.same_past)
+        (cell_took k k' h.h h.first_sample h.further x y e h.keeps))
     steps (Stepping.step_accum {g = g} {ps = ps} {acc = acc} {acc' = acc'} {x = x} e) c p st =
-        Took-continues c st.other p st.past x (if_event x.1 acc') 1 st.goes_on (accum_moves x st.other st.past (val g ps) acc acc' e st.holds)
-    steps (Stepping.step_switch {t = t} {s = s} {x = x} {v = v} {n = n} ka e) c p st =
+        let h = st.holds in
+        Took-equal c st.other _ p st.past x (if_event x.1 acc') 1 st.goes_on h.same (accum_took (val g ps) h.z st.past x acc acc' h.so_far e)
+    steps (Stepping.step_switch {tm = tm} {t = t} {s = s} {x = x} {v = v} {n = n} ka e) c p st =
         let S : CountedContext = st.holds.0 in
-        Took-continues c st.other p st.past x (left v) (suc n) st.goes_on
-        (Took-weaker st.other st.past x (left v) (suc n) (λ c q sh. (S, st.holds.1, sh))
-        (switch_moves x st.other st.past (λ v. counted_meaning val t (context_with_param S v)) (counted-over t S (Denotes-counted_each val s S st.holds.1)) v n
-        st.holds.2 (λ f q a. steps ka f q a) e))
-    steps (Stepping.step_switch_over {b = b} {t = t} {s = s} {x = x} {v = v} {c = e} {y = y} {m = m} {n = n} ka i kt) c p st =
+        let h = st.holds.2 in
+        Took-equal c st.other _ p st.past x (left v) (suc n) st.goes_on h.same
+        (Took-weaker _ st.past x (left v) (suc n) (λ c q sh. (S, st.holds.1, sh))
+        (switch_took tm h.f (over t S) h.is_f st.past x h.unseen v n (steps ka h.f st.past h.first_part) e))
+    steps (Stepping.step_switch_over {tm = tm} {b = b} {t = t} {s = s} {x = x} {v = v} {c = e} {y = y} {m = m} {n = n} ka i kt) c p st =
         let S : CountedContext = st.holds.0 in
-        Took-continues c st.other p st.past x y (suc m + n) st.goes_on
-        (switch_over_moves x st.other st.past (λ v. counted_meaning val t (context_with_param S v)) (counted-over t S (Denotes-counted_each val s S st.holds.1))
-        {P = StandsDirectly val b} v e y m n st.holds.2 (λ f q a. steps ka f q a) i
+        let h = st.holds.2 in
+        Took-equal c st.other _ p st.past x (heard tm (left v) y) (suc m + n) st.goes_on h.same
+        (switch_over_took tm h.f (over t S) h.is_f st.past x h.unseen {P = StandsDirectly val b} v e y m n
+        (counted-over t S (Denotes-counted_each val s S st.holds.1) e) (steps ka h.f st.past h.first_part) i
         (starts kt (context_with_param S e) x.0 (Denotes-push_param val s S e st.holds.1)))
-    steps (Stepping.step_d_switch {t = t} {s = s} {x = x} {v = v} {n = n} ka e) c p st =
+    steps (Stepping.step_r_switch {tm = tm} {t = t} {s = s} {x = x} {y = y} {n = n} e ka) c p st =
         let S : CountedContext = st.holds.0 in
-        Took-continues c st.other p st.past x (left v) (suc n) st.goes_on
-        (Took-weaker st.other st.past x (left v) (suc n) (λ c q sh. (S, st.holds.1, sh))
-        (d_switch_moves x st.other st.past (λ v. counted_meaning val t (context_with_param S v)) (counted-over t S (Denotes-counted_each val s S st.holds.1)) v
-        n st.holds.2 (λ f q a. steps ka f q a) e))
-    steps (Stepping.step_d_switch_over {b = b} {t = t} {s = s} {x = x} {v = v} {c = e} {y = y} {m = m} {n = n} ka i kt) c p st =
+        let h = st.holds.2 in
+        Took-equal c st.other _ p st.past x y (suc n) st.goes_on h.same
+        (Took-weaker _ st.past x y (suc n) (λ c q sh. (S, st.holds.1, sh))
+        (r_switch_took tm (over t S) (counted-over t S (Denotes-counted_each val s S st.holds.1)) h.f h.is_f st.past x h.uncut y n e
+        (steps ka h.f _ h.first_part)))
+    steps (Stepping.step_cut_at_once {t = t} {s = s} {x = x} {u = u} {c = e} {y = y} {n = n} i kt) c p st =
         let S : CountedContext = st.holds.0 in
-        Took-continues c st.other p st.past x (left v) (suc m + n) st.goes_on
-        (d_switch_over_moves x st.other st.past (λ v. counted_meaning val t (context_with_param S v))
-        (counted-over t S (Denotes-counted_each val s S st.holds.1)) {P = StandsDirectly val b} v e y m n st.holds.2 (λ f q a. steps ka f q a) i
-        (starts kt (context_with_param S e) x.0 (Denotes-push_param val s S e st.holds.1)))
-    steps (Stepping.step_r_switch {t = t} {s = s} {x = x} {y = y} {n = n} e ka) c p st =
+        let h = st.holds.2 in
+        Took-equal c st.other _ p st.past x y (suc n) st.goes_on h.same
+        (Took-weaker _ st.past x y (suc n) (λ c q sh. (S, st.holds.1, sh))
+        (cut_at_once_took (over t S) (counted-over t S (Denotes-counted_each val s S st.holds.1)) h.f h.is_f st.past x h.uncut u e (cut_is x.1 u e i) y n
+        (starts kt (context_with_param S e) x.0 (Denotes-push_param val s S e st.holds.1))))
+    steps (Stepping.step_cut_delayed {a' = a'} {t = t} {s = s} {x = x} {u = u} {c = e} {v = v} {y = y} {m = m} {n = n} i ka kt) c p st =
         let S : CountedContext = st.holds.0 in
-        Took-continues c st.other p st.past x y (suc n) st.goes_on
-        (Took-weaker st.other st.past x y (suc n) (λ c q sh. (S, st.holds.1, sh))
-        (r_switch_moves x st.other st.past (λ v. counted_meaning val t (context_with_param S v)) (counted-over t S (Denotes-counted_each val s S st.holds.1)) y
-        n st.holds.2 e (λ f q a. steps ka f q a)))
-    steps (Stepping.step_r_switch_over {t = t} {s = s} {x = x} {u = u} {c = e} {y = y} {n = n} i kt) c p st =
-        let S : CountedContext = st.holds.0 in
-        Took-continues c st.other p st.past x y (suc n) st.goes_on
-        (Took-weaker st.other st.past x y (suc n) (λ c q sh. (S, st.holds.1, sh))
-        (r_switch_over_moves x st.other st.past (λ v. counted_meaning val t (context_with_param S v))
-        (counted-over t S (Denotes-counted_each val s S st.holds.1)) u e y n st.holds.2 i
+        let h = st.holds.2 in
+        Took-equal c st.other _ p st.past x v (suc (m + n)) st.goes_on h.same
+        (Took-weaker _ st.past x v (suc (m + n)) (λ c q sh. (S, st.holds.1, sh))
+        (cut_delayed_took (over t S) (counted-over t S (Denotes-counted_each val s S st.holds.1)) h.f h.is_f st.past x h.uncut u e (cut_is x.1 u e i)
+        {A = Stands val a'} v y m n (steps ka h.f _ h.first_part)
         (starts kt (context_with_param S e) x.0 (Denotes-push_param val s S e st.holds.1))))
     steps (Stepping.step_k_switch {t = t} {s = s} {x = x} {v = v} {w = w} {m = m} {n = n} ka kb i) c p st =
         let S : CountedContext = st.holds.0 in
-        let all : AllCounted S.olds = Denotes-counted_each val s S st.holds.1 in
-        Took-continues c st.other p st.past x v (suc (m + n)) st.goes_on
-        (Took-weaker st.other st.past x v (suc (m + n)) (λ c q sh. (S, st.holds.1, sh))
-        (k_switch_moves x st.other st.past (λ v o. counted_meaning val t (context_with_olds (context_with_param S v) (o ∷ [])))
-        (λ v o co. counted-olds t S all v (o ∷ []) (and_counted co no_counted)) v w m n st.holds.2 (λ f q a. steps ka f q a) (λ g q b. steps kb g q b) i))
+        let h = st.holds.2 in
+        Took-equal c st.other _ p st.past x v (suc (m + n)) st.goes_on h.same
+        (Took-weaker _ st.past x v (suc (m + n)) (λ c q sh. (S, st.holds.1, sh))
+        (k_switch_took h.f h.e h.is_f h.is_e (λ v o. over_olds t S v (o ∷ [])) st.past x h.unseen v w m n (steps ka h.f st.past h.first_part)
+        (steps kb h.e _ h.second_part) i))
     steps (Stepping.step_k_switch_over {a = a} {o = o} {t = t} {s = s} {x = x} {v = v} {w = w} {c = e} {y = y} {m = m} {n = n} {k = k} ka kb i kt) c p st =
         let S : CountedContext = st.holds.0 in
-        let all : AllCounted S.olds = Denotes-counted_each val s S st.holds.1 in
-        Took-continues c st.other p st.past x y (suc (m + n) + k) st.goes_on
-        (k_switch_over_moves x st.other st.past (λ v o. counted_meaning val t (context_with_olds (context_with_param S v) (o ∷ [])))
-        (λ v o co. counted-olds t S all v (o ∷ []) (and_counted co no_counted)) {P = StandsDirectly val o} v w e y m n k st.holds.2
-        (λ f q a. steps ka f q a) (λ g q b. steps kb g q b) i
-        (λ f cf sa. starts kt (context_with_olds (context_with_param S e) (counted_resume f st.past x.0 ∷ [])) x.0
-        (Denotes-push_olds val (push_param s e) (context_with_param S e) (and_frozen (paused a x.0) no_frozen) (counted_resume f st.past x.0 ∷ [])
-        (Denotes-push_param val s S e st.holds.1) (IsCounted-resume f cf st.past x.0, (f, st.past, cf, sa, refl), tt))))
+        let h = st.holds.2 in
+        let r : CountedFunction = counted_resume h.f st.past x.0 in
+        let cr : IsCountedFunction r = IsCounted-resume h.f h.is_f st.past x.0 in
+        Took-equal c st.other _ p st.past x y (suc (m + n) + k) st.goes_on h.same
+        (k_switch_over_took h.f h.e h.is_f h.is_e (λ v o. over_olds t S v (o ∷ [])) st.past x h.unseen {P = StandsDirectly val o} v w e y m n k
+        (counted-olds t S (Denotes-counted_each val s S st.holds.1) e (r ∷ []) (and_counted cr no_counted)) (steps ka h.f st.past h.first_part)
+        (steps kb h.e _ h.second_part) i
+        (starts kt (context_with_olds (context_with_param S e) (r ∷ [])) x.0
+        (Denotes-push_olds val (push_param s e) (context_with_param S e) (and_frozen (paused a x.0) no_frozen) (r ∷ [])
+        (Denotes-push_param val s S e st.holds.1) (cr, (h.f, st.past, h.is_f, h.first_part, refl), tt))))
     steps (Stepping.step_p_switch {r = r} {as' = as'} {t = t} {s = s} {x = x} {vs = vs} {w = w} {m = m} {n = n} ks kb i) c p st =
         let S : CountedContext = st.holds.0 in
-        let all : AllCounted S.olds = Denotes-counted_each val s S st.holds.1 in
+        let h = st.holds.2 in
         let rv : Datum → Datum = val r (params_of s) in
-        Took-continues c st.other p st.past x (list (list_of vs)) (suc (m + n)) st.goes_on
-        (Took-weaker st.other st.past x (list (list_of vs)) (suc (m + n)) (λ c q sh. (S, st.holds.1, sh))
-        (p_switch_moves x st.other st.past rv (λ v os. counted_meaning val t (context_with_olds (context_with_param S v) os)) (counted-olds t S all) vs w m n
-        (λ cs ms. StandDirectly-counted_each val as' (route_by rv) 0 cs st.past ms) st.holds.2 (λ cs q ms. steps_each ks cs q ms) (λ g q b. steps kb g q b)
-        i))
+        Took-equal c st.other _ p st.past x (list (list_of vs)) (suc (m + n)) st.goes_on h.same
+        (Took-weaker _ st.past x (list (list_of vs)) (suc (m + n)) (λ c q sh. (S, st.holds.1, sh))
+        (p_switch_took rv h.cs h.e (StandDirectly-counted_each val as' (route_by rv) 0 h.cs st.past h.members) h.is_e (over_olds t S) st.past x h.unseen vs w m n
+        (steps_each ks h.cs st.past h.members) (steps kb h.e _ h.second_part) i))
     steps (Stepping.step_p_switch_over {r = r} {as' = as'} {o = o} {t = t} {s = s} {x = x} {vs = vs} {w = w} {c = e} {y = y} {m = m} {n = n} {k = k} ks kb i kt)
         c p st =
         let S : CountedContext = st.holds.0 in
-        let all : AllCounted S.olds = Denotes-counted_each val s S st.holds.1 in
+        let h = st.holds.2 in
         let rv : Datum → Datum = val r (params_of s) in
-        Took-continues c st.other p st.past x y (suc (m + n) + k) st.goes_on
-        (p_switch_over_moves x st.other st.past rv (λ v os. counted_meaning val t (context_with_olds (context_with_param S v) os)) (counted-olds t S all)
-        {P = StandsDirectly val o} vs w e y m n k (λ cs ms. StandDirectly-counted_each val as' (route_by rv) 0 cs st.past ms) st.holds.2
-        (λ cs q ms. steps_each ks cs q ms) (λ g q b. steps kb g q b) i
-        (λ cs ms. starts kt (context_with_olds (context_with_param S e) (counted_resume_each rv 0 cs st.past x.0)) x.0
-        (Denotes-push_olds val (push_param s e) (context_with_param S e) (all_paused as' x.0) (counted_resume_each rv 0 cs st.past x.0)
-        (Denotes-push_param val s S e st.holds.1) (AllDenote-paused val rv 0 as' cs st.past x.0 ms))))
-    steps (Stepping.step_dr_switch {t = t} {s = s} {x = x} {y = y} {n = n} e ka) c p st =
-        let S : CountedContext = st.holds.0 in
-        Took-continues c st.other p st.past x y (suc n) st.goes_on
-        (Took-weaker st.other st.past x y (suc n) (λ c q sh. (S, st.holds.1, sh))
-        (dr_switch_moves x st.other st.past (λ v. counted_meaning val t (context_with_param S v)) (counted-over t S (Denotes-counted_each val s S st.holds.1)) y
-        n st.holds.2 e (λ f q a. steps ka f q a)))
-    steps (Stepping.step_dr_switch_over {a' = a'} {t = t} {s = s} {x = x} {u = u} {c = e} {y = y} {z = z} {m = m} {n = n} i ka kt) c p st =
-        let S : CountedContext = st.holds.0 in
-        Took-continues c st.other p st.past x y (suc (m + n)) st.goes_on
-        (Took-weaker st.other st.past x y (suc (m + n)) (λ c q sh. (S, st.holds.1, sh))
-        (dr_switch_over_moves x st.other st.past (λ v. counted_meaning val t (context_with_param S v))
-        (counted-over t S (Denotes-counted_each val s S st.holds.1)) {A' = Stands val a'} u e y z m n st.holds.2 i (λ f q a. steps ka f q a)
-        (starts kt (context_with_param S e) x.0 (Denotes-push_param val s S e st.holds.1))))
+        let acs : AllCounted h.cs = StandDirectly-counted_each val as' (route_by rv) 0 h.cs st.past h.members in
+        let rs : List CountedFunction = counted_resume_each rv 0 h.cs st.past x.0 in
+        Took-equal c st.other _ p st.past x y (suc (m + n) + k) st.goes_on h.same
+        (p_switch_over_took rv h.cs h.e acs h.is_e (over_olds t S) st.past x h.unseen {P = StandsDirectly val o} vs w e y m n k
+        (counted-olds t S (Denotes-counted_each val s S st.holds.1) e rs (AllCounted-resume rv 0 h.cs acs st.past x.0))
+        (steps_each ks h.cs st.past h.members) (steps kb h.e _ h.second_part) i
+        (starts kt (context_with_olds (context_with_param S e) rs) x.0
+        (Denotes-push_olds val (push_param s e) (context_with_param S e) (all_paused as' x.0) rs (Denotes-push_param val s S e st.holds.1)
+        (AllDenote-paused val rv 0 as' h.cs st.past x.0 h.members))))
     steps (Stepping.step_rp_switch {r = r} {as' = as'} {bs = bs} {t = t} {s = s} {x = x} {ys = ys} {n = n} ks) c p st =
         let S : CountedContext = st.holds.0 in
         let y : Datum = list (list_of ys) in
         Took-continues c st.other p st.past x y (suc n) st.goes_on
         (Took-weaker st.other st.past x y (suc n) (λ c q sh. (S, st.holds.1, sh))
-        (collection_moves val (val r (params_of s)) t s (λ v. counted_meaning val t (context_with_param S v)) x
-        (λ v. (context_with_param S v, Denotes-push_param val s S v st.holds.1, refl)) bs ys n as' st.other st.past st.holds.2 (λ ns w. resumes_each ks ns x.0 w)))
+        (collection_moves val (val r (params_of s)) t s (over t S) x (λ v. (context_with_param S v, Denotes-push_param val s S v st.holds.1, refl)) bs ys n as'
+        st.other st.past st.holds.2 (λ ns w. resumes_each ks ns x.0 w)))
 
     -- what a frozen network goes on as takes the sample in that it resumes with
     goes_on : {f : Frozen L} {x : Datum} {a : State L} {y : Datum} {n : ℕ} → Resumes val f x a y n → (m : Member CountedFunction) (d : ℕ)

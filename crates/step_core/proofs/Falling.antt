@@ -1,12 +1,12 @@
 -- Each part of what runs weighs less than it.
 use Rattle.std.proofs.Common.{◌≡◌, ℕ, ◌+◌, ◌<◌, ◌≤◌, List, [], ◌∷◌, ◌++◌, ap, ◌∙◌, arith}
 use Rattle.sample_core.specs.Datum.{Datum}
-use Rattle.net_tree.specs.Network.{Network, arr, seq, first, par, loop_pre, initial_out, initial_in, i_pre, delay, hold, accum_by, after, repeatedly, time, integral, switch, d_switch, r_switch, dr_switch, rp_switch, k_switch, p_switch, old}
+use Rattle.net_tree.specs.Network.{Network, arr, seq, first, par, loop_pre, initial_out, initial_in, i_pre, delay, hold, accum_by, after, repeatedly, time, integral, at_once, delayed, switch, r_switch, rp_switch, k_switch, p_switch, old}
 use Rattle.net_tree.specs.Weight.{weight, weights, weight_at, total}
-use Rattle.state_core.specs.State.{State, Scope, Frozen, Frozens, arr_state, seq_state, first_state, par_state, loop_state, cell_state, accum_state, switch_state, d_switch_state, r_switch_state, k_switch_state, p_switch_state, dr_switch_state, rp_switch_state, no_frozen, and_frozen, unstarted, paused, push_param, push_old, push_olds, all_unstarted, all_paused}
+use Rattle.state_core.specs.State.{State, Scope, Frozen, Frozens, arr_state, seq_state, first_state, par_state, loop_state, cell_state, accum_state, switch_state, r_switch_state, k_switch_state, p_switch_state, rp_switch_state, no_frozen, and_frozen, unstarted, paused, push_param, push_old, push_olds, all_unstarted, all_paused}
 use Rattle.step_core.specs.Rank.{rank, ranks, ranks_in, frozen_rank, frozen_ranks}
 use Rattle.step_core.specs.Runs as R
-use Rattle.step_core.specs.Runs.{SeqBy, FirstBy, ParBy, SwitchBy, DSwitchBy, RSwitchBy, DrSwitchBy, KSwitchBy, PSwitchBy, OldBy}
+use Rattle.step_core.specs.Runs.{ParBy, RSwitchBy, KSwitchBy, PSwitchBy, OldBy}
 use Rattle.step_core.proofs.Ranks.{ranks-olds, ranks-unstarted, ranks-paused, rank-in}
 
 weight_positive : (net : Network ℕ) (ws : List ℕ) → 1 ≤ weight net ws
@@ -23,10 +23,9 @@ weight_positive (after q c) ws = omega arith
 weight_positive (repeatedly q c) ws = omega arith
 weight_positive time ws = omega arith
 weight_positive integral ws = omega arith
-weight_positive (switch f t) ws = omega arith
-weight_positive (d_switch f t) ws = omega arith
-weight_positive (r_switch f t) ws = omega arith
-weight_positive (dr_switch f t) ws = omega arith
+weight_positive (switch tm f t) ws = omega arith
+weight_positive (r_switch at_once f t) ws = omega arith
+weight_positive (r_switch delayed f t) ws = omega arith
 weight_positive (rp_switch fs m t) ws = omega arith
 weight_positive (initial_out c f) ws = omega arith
 weight_positive (initial_in c f) ws = omega arith
@@ -42,12 +41,11 @@ rank_positive (par_state as') = omega arith
 rank_positive (loop_state v a) = omega arith
 rank_positive (cell_state k) = omega arith
 rank_positive (accum_state g ps v) = omega arith
-rank_positive (switch_state a t s) = omega arith
-rank_positive (d_switch_state a t s) = omega arith
-rank_positive (r_switch_state a t s) = omega arith
+rank_positive (switch_state tm a t s) = omega arith
+rank_positive (r_switch_state at_once a t s) = omega arith
+rank_positive (r_switch_state delayed a t s) = omega arith
 rank_positive (k_switch_state a b t s) = omega arith
 rank_positive (p_switch_state r as' b t s) = omega arith
-rank_positive (dr_switch_state a t s) = omega arith
 rank_positive (rp_switch_state m as' t s) = omega arith
 
 pub frozen_positive : (f : Frozen ℕ) → 1 ≤ frozen_rank f
@@ -86,9 +84,9 @@ p_switch_within w r ms q t s (R.p_switch_on {as' = as'} {b = b} {d = d}) =
     let j : weight t (ranks_in s ++ frozen_ranks (all_paused as' d)) ≡ weight t (ranks_in s ++ ranks as') = ap (λ us. weight t (ranks_in s ++ us)) k in
     omega (arith, i, j)
 
-pub dr_switch_within : (w p : Frozen ℕ) (t : Network ℕ) (s : Scope ℕ) → DrSwitchBy w p t s → frozen_rank p + weight t (ranks_in s) < frozen_rank w
-dr_switch_within w p t s R.dr_switch_new = omega arith
-dr_switch_within w p t s R.dr_switch_on = omega arith
+pub delayed_within : (w p : Frozen ℕ) (t : Network ℕ) (s : Scope ℕ) → RSwitchBy delayed w p t s → frozen_rank p + weight t (ranks_in s) < frozen_rank w
+delayed_within w p t s R.r_switch_new = omega arith
+delayed_within w p t s R.r_switch_on = omega arith
 
 pub old_falls : (w f : Frozen ℕ) → OldBy w f → frozen_rank f < frozen_rank w
 old_falls w f (R.old_new {k = k} {s = s} e) = let h : frozen_rank f ≡ weight_at (ranks_in s) k = rank-in s k f e in omega (arith, h)

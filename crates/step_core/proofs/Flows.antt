@@ -5,7 +5,7 @@ use Rattle.std.proofs.lemmas.List.{length-append}
 use Rattle.std.proofs.Math.Seq.{set-append_seam}
 use Rattle.sample_core.specs.Datum.{Datum, unit, left, right, pair, list, list_of}
 use Rattle.leaf_core.specs.KeyTree.{KeyTree}
-use Rattle.net_tree.specs.Network.{Network, Networks, arr, seq, first, par, loop_pre, initial_out, initial_in, accum_by, switch, d_switch, r_switch, dr_switch, rp_switch, k_switch, p_switch, old, no_members, and_member}
+use Rattle.net_tree.specs.Network.{Timing, at_once, delayed, Network, Networks, arr, seq, first, par, loop_pre, initial_out, initial_in, accum_by, switch, r_switch, rp_switch, k_switch, p_switch, old, no_members, and_member}
 use Rattle.net_meaning.specs.Typing as N
 use Rattle.cell_core.specs.Cell.{Cell, previous, accumulator_of, cell_step}
 use Rattle.cell_core.specs.declared.form.Form.{Form}
@@ -18,12 +18,12 @@ use Rattle.step_core.specs.StateTyping as T
 use Rattle.step_core.specs.StateTyping.{row_value}
 use Rattle.step_core.specs.Outcome.{outcome}
 use Rattle.step_core.specs.Flow as F
-use Rattle.step_core.specs.Flow.{Past, past_behind, flowed, all_flowed, placed, all_placed, Flows, AllFlow, Runs, AllRun, IsCell, IsOneCell, IsKept, IsFedBack}
+use Rattle.step_core.specs.Flow.{Past, past_behind, flowed, all_flowed, placed, Flows, AllFlow, Runs, IsCell, IsOneCell, IsKept, IsFedBack}
 use Rattle.step_core.specs.Runs as R
-use Rattle.step_core.specs.Runs.{Ran, RunsWhere, RunEachWhere, SeqBy, FirstBy, ParBy, LoopBy, RSwitchBy, DrSwitchBy, to_all, by_row}
+use Rattle.step_core.specs.Runs.{RunsWhere, RunEachWhere, SeqBy, FirstBy, ParBy, LoopBy, RSwitchBy, to_all}
 use Rattle.step_core.proofs.CalledRows.{called_value}
 use Rattle.step_core.proofs.RunCells.{cell_runs}
-use Rattle.step_core.proofs.RunForms.{seq_runs, first_runs, loop_runs, r_switch_goes, r_switch_cuts, initial_out_runs, initial_in_runs, dr_switch_goes, dr_switch_cuts}
+use Rattle.step_core.proofs.RunForms.{seq_runs, first_runs, loop_runs, r_switch_goes, cuts_at_once, cuts_delayed, initial_out_runs, initial_in_runs}
 use Rattle.step_core.proofs.RunMembers.{none_runs, also_runs, par_runs}
 use Rattle.step_core.proofs.StateTypings.{params_typed}
 use Rattle.step_core.proofs.Kepts.{behind_both, head_at, joined_assoc, joined_nothing, width_joined, one_of_two, others_of_two}
@@ -46,18 +46,13 @@ pub also_by : (f : Network ℕ) (fs : Networks ℕ) (s : Scope ℕ) (q : Past)
 also_by f fs s None = refl
 also_by f fs s (Some p) = refl
 
-pub r_switch_by : (f t : Network ℕ) (s : Scope ℕ) (q : Past) → RSwitchBy (flowed (r_switch f t) s q) (placed f s q) t s
-r_switch_by f t s None = R.r_switch_new
-r_switch_by f t s (Some p) = R.r_switch_on
-
-pub dr_switch_by : (f t : Network ℕ) (s : Scope ℕ) (q : Past) → DrSwitchBy (flowed (dr_switch f t) s q) (placed f s q) t s
-dr_switch_by f t s None = R.dr_switch_new
-dr_switch_by f t s (Some p) = R.dr_switch_on
+pub r_switch_by : (tm : Timing) (f t : Network ℕ) (s : Scope ℕ) (q : Past) → RSwitchBy tm (flowed (r_switch tm f t) s q) (placed f s q) t s
+r_switch_by tm f t s None = R.r_switch_new
+r_switch_by tm f t s (Some p) = R.r_switch_on
 
 -- the networks that run at a place of their own
 pub data IsPlaced : Network ℕ → Type 0 where
-  is_switch : {f t : Network ℕ} → IsPlaced (switch f t)
-  is_d_switch : {f t : Network ℕ} → IsPlaced (d_switch f t)
+  is_switch : {tm : Timing} {f t : Network ℕ} → IsPlaced (switch tm f t)
   is_k_switch : {f e t : Network ℕ} → IsPlaced (k_switch f e t)
   is_p_switch : {r : ℕ} {fs : Networks ℕ} {e t : Network ℕ} → IsPlaced (p_switch r fs e t)
   is_rp_switch : {fs : Networks ℕ} {m : ℕ} {t : Network ℕ} → IsPlaced (rp_switch fs m t)
@@ -69,7 +64,6 @@ placed_by net m e h = subst IsPlaced (sym e) h
 
 placed_is : (net : Network ℕ) (s : Scope ℕ) (a : State ℕ) → IsPlaced net → (width net ≡ (0, 1)) × (tree net s (one_place a) ≡ a)
 placed_is _ s a is_switch = (refl, refl)
-placed_is _ s a is_d_switch = (refl, refl)
 placed_is _ s a is_k_switch = (refl, refl)
 placed_is _ s a is_p_switch = (refl, refl)
 placed_is _ s a is_rp_switch = (refl, refl)
@@ -78,7 +72,6 @@ placed_is _ s a is_old = (refl, refl)
 pub flowed_placed : (net : Network ℕ) (s : Scope ℕ) (q : Past) → IsPlaced net → flowed net s q ≡ placed net s q
 flowed_placed _ s None i = refl
 flowed_placed _ s (Some p) is_switch = refl
-flowed_placed _ s (Some p) is_d_switch = refl
 flowed_placed _ s (Some p) is_k_switch = refl
 flowed_placed _ s (Some p) is_p_switch = refl
 flowed_placed _ s (Some p) is_rp_switch = refl
@@ -164,29 +157,10 @@ module _ (keys : List KeyTree) where
             (behind_part g s (width f) (width_of before) (width_of mid) p v y _ n from two.runs) hc (flowed (seq f g) s q) (seq_by f g s q);
       }
 
-  -- the same with another count of its visits
-  recount : (net : Network ℕ) (s : Scope ℕ) (p : Past) (x y : Datum) (before now : Kept ℕ) (n c : ℕ) → Flows keys net s p x before now y n
-      → (n < 2 ^ 32 → c ≡ n) → Flows keys net s p x before now y c
-  recount net s p x y before now n c f e = record {
-    kept = f.kept;
-    added = f.added;
-    is_width = f.is_width;
-    runs = λ A B tf t.
-        let r = f.runs A B tf t in
-        record {
-          visits = r.visits;
-          resumes = r.resumes;
-          is_count = λ l. let i : n ≡ r.visits = r.is_count l in e (omega (arith, i, l)) ∙ i;
-        };
-  }
-
   -- what the rest of a chain leads to, the whole leads to, after so many visits
   abbrev pub ChainFlows : Network ℕ → Network ℕ → Scope ℕ → Past → Datum → Datum → Kept ℕ → Kept ℕ → ℕ → Type 0
   ChainFlows net rest s p x z before mid m = (now : Kept ℕ) (y : Datum) (n c : ℕ) → Flows keys rest s p z mid now y n → (m + n < 2 ^ 32 → c ≡ m + n)
       → Flows keys net s p x before now y c
-
-  pub chain_begins : (net : Network ℕ) (s : Scope ℕ) (p : Past) (x : Datum) (before : Kept ℕ) → ChainFlows net net s p x x before before 0
-  chain_begins net s p x before now y n c f e = recount net s p x y before now n c f (λ l. e (omega (arith, l)) ∙ omega arith)
 
   -- a link of a chain, by an equation, whose answer stands in another place
   pub chain_goes : (net rest f g : Network ℕ) (s : Scope ℕ) (p : Past) (x z v u : Datum) (before mid last : Kept ℕ) (m k j : ℕ) → rest ≡ seq f g → u ≡ v
@@ -329,50 +303,38 @@ module _ (keys : List KeyTree) where
         (subst (λ a. RunsWhere keys (placed net s (past_behind (0, length before.1) p)) x a y n) (sym (placed_is net s r.state i).1) r.runs);
   }
 
-  -- `rSwitch` that goes on, and one that starts anew
-  pub restart_goes : (f t : Network ℕ) (s : Scope ℕ) (p : Past) (x l y : Datum) (before now : Kept ℕ) (m c : ℕ) → l ≡ left x → restart_in x ≡ None
-      → Runs keys (placed f s (past_behind (0, length before.1) p)) l before now y m → (suc (m + 0) < 2 ^ 32 → c ≡ suc (m + 0))
-      → Flows keys (r_switch f t) s p x before now y c
-  restart_goes f t s p x l y before now m c el ev r hc = record {
+  -- `rSwitch` and `drSwitch` that go on
+  pub restart_goes : (tm : Timing) (f t : Network ℕ) (s : Scope ℕ) (p : Past) (x l y : Datum) (before now : Kept ℕ) (m c : ℕ) → l ≡ left x
+      → restart_in x ≡ None → Runs keys (placed f s (past_behind (0, length before.1) p)) l before now y m → (suc (m + 0) < 2 ^ 32 → c ≡ suc (m + 0))
+      → Flows keys (r_switch tm f t) s p x before now y c
+  restart_goes tm f t s p x l y before now m c el ev r hc = record {
     kept = one_place r.state;
     added = r.added;
     is_width = refl;
-    runs = r_switch_goes keys (placed f s (past_behind (width_of before) p)) t s x l y r.state _ m c refl el ev
+    runs = r_switch_goes keys tm (placed f s (past_behind (width_of before) p)) t s x l y r.state m c el ev
         (subst (λ w. RunsWhere keys w l r.state y m) (placed_at f s 0 (length before.0) (length before.1) p) r.runs) hc
-        (flowed (r_switch f t) s (past_behind (width_of before) p)) (r_switch_by f t s (past_behind (width_of before) p));
+        (flowed (r_switch tm f t) s (past_behind (width_of before) p)) (r_switch_by tm f t s (past_behind (width_of before) p));
   }
 
+  -- `rSwitch` that starts anew
   pub restart_cuts : (f t : Network ℕ) (s s' : Scope ℕ) (p q : Past) (x v u y : Datum) (before now : Kept ℕ) (m c : ℕ) → restart_in x ≡ Some (v, u)
       → s' ≡ push_param s u → q ≡ None → Runs keys (placed t s' (past_behind (0, length before.1) q)) v before now y m
-      → (suc (m + 0) < 2 ^ 32 → c ≡ suc (m + 0)) → Flows keys (r_switch f t) s p x before now y c
+      → (suc (m + 0) < 2 ^ 32 → c ≡ suc (m + 0)) → Flows keys (r_switch at_once f t) s p x before now y c
   restart_cuts f t s s' p q x v u y before now m c ev es eq r hc = record {
     kept = one_place r.state;
     added = r.added;
     is_width = refl;
-    runs = r_switch_cuts keys (placed f s (past_behind (width_of before) p)) t s s' x v u y r.state _ m c refl es ev
+    runs = cuts_at_once keys (placed f s (past_behind (width_of before) p)) t s s' x v u y r.state m c es ev
         (subst (λ z. RunsWhere keys (placed t s' (past_behind (0, length before.1) z)) v r.state y m) eq r.runs) hc
-        (flowed (r_switch f t) s (past_behind (width_of before) p)) (r_switch_by f t s (past_behind (width_of before) p));
+        (flowed (r_switch at_once f t) s (past_behind (width_of before) p)) (r_switch_by at_once f t s (past_behind (width_of before) p));
   }
 
-  -- `drSwitch` that goes on
-  pub late_goes : (f t : Network ℕ) (s : Scope ℕ) (p : Past) (x l y : Datum) (before now : Kept ℕ) (m c : ℕ) → l ≡ left x → restart_in x ≡ None
-      → Runs keys (placed f s (past_behind (0, length before.1) p)) l before now y m → (suc (m + 0) < 2 ^ 32 → c ≡ suc (m + 0))
-      → Flows keys (dr_switch f t) s p x before now y c
-  late_goes f t s p x l y before now m c el ev r hc = record {
-    kept = one_place r.state;
-    added = r.added;
-    is_width = refl;
-    runs = dr_switch_goes keys (placed f s (past_behind (width_of before) p)) t s x l y r.state m c el ev
-        (subst (λ w. RunsWhere keys w l r.state y m) (placed_at f s 0 (length before.0) (length before.1) p) r.runs) hc
-        (flowed (dr_switch f t) s (past_behind (width_of before) p)) (dr_switch_by f t s (past_behind (width_of before) p));
-  }
-
-  -- and one in which another network starts, which stands at the place then
+  -- `drSwitch` in which another network starts, which stands at the place then
   pub late_cuts : (f t : Network ℕ) (s : Scope ℕ) (p : Past) (x v u y z : Datum) (a b : State ℕ) (before : Kept ℕ) (cells : List Cell)
       (places : List (State ℕ)) (at m n c : ℕ) → restart_in x ≡ Some (v, u) → at ≡ length before.1
       → RunsWhere keys (placed f s (past_behind (0, at) p)) v a y m → RunsWhere keys (unstarted t (push_param s u)) v b z n
       → cells ≡ before.0 → places ≡ before.1 ++ b ∷ [] → (suc (m + n) < 2 ^ 32 → c ≡ suc (m + n))
-      → Flows keys (dr_switch f t) s p x before (cells, places) y c
+      → Flows keys (r_switch delayed f t) s p x before (cells, places) y c
   late_cuts f t s p x v u y z a b before cells places at m n c ev ea one two ec ep hc =
       let same : cells ≡ before.0 ++ [] = ec ∙ sym (append-nil before.0) in
       let from : placed f s (past_behind (0, at) p) ≡ placed f s (past_behind (width_of before) p) =
@@ -381,9 +343,9 @@ module _ (keys : List KeyTree) where
         kept = one_place b;
         added = λ i. (same i, ep i);
         is_width = refl;
-        runs = dr_switch_cuts keys (placed f s (past_behind (width_of before) p)) t s x v u y z a b m n c ev
-            (subst (λ w. RunsWhere keys w v a y m) from one) two hc (flowed (dr_switch f t) s (past_behind (width_of before) p))
-            (dr_switch_by f t s (past_behind (width_of before) p));
+        runs = cuts_delayed keys (placed f s (past_behind (width_of before) p)) t s x v u y z a b m n c ev
+            (subst (λ w. RunsWhere keys w v a y m) from one) two hc (flowed (r_switch delayed f t) s (past_behind (width_of before) p))
+            (r_switch_by delayed f t s (past_behind (width_of before) p));
       }
 
   -- `-->` and `>--` that start

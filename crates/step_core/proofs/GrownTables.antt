@@ -2,7 +2,7 @@
 use Rattle.std.proofs.Common.{◌≡◌, ℕ, zero, suc, List, [], ◌∷◌, ◌++◌, Some, slice_get, refl, sym, ap, ap₂, ◌∙◌}
 use Rattle.sample_core.specs.TypeTree.{TypeTree}
 use Rattle.leaf_core.specs.KeyTree.{KeyTree}
-use Rattle.net_tree.specs.Network.{Network, Networks, map_networks, arr, seq, first, par, loop_pre, initial_out, initial_in, i_pre, delay, hold, accum_by, after, repeatedly, switch, d_switch, r_switch, dr_switch, rp_switch, k_switch, p_switch, and_member}
+use Rattle.net_tree.specs.Network.{Network, Networks, map_networks, arr, seq, first, par, loop_pre, initial_out, initial_in, i_pre, delay, hold, accum_by, after, repeatedly, switch, r_switch, rp_switch, k_switch, p_switch, and_member}
 use Rattle.net_meaning.specs.Typing as T
 use Rattle.net_meaning.specs.Typing.{Arrow, Typed, AllTyped}
 use Rattle.net_meaning.proofs.TypingMap.{map_typed}
@@ -37,15 +37,13 @@ module _ (keys more : List KeyTree) where
     kept (T.repeatedly_typed {q = q} l u c m) = ap (repeatedly q) (row_kept c)
     kept T.time_typed = refl
     kept T.integral_typed = refl
-    kept (T.switch_typed f t) = ap₂ switch (kept f) (kept t)
-    kept (T.d_switch_typed f t) = ap₂ d_switch (kept f) (kept t)
-    kept (T.r_switch_typed f t) = ap₂ r_switch (kept f) (kept t)
+    kept (T.switch_typed {tm = tm} f t) = ap₂ (switch tm) (kept f) (kept t)
+    kept (T.r_switch_typed {tm = tm} f t) = ap₂ (r_switch tm) (kept f) (kept t)
     kept (T.k_switch_typed f m e t) = let a = kept f in let b = kept e in let c = kept t in λ i. k_switch (a i) (b i) (c i)
     kept (T.p_switch_typed l u m r fs n e t) = let a = all_kept fs in let b = kept e in let c = kept t in λ i. p_switch (row_kept r i) (a i) (b i) (c i)
     kept (T.old_typed o) = refl
     kept (T.initial_out_typed c f) = ap₂ initial_out (row_kept c) (kept f)
     kept (T.initial_in_typed c f) = ap₂ initial_in (row_kept c) (kept f)
-    kept (T.dr_switch_typed f t) = ap₂ dr_switch (kept f) (kept t)
     kept (T.rp_switch_typed l u fs m t n) = let a = all_kept fs in let b = kept t in λ i. rp_switch (a i) (row_kept m i) (b i)
 
     all_kept : {M : TypeTree → Type 0} {Ps : List TypeTree} {Os : List Arrow} {fs : Networks ℕ} {A B : TypeTree}

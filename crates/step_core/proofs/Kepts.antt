@@ -4,9 +4,9 @@ use Rattle.std.specs.Prelude.{slice_get}
 use Rattle.std.proofs.lemmas.List.{drop-append-le, length-drop, length-append}
 use Rattle.std.proofs.Math.Seq.{drop-append_seam}
 use Rattle.cell_core.specs.Cell.{Cell, accumulator_of}
-use Rattle.net_tree.specs.Network.{Network, Networks, arr, seq, first, par, loop_pre, initial_out, initial_in, i_pre, delay, hold, accum_by, after, repeatedly, time, integral, switch, d_switch, r_switch, dr_switch, rp_switch, k_switch, p_switch, old, no_members, and_member}
+use Rattle.net_tree.specs.Network.{Network, Networks, arr, seq, first, par, loop_pre, initial_out, initial_in, i_pre, delay, hold, accum_by, after, repeatedly, time, integral, switch, r_switch, rp_switch, k_switch, p_switch, old, no_members, and_member}
 use Rattle.net_meaning.specs.Typing.{members}
-use Rattle.state_core.specs.State.{State, Scope, seq_state, first_state, par_state, loop_state, cell_state, accum_state, r_switch_state, dr_switch_state, and_state, params_of}
+use Rattle.state_core.specs.State.{State, Scope, seq_state, first_state, par_state, loop_state, cell_state, accum_state, r_switch_state, and_state, params_of}
 use Rattle.state_core.specs.Tree.{Kept, Width, wider, width_of, width, widths, behind, joined, nothing, head_cell, head_state, fed_back, tree, trees, member_states}
 use Rattle.step_core.specs.Flow.{Past, past_behind}
 
@@ -96,10 +96,8 @@ mutual
   tree_more (repeatedly q c) s k more h = ap cell_state (head_more k.0 more.0 h.0)
   tree_more time s k more h = ap cell_state (head_more k.0 more.0 h.0)
   tree_more integral s k more h = ap cell_state (head_more k.0 more.0 h.0)
-  tree_more (switch f t) s k more h = state_more k.1 more.1 h.1
-  tree_more (d_switch f t) s k more h = state_more k.1 more.1 h.1
-  tree_more (r_switch f t) s k more h = ap (λ a. r_switch_state a t s) (state_more k.1 more.1 h.1)
-  tree_more (dr_switch f t) s k more h = ap (λ a. dr_switch_state a t s) (state_more k.1 more.1 h.1)
+  tree_more (switch tm f t) s k more h = state_more k.1 more.1 h.1
+  tree_more (r_switch tm f t) s k more h = ap (λ a. r_switch_state tm a t s) (state_more k.1 more.1 h.1)
   tree_more (rp_switch fs m t) s k more h = state_more k.1 more.1 h.1
   tree_more (initial_out c f) s k more h = tree_more f s k more h
   tree_more (initial_in c f) s k more h = tree_more f s k more h

@@ -1,12 +1,11 @@
 -- What falls at each call of the engine where the same network runs on.
 use Rattle.std.proofs.Common.{ℕ, ◌≤◌, arith}
-use Rattle.net_tree.specs.Network.{Network, arr, seq, first, par, loop_pre, initial_out, initial_in, i_pre, delay, hold, accum_by, after, repeatedly, time, integral, switch, d_switch, r_switch, dr_switch, rp_switch, k_switch, p_switch, old}
+use Rattle.net_tree.specs.Network.{Network, arr, seq, first, par, loop_pre, initial_out, initial_in, i_pre, delay, hold, accum_by, after, repeatedly, time, integral, switch, r_switch, rp_switch, k_switch, p_switch, old}
 
 -- a network that runs at a place of its own is handed on to it; a `-->` or a `>--` that has started
 -- is its part
 abbrev pub level : Network ℕ → ℕ
-level (switch f t) = 19
-level (d_switch f t) = 19
+level (switch tm f t) = 19
 level (k_switch f e t) = 19
 level (p_switch r fs e t) = 19
 level (rp_switch fs m t) = 19
@@ -31,10 +30,8 @@ level_most (after q c) = omega arith
 level_most (repeatedly q c) = omega arith
 level_most time = omega arith
 level_most integral = omega arith
-level_most (switch f t) = omega arith
-level_most (d_switch f t) = omega arith
-level_most (r_switch f t) = omega arith
-level_most (dr_switch f t) = omega arith
+level_most (switch tm f t) = omega arith
+level_most (r_switch tm f t) = omega arith
 level_most (rp_switch fs m t) = omega arith
 level_most (k_switch f e t) = omega arith
 level_most (p_switch r fs e t) = omega arith

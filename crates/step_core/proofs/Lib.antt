@@ -15,11 +15,9 @@ pub mod MemberCounts
 pub mod CountedContexts
 pub mod OldCounts
 pub mod OpeningCounts
-pub mod LateRestartCounts
 pub mod CollectionCounts
 pub mod CollectionStands
 pub mod CellCounts
-pub mod Forms
 pub mod EngineMeets
 pub mod Runners
 pub mod Ranks

@@ -18,17 +18,6 @@ use Rattle.state_core.specs.Tree.{Kept, all_states}
 use Rattle.state_core.specs.declared.state.State.{State as CodeState}
 use Rattle.step_core.specs.Flow.{Past, members_before}
 
--- a turn of a loop: what is made of the item at i joins what was made of those before it
-pub one_grown : {A B C : Type 0} (f : A → C) (g : B → C) (old : List C) (all : List B) (i : ℕ) (items now : List A) (one : A) (item : B) → i < length all
-    → item ≡ get_or all i item → map f items ≡ old ++ map g (take i all) → f one ≡ g item → now ≡ items ++ one ∷ []
-    → map f now ≡ old ++ map g (take (i + 1) all)
-one_grown f g old all i items now one item l at e h n =
-    let next : i + 1 ≡ suc i = omega arith in
-    let taken : take (i + 1) all ≡ take i all ++ item ∷ [] =
-    ap (λ j. take j all) next ∙ take-suc all i item l ∙ ap (λ x. take i all ++ x ∷ []) (sym at) in
-    ap (map f) n ∙ map_push f items one ∙ (λ j. e j ++ h j ∷ []) ∙ append_assoc old (map g (take i all)) (g item ∷ [])
-    ∙ ap (λ xs. old ++ xs) (sym (map_push g (take i all) item)) ∙ ap (λ xs. old ++ map g xs) (sym taken)
-
 -- members that begin
 listed_unstarted : (ns : List (Net LeafId)) (s : Scope ℕ)
     → frozen_list (all_unstarted (map_networks row_number (members_of ns)) s) ≡ map (λ n. unstarted (rows_in n) s) ns

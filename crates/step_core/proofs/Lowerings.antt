@@ -10,10 +10,10 @@ use Rattle.leaf_core.specs.KeyTree.{KeyTree}
 use Rattle.leaf_core.specs.declared.expr.Expr.{Expr}
 use Rattle.leaf_table.specs.declared.table.LeafId.{LeafId}
 use Rattle.net_syntax.specs.Leaves.{Need, need_at, LeavesOf, leaves_by, member_leaves_by}
-use Rattle.net_tree.specs.Network.{Network, Networks, arr, seq, first, par, loop_pre, initial_out, initial_in, i_pre, delay, hold, accum_by, after, repeatedly, time, integral, switch, d_switch, r_switch, dr_switch, rp_switch, k_switch, p_switch, old, networks_of, no_members, and_member, map_networks}
+use Rattle.net_tree.specs.Network.{Network, Networks, arr, seq, first, par, loop_pre, initial_out, initial_in, i_pre, delay, hold, accum_by, after, repeatedly, time, integral, switch, r_switch, rp_switch, k_switch, p_switch, old, networks_of, no_members, and_member, map_networks}
 use Rattle.net_tree.specs.NetworkView.{members_of}
 use Rattle.net_tree.specs.Place.{◌>>=◌}
-use Rattle.net_meaning.specs.Typing.{Arrow, arrow, copies, members, Typed, AllTyped, AnyType, arr_typed, seq_typed, first_typed, par_typed, loop_typed, i_pre_typed, delay_typed, hold_typed, accum_typed, after_typed, repeatedly_typed, time_typed, integral_typed, switch_typed, d_switch_typed, r_switch_typed, k_switch_typed, p_switch_typed, old_typed, initial_out_typed, initial_in_typed, dr_switch_typed, rp_switch_typed, no_members_typed, and_member_typed}
+use Rattle.net_meaning.specs.Typing.{Arrow, arrow, copies, members, Typed, AllTyped, AnyType, arr_typed, seq_typed, first_typed, par_typed, loop_typed, i_pre_typed, delay_typed, hold_typed, accum_typed, after_typed, repeatedly_typed, time_typed, integral_typed, switch_typed, r_switch_typed, k_switch_typed, p_switch_typed, old_typed, initial_out_typed, initial_in_typed, rp_switch_typed, no_members_typed, and_member_typed}
 use Rattle.net_meaning.specs.TypedNetwork.{TypedNetwork, NetTyped}
 use Rattle.net_tree.specs.Weight.{weight}
 use Rattle.net_tree.specs.declared.net.Net.{Net}
@@ -127,14 +127,12 @@ module _ (keys : List KeyTree) where
     filled at (old_typed {k = k} o) = λ ks rest rows. (old k, (old_typed o, refl), ap (λ o. Some (old k, o ++ rest)) (none ks rows))
     filled at (seq_typed {f = f} {g = g} df dg) =
         pair _ _ _ _ _ f g seq (filled (at ++ 0 ∷ []) df) (filled (at ++ 1 ∷ []) dg) (λ a b p q. (seq_typed p.0 q.0, ap₂ seq p.1 q.1))
-    filled at (switch_typed {f = f} {t = t} df dt) =
-        pair _ _ _ _ _ f t switch (filled (at ++ 0 ∷ []) df) (filled (at ++ 1 ∷ []) dt) (λ a b p q. (switch_typed p.0 q.0, ap₂ switch p.1 q.1))
-    filled at (d_switch_typed {f = f} {t = t} df dt) =
-        pair _ _ _ _ _ f t d_switch (filled (at ++ 0 ∷ []) df) (filled (at ++ 1 ∷ []) dt) (λ a b p q. (d_switch_typed p.0 q.0, ap₂ d_switch p.1 q.1))
-    filled at (r_switch_typed {f = f} {t = t} df dt) =
-        pair _ _ _ _ _ f t r_switch (filled (at ++ 0 ∷ []) df) (filled (at ++ 1 ∷ []) dt) (λ a b p q. (r_switch_typed p.0 q.0, ap₂ r_switch p.1 q.1))
-    filled at (dr_switch_typed {f = f} {t = t} df dt) =
-        pair _ _ _ _ _ f t dr_switch (filled (at ++ 0 ∷ []) df) (filled (at ++ 1 ∷ []) dt) (λ a b p q. (dr_switch_typed p.0 q.0, ap₂ dr_switch p.1 q.1))
+    filled at (switch_typed {tm = tm} {f = f} {t = t} df dt) =
+        pair _ _ _ _ _ f t (switch tm) (filled (at ++ 0 ∷ []) df) (filled (at ++ 1 ∷ []) dt)
+        (λ a b p q. (switch_typed p.0 q.0, ap₂ (switch tm) p.1 q.1))
+    filled at (r_switch_typed {tm = tm} {f = f} {t = t} df dt) =
+        pair _ _ _ _ _ f t (r_switch tm) (filled (at ++ 0 ∷ []) df) (filled (at ++ 1 ∷ []) dt)
+        (λ a b p q. (r_switch_typed p.0 q.0, ap₂ (r_switch tm) p.1 q.1))
     filled at (first_typed {f = f} df m) = made _ _ _ (fill f) first (filled (at ++ 0 ∷ []) df) (λ a p. (first_typed p.0 m, ap first p.1))
     filled at (loop_typed {Ps = Ps} {c = c} {f = f} {C = C} h m df) =
         one_more (need_at at 0 c Ps unit_ty C ∷ []) _ _ _ fill_leaf (λ i ks. fill f ks >>= (λ b. Some (loop_pre i b.0, b.1))) (leaf Ps at 0 c unit_ty C h)

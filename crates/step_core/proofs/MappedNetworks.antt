@@ -1,11 +1,10 @@
 -- A network whose leaves are changed denotes, visits and weighs what it does with the leaves' values changed.
 use Rattle.std.proofs.Common.{◌≡◌, List, [], ◌∷◌, ◌++◌, refl, length, take, drop, map}
-use Rattle.std.specs.List.{flat_map}
 use Rattle.sample_core.specs.Datum.{Datum, unit, left, right}
-use Rattle.net_meaning.specs.SignalFunction.{with_values, each_value, pair_samples, feedback_values, first_event, pieces, resume, step_of, collect, freeze_all, seq_function, first_function, par_function, loop_pre_function, switch_function, d_switch_function, r_switch_function, k_switch_function, p_switch_function, initial_out_function, initial_in_function, dr_switch_function, rp_switch_function, with_first, by_members, first_members}
-use Rattle.net_tree.specs.Network.{Network, Networks, arr, seq, first, par, loop_pre, initial_out, initial_in, i_pre, delay, hold, accum_by, after, repeatedly, time, integral, switch, d_switch, r_switch, dr_switch, rp_switch, k_switch, p_switch, old, no_members, and_member, map_network, map_networks}
+use Rattle.net_meaning.specs.SignalFunction.{with_values, each_value, pair_samples, feedback_values, first_event, pieces, resume, step_of, collect, freeze_all, seq_function, first_function, par_function, loop_pre_function, switch_function, r_switch_function, k_switch_function, p_switch_function, initial_out_function, initial_in_function, rp_switch_function, with_first, by_members, first_members}
+use Rattle.net_tree.specs.Network.{Network, Networks, arr, seq, first, par, loop_pre, initial_out, initial_in, i_pre, delay, hold, accum_by, after, repeatedly, time, integral, switch, r_switch, rp_switch, k_switch, p_switch, old, no_members, and_member, map_network, map_networks}
 use Rattle.net_meaning.specs.Meaning.{Context, with_param, with_olds, meaning, meanings}
-use Rattle.state_core.specs.Visits.{VisitCounts, visits, visits_all, add_counts, and_one, sum_of_all, sum_by_route, switch_counts, resume_counts, freeze_counts, first_and_one, late_counts, member_counts}
+use Rattle.state_core.specs.Visits.{VisitCounts, visits, visits_all, add_counts, and_one, sum_of_all, sum_by_route, switch_counts, resume_counts, freeze_counts, first_and_one, restart_counts, member_counts}
 
 module _ {L M : Type 0} (h : M → L) (val : L → List Datum → Datum → Datum) where
   mutual
@@ -14,16 +13,14 @@ module _ {L M : Type 0} (h : M → L) (val : L → List Datum → Datum → Datu
     meaning-map (first f) E = λ i. first_function (meaning-map f E i)
     meaning-map (par fs) E = λ i. par_function (meanings-map fs E i)
     meaning-map (loop_pre c f) E = λ i. loop_pre_function (val (h c) E.params unit) (meaning-map f E i)
-    meaning-map (switch f t) E = λ i. switch_function (meaning-map f E i) (λ c. meaning-map t (with_param E c) i)
-    meaning-map (d_switch f t) E = λ i. d_switch_function (meaning-map f E i) (λ c. meaning-map t (with_param E c) i)
-    meaning-map (r_switch f t) E = λ i. r_switch_function (meaning-map f E i) (λ c. meaning-map t (with_param E c) i)
+    meaning-map (switch tm f t) E = λ i. switch_function tm (meaning-map f E i) (λ c. meaning-map t (with_param E c) i)
+    meaning-map (r_switch tm f t) E = λ i. r_switch_function tm (meaning-map f E i) (λ c. meaning-map t (with_param E c) i)
     meaning-map (k_switch f e t) E = λ i. k_switch_function (meaning-map f E i) (meaning-map e E i)
         (λ c o. meaning-map t (with_olds (with_param E c) (o ∷ [])) i)
     meaning-map (p_switch r fs e t) E = λ i. p_switch_function (val (h r) E.params) (meanings-map fs E i) (meaning-map e E i)
         (λ c os. meaning-map t (with_olds (with_param E c) os) i)
     meaning-map (initial_out c f) E = λ i. initial_out_function (val (h c) E.params unit) (meaning-map f E i)
     meaning-map (initial_in c f) E = λ i. initial_in_function (val (h c) E.params unit) (meaning-map f E i)
-    meaning-map (dr_switch f t) E = λ i. dr_switch_function (meaning-map f E i) (λ c. meaning-map t (with_param E c) i)
     meaning-map (rp_switch fs m t) E = λ i. rp_switch_function (val (h m) E.params) (meanings-map fs E i) (λ v. meaning-map t (with_param E v) i)
     meaning-map (arr e) E = refl
     meaning-map (i_pre c) E = refl
@@ -47,12 +44,9 @@ module _ {L M : Type 0} (h : M → L) (val : L → List Datum → Datum → Datu
     visits-map (par fs) E C = λ i xs. and_one (sum_of_all (visits_all-map fs E C i) xs)
     visits-map (loop_pre c f) E C = λ i xs. and_one (visits-map f E C i (pair_samples xs
         (feedback_values (val (h c) E.params unit) (meaning-map f E i) xs (length xs))))
-    visits-map (switch f t) E C = λ i xs. switch_counts (first_event (map right (meaning-map f E i xs))) (and_one (visits-map f E C i xs))
+    visits-map (switch tm f t) E C = λ i xs. switch_counts (first_event (map right (meaning-map f E i xs))) (and_one (visits-map f E C i xs))
         (λ n c. visits-map t (with_param E c) C i (drop n xs))
-    visits-map (d_switch f t) E C = λ i xs. switch_counts (first_event (map right (meaning-map f E i xs))) (and_one (visits-map f E C i xs))
-        (λ n c. visits-map t (with_param E c) C i (drop n xs))
-    visits-map (r_switch f t) E C = λ i xs. and_one (visits-map f E C i (pieces xs).0 ++ flat_map (λ piece. visits-map t (with_param E piece.0) C i piece.1)
-        (pieces xs).1)
+    visits-map (r_switch tm f t) E C = λ i xs. and_one (restart_counts tm (visits-map f E C i) (λ c. visits-map t (with_param E c) C i) xs)
     visits-map (k_switch f e t) E C = λ i xs.
         switch_counts (first_event (meaning-map e E i (pair_samples xs (meaning-map f E i xs))))
         (and_one (add_counts (visits-map f E C i xs) (visits-map e E C i (pair_samples xs (meaning-map f E i xs)))))
@@ -66,7 +60,6 @@ module _ {L M : Type 0} (h : M → L) (val : L → List Datum → Datum → Datu
         (C ++ freeze_counts (val (h r) E.params) 0 (visits_all-map fs E C i) (take n xs) (step_of (drop n xs))) i (drop n xs))
     visits-map (initial_out c f) E C = λ i xs. first_and_one (visits-map f E C i xs)
     visits-map (initial_in c f) E C = λ i xs. first_and_one (visits-map f E C i (with_first (val (h c) E.params unit) xs))
-    visits-map (dr_switch f t) E C = λ i xs. and_one (late_counts (visits-map f E C i) (λ c. visits-map t (with_param E c) C i) xs)
     visits-map (rp_switch fs m t) E C = λ i xs.
         and_one (by_members member_counts (val (h m) E.params) (λ v. visits-map t (with_param E v) C i) (first_members (visits_all-map fs E C i))
         (pieces xs).0 (pieces xs).1)

@@ -1,6 +1,6 @@
 -- `parB` and `pSwitch` take a sample in where their members do.
 use Rattle.std.proofs.Common.{◌≡◌, ℕ, suc, ◌+◌, List, [], ◌∷◌, ◌++◌, map, length, refl, sym, ap, ap₂, ◌∙◌, arith, length-append, Some, None}
-use Rattle.std.proofs.lemmas.List.{map_push, length-map}
+use Rattle.std.proofs.lemmas.List.{map_push}
 use Rattle.sample_core.specs.Datum.{Datum, list, list_of, pair}
 use Rattle.net_meaning.specs.SignalFunction.{TimedList, last_or, each_value, route, route_each, collect, first_event, watch, pair_samples, answer}
 use Rattle.state_core.specs.Visits.{IsCount, VisitCounts, zeros, sum_of_all, sum_by_route}
@@ -12,7 +12,7 @@ use Rattle.step_core.specs.Stepping.{event_in}
 use Rattle.net_meaning.proofs.Plain.{AllSignals, no_signal, and_signal}
 use Rattle.net_meaning.proofs.Switches.{IsSignal-collect, AllSignals-routes}
 use Rattle.net_meaning.proofs.Resumed.{IsSignal-resume}
-use Rattle.step_core.proofs.VisitSums.{AllCounts, no_count, and_count, IsCount-sum_of_all, IsCount-sum_by_route, IsCount-before, IsCount-resume}
+use Rattle.step_core.proofs.VisitSums.{AllCounts, no_count, and_count, IsCount-sum_of_all, IsCount-sum_by_route, IsCount-each, IsCount-resume}
 use Rattle.net_meaning.proofs.Steps.{last_or-push}
 use Rattle.net_meaning.proofs.PlainSteps.{answers, answer-in_parallel, answer-before}
 use Rattle.step_core.proofs.CountedFunctions.{Via-here, tally-and_one, tally-added}
@@ -105,7 +105,7 @@ tally-route r i [] a p x = sym (tally-zeros p x)
 tally-route r i (c ∷ cs) (and_counted k a) p x =
     let more : TimedList = p ++ x ∷ [] in
     let v : VisitCounts = λ xs. c.visits (route r i xs) in
-    let cv : IsCount k.heaviest v = IsCount-before k.heaviest (route r i) c.visits (λ xs. length-map xs _) k.is_count in
+    let cv : IsCount k.heaviest v = IsCount-each k.heaviest _ c.visits k.is_count in
     ap₂ (λ m n. m + n) (ap (λ ys. last_or 0 (c.visits ys)) (sym (map_push (λ y. (y.0, route_by r i y.1)) p x))) (tally-route r (suc i) cs a p x)
     ∙ sym (tally-added v (sum_by_route r (suc i) (counts_of_all cs)) p x ((IsCount-route r (suc i) cs a).counted more ∙ sym (cv.counted more)))
 

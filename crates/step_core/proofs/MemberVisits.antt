@@ -9,10 +9,9 @@ use Rattle.net_tree.specs.Height.{greatest}
 use Rattle.net_meaning.proofs.Switched.{take_into}
 use Rattle.net_meaning.proofs.Zips.{length-zip_with, take-zip_with}
 use Rattle.net_meaning.proofs.RelatedMembers.{any_values, AllRelated, no_member, and_member, related-take, related-selected, related-moved}
-use Rattle.net_meaning.proofs.MemberPieces.{length-members, members_keep}
+use Rattle.net_meaning.proofs.MemberPieces.{members_keep}
 use Rattle.state_core.specs.Visits.{VisitCounts, member_counts}
-use Rattle.step_core.proofs.VisitSums.{AtMost, IsCount, AtMost-weaker, AtMost-append, AtMost-drop, AtMost-added, AtMost-map, IsCount-weaker, AllCounts, no_count, and_count}
-use Rattle.step_core.proofs.CausalCounts.{IsCausal, AllCausal, none_causal, and_causal}
+use Rattle.step_core.proofs.VisitSums.{AtMost, IsCount, AtMost-weaker, AtMost-append, AtMost-drop, AtMost-added, AtMost-map, IsCount-weaker, kept_count, AllCounts, no_count, and_count}
 
 -- what a member counts on a piece
 length-row : (m : Member VisitCounts) → ((xs : TimedList) → length (m.0 xs) ≡ length xs) → (q : TimedList) → length (drop (length m.1) (m.0 (m.1 ++ q))) ≡ length q
@@ -43,6 +42,17 @@ module _ (g : ℕ) where
   AtMost-few : (ms : List (Member VisitCounts)) → AllRelated (Bounded g) ms ms → length ms ≤ 64 → (q : TimedList) → AtMost (64 * g) (member_counts ms q)
   AtMost-few ms a l q = AtMost-weaker (length ms * g) (64 * g) (member_counts ms q) (mul-le-mul_right g l) (AtMost-member_counts ms a q)
 
+  take-member_counts : (ms : List (Member VisitCounts)) → AllRelated (Bounded g) ms ms → (n : ℕ) (q : TimedList)
+      → member_counts ms (take n q) ≡ take n (member_counts ms q)
+  take-member_counts [] a n q = sym (take-map (λ x. 0) n q)
+  take-member_counts (m ∷ ms) (and_member c a) n q =
+      let row : List ℕ = drop (length m.1) (m.0 (m.1 ++ q)) in
+      ap₂ (λ ks ls. zip_with (λ k l. k + l) ks ls)
+      (ap (λ ys. drop (length m.1) (m.0 ys)) (sym (take_into m.1 q n)) ∙ ap (drop (length m.1)) (c.causal (length m.1 + n) (m.1 ++ q))
+      ∙ drop-take (length m.1) n (m.0 (m.1 ++ q)))
+      (take-member_counts ms a n q)
+      ∙ sym (take-zip_with _ n row (member_counts ms q))
+
   module _ (r : Datum → Datum) (t : Datum → VisitCounts) (ct : (v : Datum) → IsCount g (t v)) where
     AtMost-by_members : (ms : List (Member VisitCounts)) → AllRelated (Bounded g) ms ms → length ms ≤ 64 → (q : TimedList) (ps : List (Datum × TimedList))
         → AtMost (64 * g) (by_members member_counts r t ms q ps)
@@ -71,33 +81,7 @@ IsCount-collection r w ws t vs ct a =
     let cg : (v : Datum) → IsCount g (t v) = λ v. IsCount-weaker w g (t v) (omega arith) (ct v) in
     let all : AllRelated (Bounded g) (first_members vs) (first_members vs) =
     related-take (Bounded g) 64 (new_members vs) (new_members vs) (bounded-unstarted g ws vs a (omega arith)) in
-    record {
-      counted = length-members member_counts r t (Bounded g) cg (λ q m m' c. c) (length-member_counts (Bounded g) (λ m m' c. c.counted)) (first_members vs) all;
-      bounded = λ xs. AtMost-by_members g r t cg (first_members vs) all (omega (arith, length-take 64 (new_members vs))) (pieces xs).0 (pieces xs).1;
-    }
-
--- no member looks ahead
-abbrev Causal : Member VisitCounts → Member VisitCounts → Type 0
-Causal m m' = IsCausal m.0
-
-take-member_counts : (ms : List (Member VisitCounts)) → AllRelated Causal ms ms → (n : ℕ) (q : TimedList)
-    → member_counts ms (take n q) ≡ take n (member_counts ms q)
-take-member_counts [] a n q = sym (take-map (λ x. 0) n q)
-take-member_counts (m ∷ ms) (and_member c a) n q =
-    let row : List ℕ = drop (length m.1) (m.0 (m.1 ++ q)) in
-    ap₂ (λ ks ls. zip_with (λ k l. k + l) ks ls)
-    (ap (λ ys. drop (length m.1) (m.0 ys)) (sym (take_into m.1 q n)) ∙ ap (drop (length m.1)) (c.causal (length m.1 + n) (m.1 ++ q))
-    ∙ drop-take (length m.1) n (m.0 (m.1 ++ q)))
-    (take-member_counts ms a n q)
-    ∙ sym (take-zip_with _ n row (member_counts ms q))
-
-causal-unstarted : (vs : List VisitCounts) → AllCausal vs → AllRelated Causal (new_members vs) (new_members vs)
-causal-unstarted vs none_causal = no_member
-causal-unstarted vs (and_causal {vs = vs'} c a) = and_member c (causal-unstarted vs' a)
-
-pub IsCausal-collection : (r : Datum → Datum) (t : Datum → VisitCounts) (vs : List VisitCounts) → ((v : Datum) → IsCausal (t v)) → AllCausal vs
-    → IsCausal (λ xs. by_members member_counts r t (first_members vs) (pieces xs).0 (pieces xs).1)
-IsCausal-collection r t vs ct a =
-    let k = members_keep member_counts r t Causal ct (λ q m m' c. c) (length-member_counts Causal (λ m m' c. c.counted)) take-member_counts (first_members vs)
-    (related-take Causal 64 (new_members vs) (new_members vs) (causal-unstarted vs a)) in
-    record { counted = k.sized; causal = k.causal }
+    kept_count (64 * g) _
+    (members_keep member_counts r t (Bounded g) cg (λ q m m' c. c) (length-member_counts (Bounded g) (λ m m' c. c.counted)) (take-member_counts g)
+    (first_members vs) all)
+    (λ xs. AtMost-by_members g r t cg (first_members vs) all (omega (arith, length-take 64 (new_members vs))) (pieces xs).0 (pieces xs).1)

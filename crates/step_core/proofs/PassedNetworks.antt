@@ -2,7 +2,7 @@
 use Rattle.std.proofs.Common.{◌≡◌, ℕ, ◌≤◌, List, refl, sym, ap, ◌∙◌, subst, arith, Some}
 use Rattle.sample_core.specs.Datum.{Datum}
 use Rattle.leaf_core.specs.KeyTree.{KeyTree}
-use Rattle.net_tree.specs.Network.{Network, arr, seq, first, par, loop_pre, initial_out, initial_in, i_pre, delay, hold, accum_by, after, repeatedly, time, integral, switch, d_switch, r_switch, dr_switch, rp_switch, k_switch, p_switch, old}
+use Rattle.net_tree.specs.Network.{Network, arr, seq, first, par, loop_pre, initial_out, initial_in, i_pre, delay, hold, accum_by, after, repeatedly, time, integral, switch, r_switch, rp_switch, k_switch, p_switch, old}
 use Rattle.state_core.specs.State.{State, Scope, paused}
 use Rattle.state_core.specs.Tree.{Kept, Width, width_of, width, behind, tree, passed}
 use Rattle.step_core.specs.Flow.{Past, past_behind, flowed, Flows}
@@ -39,10 +39,8 @@ passes (after q c) = itself (after q c) refl (omega arith)
 passes (repeatedly q c) = itself (repeatedly q c) refl (omega arith)
 passes time = itself time refl (omega arith)
 passes integral = itself integral refl (omega arith)
-passes (switch f t) = itself (switch f t) refl (omega arith)
-passes (d_switch f t) = itself (d_switch f t) refl (omega arith)
-passes (r_switch f t) = itself (r_switch f t) refl (omega arith)
-passes (dr_switch f t) = itself (dr_switch f t) refl (omega arith)
+passes (switch tm f t) = itself (switch tm f t) refl (omega arith)
+passes (r_switch tm f t) = itself (r_switch tm f t) refl (omega arith)
 passes (rp_switch fs m t) = itself (rp_switch fs m t) refl (omega arith)
 passes (k_switch f e t) = itself (k_switch f e t) refl (omega arith)
 passes (p_switch r fs e t) = itself (p_switch r fs e t) refl (omega arith)

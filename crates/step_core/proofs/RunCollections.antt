@@ -15,7 +15,7 @@ use Rattle.step_core.specs.StateTyping as T
 use Rattle.step_core.specs.StateTyping.{StatesTyped, ScopeTyped, FrozenTyped, row_value}
 use Rattle.step_core.specs.Outcome.{Outcome, IsRan}
 use Rattle.step_core.specs.Runs as R
-use Rattle.step_core.specs.Runs.{Ran, RunsWhere, RpSwitchBy, EachIs, MembersTyped, AllRan, AllRunWhere}
+use Rattle.step_core.specs.Runs.{Ran, RunsWhere, RpSwitchBy, EachIs, MemberStatesTyped, AllRan, AllRunWhere}
 use Rattle.step_core.specs.Switching.{IsTurned}
 use Rattle.step_core.proofs.CalledRows.{called_value}
 use Rattle.step_core.proofs.StateTypings.{row_typed, cut_typed, params_typed, first_typed, paused_members, chosen_typed}
@@ -39,15 +39,15 @@ left_typed (pair_has a b) = a
 module _ (keys : List KeyTree) where
   -- what runs on the sample is typed, and is what the rule says
   record Turned (r : Datum → Datum) (t : Network ℕ) (s : Scope ℕ) (before : List (Frozen ℕ)) (x : Datum) (ms : List (Frozen ℕ)) (D B : TypeTree) : Type 0 where
-    typed : MembersTyped keys D B ms
+    typed : MemberStatesTyped keys D B ms
     same : ms ≡ turned r t s before x
 
   turned_is : (m : ℕ) (t : Network ℕ) (s : Scope ℕ) (before : List (Frozen ℕ)) (x : Datum) (o : Option (Datum × Datum)) (ms : List (Frozen ℕ))
       {Ps : List TypeTree} {Os : List Arrow} {D B C V : TypeTree} → restart_in x ≡ o → IsTurned keys m t s before o ms → HasType x (pair_ty D (event_ty C))
       → RowTyped keys m Ps C (pair_ty (list_ty int_ty) (list_ty V)) → Typed (RowTyped keys) AnyType (Ps ++ V ∷ []) Os t D B → ScopeTyped keys s Ps Os
-      → MembersTyped keys D B before → Turned (row_value keys m (params_of s)) t s before x ms D B
+      → MemberStatesTyped keys D B before → Turned (row_value keys m (params_of s)) t s before x ms D B
   turned_is m t s before x None ms {D = D} {B = B} e h tx tm tt' ts tb = record {
-    typed = subst (MembersTyped keys D B) (sym h) tb;
+    typed = subst (MemberStatesTyped keys D B) (sym h) tb;
     same = h ∙ sym (turned_none (row_value keys m (params_of s)) t s before tx e);
   }
   turned_is m t s before x (Some (u, c)) ms {D = D} {B = B} {C = C} {V = V} e h tx tm tt' ts tb =
@@ -56,7 +56,7 @@ module _ (keys : List KeyTree) where
       let tw : HasType h.0 (pair_ty (list_ty int_ty) (list_ty V)) = subst (λ z. HasType z (pair_ty (list_ty int_ty) (list_ty V))) (sym value)
       (row_typed keys tm (params_typed keys ts) tc) in
       record {
-        typed = subst (MembersTyped keys D B) (sym h.2) (chosen_typed keys before h.0 tt' ts tw tb);
+        typed = subst (MemberStatesTyped keys D B) (sym h.2) (chosen_typed keys before h.0 tt' ts tw tb);
         same = h.2 ∙ ap (chosen_frozen t s before) value ∙ sym (turned_some (row_value keys m (params_of s)) t s before tx e);
       }
 
@@ -85,12 +85,12 @@ module _ (keys : List KeyTree) where
       → RunsWhere keys w x o.state o.answer o.visits
   rp_switch_runs w m before t s x ms as' ys n o (R.rp_switch_new {fs = fs}) ht hs hr A B
       (T.unstarted_typed (N.rp_switch_typed {D = D} {B = B'} lo hi tfs tm tt' _) ts) tx =
-      let tb : MembersTyped keys D B' (first_frozen fs s) = first_typed keys tfs ts in
+      let tb : MemberStatesTyped keys D B' (first_frozen fs s) = first_typed keys tfs ts in
       let now = turned_is m t s before x (restart_in x) ms refl ht tx tm tt' ts tb in
       ended n o (hs D B' now.typed (left_typed tx)) now.same (λ k i. G.resume_unstarted (G.start_rp_switch i)) hr
   rp_switch_runs w m before t s x ms as' ys n o (R.rp_switch_on {as' = bs} {d = d}) ht hs hr A B
       (T.paused_typed (T.rp_switch_state_typed {D = D} {B = B'} hi tm tas ts tt')) tx =
-      let tb : MembersTyped keys D B' (frozen_list (all_paused bs d)) = paused_members keys d tas in
+      let tb : MemberStatesTyped keys D B' (frozen_list (all_paused bs d)) = paused_members keys d tas in
       let now = turned_is m t s before x (restart_in x) ms refl ht tx tm tt' ts tb in
       ended n o (hs D B' now.typed (left_typed tx)) now.same (λ k i. G.resume_paused (G.step_rp_switch i)) hr
 

@@ -1,22 +1,20 @@
 -- What one sample does, form by form, by what it does to the parts.
-use Rattle.std.proofs.Common.{◌≡◌, ℕ, suc, ◌+◌, ◌<◌, ◌^◌, List, [], ◌∷◌, ◌++◌, Some, None, refl, sym, ap, ◌∙◌, subst, arith}
+use Rattle.std.proofs.Common.{◌≡◌, ℕ, suc, ◌+◌, ◌<◌, ◌^◌, List, Some, None, refl, sym, ap, ◌∙◌, subst, arith}
 use Rattle.sample_core.specs.Datum.{Datum, unit, left, right, pair}
 use Rattle.sample_core.specs.TypeTree.{TypeTree, pair_ty, event_ty}
 use Rattle.sample_core.specs.HasType.{HasType, pair_has, unit_has}
 use Rattle.leaf_core.specs.KeyTree.{KeyTree}
-use Rattle.net_tree.specs.Network.{Network, initial_out, initial_in}
+use Rattle.net_tree.specs.Network.{Timing, at_once, delayed, Network, initial_out, initial_in}
 use Rattle.net_meaning.specs.Typing as N
-use Rattle.net_meaning.specs.Typing.{Arrow, AnyType, Typed, AllTyped, copies, members}
-use Rattle.state_core.specs.State.{State, Scope, Frozen, seq_state, first_state, loop_state, switch_state, d_switch_state, r_switch_state, dr_switch_state, k_switch_state, unstarted, paused, params_of, push_param, push_old}
-use Rattle.step_core.specs.Stepping.{event_in, restart_in}
+use Rattle.state_core.specs.State.{State, Scope, Frozen, seq_state, first_state, loop_state, switch_state, r_switch_state, k_switch_state, unstarted, paused, params_of, push_param, push_old}
+use Rattle.step_core.specs.Stepping.{event_in, restart_in, heard}
 use Rattle.step_core.specs.Stepping as G
-use Rattle.step_core.specs.Stepping.{Starts, StartsEach, Resumes, Steps, StepsEach}
+use Rattle.step_core.specs.Stepping.{Starts, Resumes, Steps}
 use Rattle.step_core.specs.Called.{Called}
-use Rattle.step_core.specs.RowTyping.{RowTyped}
 use Rattle.step_core.specs.StateTyping as T
-use Rattle.step_core.specs.StateTyping.{StateTyped, StatesTyped, ScopeTyped, FrozenTyped, FrozensTyped, row_value}
+use Rattle.step_core.specs.StateTyping.{row_value}
 use Rattle.step_core.specs.Runs as R
-use Rattle.step_core.specs.Runs.{Ran, RunsWhere, SeqBy, FirstBy, LoopBy, SwitchBy, DSwitchBy, RSwitchBy, DrSwitchBy, KSwitchBy, OldBy}
+use Rattle.step_core.specs.Runs.{Ran, RunsWhere, SeqBy, FirstBy, LoopBy, SwitchBy, RSwitchBy, KSwitchBy, OldBy}
 use Rattle.step_core.proofs.StateTypings.{resumes_typed, row_typed, event_typed, cut_typed, pushed_param, pushed_olds, old_typed, params_typed}
 use Rattle.step_core.proofs.CalledRows.{called_value}
 
@@ -121,124 +119,84 @@ module _ (keys : List KeyTree) where
       subst (λ b. RunsWhere keys w x b y c) (sym (e ∙ ap (λ g. loop_state g a) ef)) (subst (λ b. RunsWhere keys w x (loop_state (right v) a) b c) (sym ey)
       (loop_at p x u v a m c (subst (λ b. RunsWhere keys p b a v m) ez hp) hc w k))
 
-  -- a switch round p: it goes on as r, or another network takes over from it and the switch answers what `out` makes of that one's answer
-  record Switched (w p : Frozen ℕ) (t : Network ℕ) (s : Scope ℕ) (x v : Datum) (a r : State ℕ) (out : Datum → Datum) (A B : TypeTree) : Type 0 where
-    event : TypeTree
-    part_typed : FrozenTyped keys p A (pair_ty B (event_ty event))
-    over_typed : (u : Datum) → HasType u event → FrozenTyped keys (unstarted t (push_param s u)) A B
-    kept : (k : ℕ) → Resumes (row_value keys) p x a v k → event_in (right v) ≡ None → Resumes (row_value keys) w x r (left v) (suc k)
-    fired : (u : Datum) (b : State ℕ) (y : Datum) (j k : ℕ) → Resumes (row_value keys) p x a v j → event_in (right v) ≡ Some u
-        → Starts (row_value keys) t (push_param s u) x b y k → Resumes (row_value keys) w x b (out y) (suc j + k)
+  switch_goes_at : (tm : Timing) (p : Frozen ℕ) (t : Network ℕ) (s : Scope ℕ) (x v : Datum) (a : State ℕ) (m c : ℕ) → RunsWhere keys p x a v m
+      → event_in (right v) ≡ None → (suc (m + 0) < 2 ^ 32 → c ≡ suc (m + 0)) → (w : Frozen ℕ) → SwitchBy tm w p t s
+      → RunsWhere keys w x (switch_state tm a t s) (left v) c
+  switch_goes_at tm p t s x v a m c hp ev hc w R.switch_new A B (T.unstarted_typed (N.switch_typed {C = C} tf tg) ts) h =
+      round_one m c (hp A (pair_ty B (event_ty C)) (T.unstarted_typed tf ts) h) hc (λ k i. G.resume_unstarted (G.start_switch (started i) ev))
+  switch_goes_at tm p t s x v a m c hp ev hc w R.switch_on A B (T.paused_typed (T.switch_state_typed {C = C} ta ts tg)) h =
+      round_one m c (hp A (pair_ty B (event_ty C)) (T.paused_typed ta) h) hc (λ k i. G.resume_paused (G.step_switch (stepped i) ev))
 
-  -- of a switch that starts, and of one that steps
-  switched_new : {f t net : Network ℕ} {s : Scope ℕ} {x v : Datum} {a r : State ℕ} {out : Datum → Datum} {Ps : List TypeTree} {Os : List Arrow}
-      {A B C : TypeTree} → Typed (RowTyped keys) AnyType Ps Os f A (pair_ty B (event_ty C)) → Typed (RowTyped keys) AnyType (Ps ++ C ∷ []) Os t A B
-      → ScopeTyped keys s Ps Os
-      → ((k : ℕ) → Starts (row_value keys) f s x a v k → event_in (right v) ≡ None → Starts (row_value keys) net s x r (left v) (suc k))
-      → ((u : Datum) (b : State ℕ) (y : Datum) (j k : ℕ) → Starts (row_value keys) f s x a v j → event_in (right v) ≡ Some u
-      → Starts (row_value keys) t (push_param s u) x b y k → Starts (row_value keys) net s x b (out y) (suc j + k))
-      → Switched (unstarted net s) (unstarted f s) t s x v a r out A B
-  switched_new {C = C} tf tg ts goes fires = record {
-    event = C;
-    part_typed = T.unstarted_typed tf ts;
-    over_typed = λ u h. T.unstarted_typed tg (pushed_param keys ts h);
-    kept = λ k i ev. G.resume_unstarted (goes k (started i) ev);
-    fired = λ u b y j k i ev o. G.resume_unstarted (fires u b y j k (started i) ev o);
-  }
+  pub switch_goes : (tm : Timing) (p : Frozen ℕ) (t : Network ℕ) (s : Scope ℕ) (x v y : Datum) (a r : State ℕ) (m c : ℕ) → r ≡ switch_state tm a t s
+      → y ≡ left v → RunsWhere keys p x a v m → event_in (right v) ≡ None → (suc (m + 0) < 2 ^ 32 → c ≡ suc (m + 0)) → (w : Frozen ℕ)
+      → SwitchBy tm w p t s → RunsWhere keys w x r y c
+  switch_goes tm p t s x v y a r m c e ey hp ev hc w k = subst (λ z. RunsWhere keys w x z y c) (sym e)
+      (subst (λ z. RunsWhere keys w x (switch_state tm a t s) z c) (sym ey) (switch_goes_at tm p t s x v a m c hp ev hc w k))
 
-  switched_on : {a0 now a r : State ℕ} {t : Network ℕ} {s : Scope ℕ} {d : ℕ} {x v : Datum} {out : Datum → Datum} {Ps : List TypeTree} {Os : List Arrow}
-      {A B C : TypeTree} → StateTyped keys a0 A (pair_ty B (event_ty C)) → Typed (RowTyped keys) AnyType (Ps ++ C ∷ []) Os t A B → ScopeTyped keys s Ps Os
-      → ((k : ℕ) → Steps (row_value keys) a0 (d, x) a v k → event_in (right v) ≡ None → Steps (row_value keys) now (d, x) r (left v) (suc k))
-      → ((u : Datum) (b : State ℕ) (y : Datum) (j k : ℕ) → Steps (row_value keys) a0 (d, x) a v j → event_in (right v) ≡ Some u
-      → Starts (row_value keys) t (push_param s u) x b y k → Steps (row_value keys) now (d, x) b (out y) (suc j + k))
-      → Switched (paused now d) (paused a0 d) t s x v a r out A B
-  switched_on {C = C} ta tg ts goes fires = record {
-    event = C;
-    part_typed = T.paused_typed ta;
-    over_typed = λ u h. T.unstarted_typed tg (pushed_param keys ts h);
-    kept = λ k i ev. G.resume_paused (goes k (stepped i) ev);
-    fired = λ u b y j k i ev o. G.resume_paused (fires u b y j k (stepped i) ev o);
-  }
+  -- what takes over is typed, since what the part answers is
+  switch_fires_at : (tm : Timing) (p : Frozen ℕ) (t : Network ℕ) (s : Scope ℕ) (x v u y : Datum) (a b : State ℕ) (m n c : ℕ) → RunsWhere keys p x a v m
+      → event_in (right v) ≡ Some u → RunsWhere keys (unstarted t (push_param s u)) x b y n → (suc (m + n) < 2 ^ 32 → c ≡ suc (m + n)) → (w : Frozen ℕ)
+      → SwitchBy tm w p t s → RunsWhere keys w x b (heard tm (left v) y) c
+  switch_fires_at tm p t s x v u y a b m n c hp ev hq hc w R.switch_new A B (T.unstarted_typed (N.switch_typed {C = C} tf tg) ts) h =
+      let one = hp A (pair_ty B (event_ty C)) (T.unstarted_typed tf ts) h in
+      let tv = (resumes_typed keys one.resumes (T.unstarted_typed tf ts) h).1 in
+      let two = hq A B (T.unstarted_typed tg (pushed_param keys ts (event_typed (right_typed tv) ev))) h in
+      round_two m n c (λ j k. suc j + k) (λ j k. omega arith) one two hc (λ j k i o. G.resume_unstarted (G.fire_switch (started i) ev (started o)))
+  switch_fires_at tm p t s x v u y a b m n c hp ev hq hc w R.switch_on A B (T.paused_typed (T.switch_state_typed {C = C} ta ts tg)) h =
+      let one = hp A (pair_ty B (event_ty C)) (T.paused_typed ta) h in
+      let tv = (resumes_typed keys one.resumes (T.paused_typed ta) h).1 in
+      let two = hq A B (T.unstarted_typed tg (pushed_param keys ts (event_typed (right_typed tv) ev))) h in
+      round_two m n c (λ j k. suc j + k) (λ j k. omega arith) one two hc (λ j k i o. G.resume_paused (G.step_switch_over (stepped i) ev (started o)))
 
-  switch_is : (p : Frozen ℕ) (t : Network ℕ) (s : Scope ℕ) (x v : Datum) (a : State ℕ) (w : Frozen ℕ) → SwitchBy w p t s → (A B : TypeTree)
-      → FrozenTyped keys w A B → Switched w p t s x v a (switch_state a t s) (λ y. y) A B
-  switch_is p t s x v a w R.switch_new A B (T.unstarted_typed (N.switch_typed tf tg) ts) =
-      switched_new tf tg ts (λ k i ev. G.start_switch i ev) (λ u b y j k i ev o. G.fire_switch i ev o)
-  switch_is p t s x v a w R.switch_on A B (T.paused_typed (T.switch_state_typed ta ts tg)) =
-      switched_on ta tg ts (λ k i ev. G.step_switch i ev) (λ u b y j k i ev o. G.step_switch_over i ev o)
+  pub switch_fires : (tm : Timing) (p : Frozen ℕ) (t : Network ℕ) (s s' : Scope ℕ) (x v u y z : Datum) (a b : State ℕ) (m n c : ℕ) → s' ≡ push_param s u
+      → z ≡ heard tm (left v) y → RunsWhere keys p x a v m → event_in (right v) ≡ Some u → RunsWhere keys (unstarted t s') x b y n
+      → (suc (m + n) < 2 ^ 32 → c ≡ suc (m + n)) → (w : Frozen ℕ) → SwitchBy tm w p t s → RunsWhere keys w x b z c
+  switch_fires tm p t s s' x v u y z a b m n c e ez hp ev hq hc w k = subst (λ o. RunsWhere keys w x b o c) (sym ez)
+      (switch_fires_at tm p t s x v u y a b m n c hp ev (subst (λ o. RunsWhere keys (unstarted t o) x b y n) e hq) hc w k)
 
-  d_switch_is : (p : Frozen ℕ) (t : Network ℕ) (s : Scope ℕ) (x v : Datum) (a : State ℕ) (w : Frozen ℕ) → DSwitchBy w p t s → (A B : TypeTree)
-      → FrozenTyped keys w A B → Switched w p t s x v a (d_switch_state a t s) (λ y. left v) A B
-  d_switch_is p t s x v a w R.d_switch_new A B (T.unstarted_typed (N.d_switch_typed tf tg) ts) =
-      switched_new tf tg ts (λ k i ev. G.start_d_switch i ev) (λ u b y j k i ev o. G.fire_d_switch i ev o)
-  d_switch_is p t s x v a w R.d_switch_on A B (T.paused_typed (T.d_switch_state_typed ta ts tg)) =
-      switched_on ta tg ts (λ k i ev. G.step_d_switch i ev) (λ u b y j k i ev o. G.step_d_switch_over i ev o)
-
-  kept_by : {w p : Frozen ℕ} {t : Network ℕ} {s : Scope ℕ} {x v : Datum} {a r : State ℕ} {out : Datum → Datum} {A B : TypeTree} (y : Datum) (o : State ℕ)
-      (m c : ℕ) → Switched w p t s x v a r out A B → o ≡ r → y ≡ left v → RunsWhere keys p x a v m → event_in (right v) ≡ None
-      → (suc (m + 0) < 2 ^ 32 → c ≡ suc (m + 0)) → HasType x A → Ran keys w x o y c
-  kept_by {w = w} {x = x} {r = r} {A = A} {B = B} y o m c g e ey hp ev hc h =
-      subst (λ z. Ran keys w x z y c) (sym e) (subst (λ z. Ran keys w x r z c) (sym ey)
-      (round_one m c (hp A (pair_ty B (event_ty g.event)) g.part_typed h) hc (λ k i. g.kept k i ev)))
-
-  fired_by : {w p : Frozen ℕ} {t : Network ℕ} {s : Scope ℕ} {x v : Datum} {a r : State ℕ} {out : Datum → Datum} {A B : TypeTree} (s' : Scope ℕ) (u y : Datum)
-      (b : State ℕ) (m n c : ℕ) → Switched w p t s x v a r out A B → s' ≡ push_param s u → RunsWhere keys p x a v m → event_in (right v) ≡ Some u
-      → RunsWhere keys (unstarted t s') x b y n → (suc (m + n) < 2 ^ 32 → c ≡ suc (m + n)) → HasType x A → Ran keys w x b (out y) c
-  fired_by {t = t} {x = x} {A = A} {B = B} s' u y b m n c g e hp ev hq hc h =
-      let one = hp A (pair_ty B (event_ty g.event)) g.part_typed h in
-      let tv = (resumes_typed keys one.resumes g.part_typed h).1 in
-      let two = subst (λ o. RunsWhere keys (unstarted t o) x b y n) e hq A B (g.over_typed u (event_typed (right_typed tv) ev)) h in
-      round_two m n c (λ j k. suc j + k) (λ j k. omega arith) one two hc (λ j k i o. g.fired u b y j k i ev (started o))
-
-  pub switch_goes : (p : Frozen ℕ) (t : Network ℕ) (s : Scope ℕ) (x v y : Datum) (a r : State ℕ) (m c : ℕ) → r ≡ switch_state a t s → y ≡ left v
-      → RunsWhere keys p x a v m → event_in (right v) ≡ None → (suc (m + 0) < 2 ^ 32 → c ≡ suc (m + 0)) → (w : Frozen ℕ) → SwitchBy w p t s
-      → RunsWhere keys w x r y c
-  switch_goes p t s x v y a r m c e ey hp ev hc w k A B tw h = kept_by y r m c (switch_is p t s x v a w k A B tw) e ey hp ev hc h
-
-  pub d_switch_goes : (p : Frozen ℕ) (t : Network ℕ) (s : Scope ℕ) (x v y : Datum) (a r : State ℕ) (m c : ℕ) → r ≡ d_switch_state a t s → y ≡ left v
-      → RunsWhere keys p x a v m → event_in (right v) ≡ None → (suc (m + 0) < 2 ^ 32 → c ≡ suc (m + 0)) → (w : Frozen ℕ) → DSwitchBy w p t s
-      → RunsWhere keys w x r y c
-  d_switch_goes p t s x v y a r m c e ey hp ev hc w k A B tw h = kept_by y r m c (d_switch_is p t s x v a w k A B tw) e ey hp ev hc h
-
-  pub switch_fires : (p : Frozen ℕ) (t : Network ℕ) (s s' : Scope ℕ) (x v u y : Datum) (a b : State ℕ) (m n c : ℕ) → s' ≡ push_param s u
-      → RunsWhere keys p x a v m → event_in (right v) ≡ Some u → RunsWhere keys (unstarted t s') x b y n → (suc (m + n) < 2 ^ 32 → c ≡ suc (m + n))
-      → (w : Frozen ℕ) → SwitchBy w p t s → RunsWhere keys w x b y c
-  switch_fires p t s s' x v u y a b m n c e hp ev hq hc w k A B tw h = fired_by s' u y b m n c (switch_is p t s x v a w k A B tw) e hp ev hq hc h
-
-  pub d_switch_fires : (p : Frozen ℕ) (t : Network ℕ) (s s' : Scope ℕ) (x v u y z : Datum) (a b : State ℕ) (m n c : ℕ) → s' ≡ push_param s u → z ≡ left v
-      → RunsWhere keys p x a v m → event_in (right v) ≡ Some u → RunsWhere keys (unstarted t s') x b y n → (suc (m + n) < 2 ^ 32 → c ≡ suc (m + n))
-      → (w : Frozen ℕ) → DSwitchBy w p t s → RunsWhere keys w x b z c
-  d_switch_fires p t s s' x v u y z a b m n c e ez hp ev hq hc w k A B tw h =
-      subst (λ o. Ran keys w x b o c) (sym ez) (fired_by s' u y b m n c (d_switch_is p t s x v a w k A B tw) e hp ev hq hc h)
-
-  r_switch_goes_at : (p : Frozen ℕ) (t : Network ℕ) (s : Scope ℕ) (x y : Datum) (a : State ℕ) (m c : ℕ) → restart_in x ≡ None → RunsWhere keys p (left x) a y m
-      → (suc (m + 0) < 2 ^ 32 → c ≡ suc (m + 0)) → (w : Frozen ℕ) → RSwitchBy w p t s → RunsWhere keys w x (r_switch_state a t s) y c
-  r_switch_goes_at p t s x y a m c ev hp hc w R.r_switch_new A B (T.unstarted_typed (N.r_switch_typed {D = D} tf tg) ts) h =
+  r_switch_goes_at : (tm : Timing) (p : Frozen ℕ) (t : Network ℕ) (s : Scope ℕ) (x y : Datum) (a : State ℕ) (m c : ℕ) → restart_in x ≡ None
+      → RunsWhere keys p (left x) a y m → (suc (m + 0) < 2 ^ 32 → c ≡ suc (m + 0)) → (w : Frozen ℕ) → RSwitchBy tm w p t s
+      → RunsWhere keys w x (r_switch_state tm a t s) y c
+  r_switch_goes_at tm p t s x y a m c ev hp hc w R.r_switch_new A B (T.unstarted_typed (N.r_switch_typed {D = D} tf tg) ts) h =
       round_one m c (hp D B (T.unstarted_typed tf ts) (left_typed h)) hc (λ k i. G.resume_unstarted (G.start_r_switch ev (started i)))
-  r_switch_goes_at p t s x y a m c ev hp hc w R.r_switch_on A B (T.paused_typed (T.r_switch_state_typed {D = D} ta ts tg)) h =
+  r_switch_goes_at tm p t s x y a m c ev hp hc w R.r_switch_on A B (T.paused_typed (T.r_switch_state_typed {D = D} ta ts tg)) h =
       round_one m c (hp D B (T.paused_typed ta) (left_typed h)) hc (λ k i. G.resume_paused (G.step_r_switch ev (stepped i)))
 
-  pub r_switch_goes : (p : Frozen ℕ) (t : Network ℕ) (s : Scope ℕ) (x l y : Datum) (a r : State ℕ) (m c : ℕ) → r ≡ r_switch_state a t s → l ≡ left x
-      → restart_in x ≡ None → RunsWhere keys p l a y m → (suc (m + 0) < 2 ^ 32 → c ≡ suc (m + 0)) → (w : Frozen ℕ) → RSwitchBy w p t s
-      → RunsWhere keys w x r y c
-  r_switch_goes p t s x l y a r m c e el ev hp hc w k = subst (λ z. RunsWhere keys w x z y c) (sym e)
-      (r_switch_goes_at p t s x y a m c ev (subst (λ z. RunsWhere keys p z a y m) el hp) hc w k)
+  pub r_switch_goes : (tm : Timing) (p : Frozen ℕ) (t : Network ℕ) (s : Scope ℕ) (x l y : Datum) (a : State ℕ) (m c : ℕ) → l ≡ left x
+      → restart_in x ≡ None → RunsWhere keys p l a y m → (suc (m + 0) < 2 ^ 32 → c ≡ suc (m + 0)) → (w : Frozen ℕ) → RSwitchBy tm w p t s
+      → RunsWhere keys w x (r_switch_state tm a t s) y c
+  r_switch_goes tm p t s x l y a m c el ev hp hc w k = r_switch_goes_at tm p t s x y a m c ev (subst (λ z. RunsWhere keys p z a y m) el hp) hc w k
 
-  r_switch_cuts_at : (p : Frozen ℕ) (t : Network ℕ) (s : Scope ℕ) (x v u y : Datum) (a : State ℕ) (m c : ℕ) → restart_in x ≡ Some (v, u)
-      → RunsWhere keys (unstarted t (push_param s u)) v a y m → (suc (m + 0) < 2 ^ 32 → c ≡ suc (m + 0)) → (w : Frozen ℕ) → RSwitchBy w p t s
-      → RunsWhere keys w x (r_switch_state a t s) y c
-  r_switch_cuts_at p t s x v u y a m c ev hp hc w R.r_switch_new A B (T.unstarted_typed (N.r_switch_typed {D = D} {C = C} tf tg) ts) h =
+  cuts_at_once_at : (p : Frozen ℕ) (t : Network ℕ) (s : Scope ℕ) (x v u y : Datum) (a : State ℕ) (m c : ℕ) → restart_in x ≡ Some (v, u)
+      → RunsWhere keys (unstarted t (push_param s u)) v a y m → (suc (m + 0) < 2 ^ 32 → c ≡ suc (m + 0)) → (w : Frozen ℕ) → RSwitchBy at_once w p t s
+      → RunsWhere keys w x (r_switch_state at_once a t s) y c
+  cuts_at_once_at p t s x v u y a m c ev hp hc w R.r_switch_new A B (T.unstarted_typed (N.r_switch_typed {D = D} {C = C} tf tg) ts) h =
       let k : HasType v D × HasType u C = cut_typed h ev in
-      round_one m c (hp D B (T.unstarted_typed tg (pushed_param keys ts k.1)) k.0) hc (λ j i. G.resume_unstarted (G.cut_r_switch ev (started i)))
-  r_switch_cuts_at p t s x v u y a m c ev hp hc w R.r_switch_on A B (T.paused_typed (T.r_switch_state_typed {D = D} {C = C} ta ts tg)) h =
+      round_one m c (hp D B (T.unstarted_typed tg (pushed_param keys ts k.1)) k.0) hc (λ j i. G.resume_unstarted (G.cut_at_once ev (started i)))
+  cuts_at_once_at p t s x v u y a m c ev hp hc w R.r_switch_on A B (T.paused_typed (T.r_switch_state_typed {D = D} {C = C} ta ts tg)) h =
       let k : HasType v D × HasType u C = cut_typed h ev in
-      round_one m c (hp D B (T.unstarted_typed tg (pushed_param keys ts k.1)) k.0) hc (λ j i. G.resume_paused (G.step_r_switch_over ev (started i)))
+      round_one m c (hp D B (T.unstarted_typed tg (pushed_param keys ts k.1)) k.0) hc (λ j i. G.resume_paused (G.step_cut_at_once ev (started i)))
 
-  pub r_switch_cuts : (p : Frozen ℕ) (t : Network ℕ) (s s' : Scope ℕ) (x v u y : Datum) (a r : State ℕ) (m c : ℕ) → r ≡ r_switch_state a t s → s'
-      ≡ push_param s u → restart_in x ≡ Some (v, u) → RunsWhere keys (unstarted t s') v a y m → (suc (m + 0) < 2 ^ 32 → c ≡ suc (m + 0)) → (w : Frozen ℕ)
-      → RSwitchBy w p t s → RunsWhere keys w x r y c
-  r_switch_cuts p t s s' x v u y a r m c e es ev hp hc w k = subst (λ z. RunsWhere keys w x z y c) (sym e)
-      (r_switch_cuts_at p t s x v u y a m c ev (subst (λ z. RunsWhere keys (unstarted t z) v a y m) es hp) hc w k)
+  pub cuts_at_once : (p : Frozen ℕ) (t : Network ℕ) (s s' : Scope ℕ) (x v u y : Datum) (a : State ℕ) (m c : ℕ) → s' ≡ push_param s u
+      → restart_in x ≡ Some (v, u) → RunsWhere keys (unstarted t s') v a y m → (suc (m + 0) < 2 ^ 32 → c ≡ suc (m + 0)) → (w : Frozen ℕ)
+      → RSwitchBy at_once w p t s → RunsWhere keys w x (r_switch_state at_once a t s) y c
+  cuts_at_once p t s s' x v u y a m c es ev hp hc w k =
+      cuts_at_once_at p t s x v u y a m c ev (subst (λ z. RunsWhere keys (unstarted t z) v a y m) es hp) hc w k
+
+  -- at an event what ran goes on too, and answers
+  pub cuts_delayed : (p : Frozen ℕ) (t : Network ℕ) (s : Scope ℕ) (x v u y z : Datum) (a b : State ℕ) (m n c : ℕ) → restart_in x ≡ Some (v, u)
+      → RunsWhere keys p v a y m → RunsWhere keys (unstarted t (push_param s u)) v b z n → (suc (m + n) < 2 ^ 32 → c ≡ suc (m + n)) → (w : Frozen ℕ)
+      → RSwitchBy delayed w p t s → RunsWhere keys w x (r_switch_state delayed b t s) y c
+  cuts_delayed p t s x v u y z a b m n c ev hp hq hc w R.r_switch_new A B (T.unstarted_typed (N.r_switch_typed {D = D} {C = C} tf tg) ts) h =
+      let k : HasType v D × HasType u C = cut_typed h ev in
+      round_two m n c (λ i j. suc (i + j)) (λ i j. refl) (hp D B (T.unstarted_typed tf ts) k.0)
+      (hq D B (T.unstarted_typed tg (pushed_param keys ts k.1)) k.0) hc
+      (λ i j one two. G.resume_unstarted (G.cut_delayed ev (started one) (started two)))
+  cuts_delayed p t s x v u y z a b m n c ev hp hq hc w R.r_switch_on A B (T.paused_typed (T.r_switch_state_typed {D = D} {C = C} ta ts tg)) h =
+      let k : HasType v D × HasType u C = cut_typed h ev in
+      round_two m n c (λ i j. suc (i + j)) (λ i j. refl) (hp D B (T.paused_typed ta) k.0)
+      (hq D B (T.unstarted_typed tg (pushed_param keys ts k.1)) k.0) hc
+      (λ i j one two. G.resume_paused (G.step_cut_delayed ev (stepped one) (started two)))
 
   -- `-->` that starts
   pub initial_out_runs : (c : ℕ) (f : Network ℕ) (s : Scope ℕ) (x v y : Datum) (a : State ℕ) (m n : ℕ) → RunsWhere keys (unstarted f s) x a v m
@@ -256,33 +214,6 @@ module _ (keys : List KeyTree) where
       let tu : HasType u A = subst (λ z. HasType z A) (sym e) (row_typed keys r (params_typed keys ts) unit_has) in
       round_one m n (hp A B (T.unstarted_typed tf ts) tu) hc (λ k i. G.resume_unstarted (G.start_initial_in
       (subst (λ z. Starts (row_value keys) f s z a y k) e (started i))))
-
-  dr_switch_goes_at : (p : Frozen ℕ) (t : Network ℕ) (s : Scope ℕ) (x y : Datum) (a : State ℕ) (m c : ℕ) → restart_in x ≡ None → RunsWhere keys p (left x) a y m
-      → (suc (m + 0) < 2 ^ 32 → c ≡ suc (m + 0)) → (w : Frozen ℕ) → DrSwitchBy w p t s → RunsWhere keys w x (dr_switch_state a t s) y c
-  dr_switch_goes_at p t s x y a m c ev hp hc w R.dr_switch_new A B (T.unstarted_typed (N.dr_switch_typed {D = D} tf tg) ts) h =
-      round_one m c (hp D B (T.unstarted_typed tf ts) (left_typed h)) hc (λ k i. G.resume_unstarted (G.start_dr_switch ev (started i)))
-  dr_switch_goes_at p t s x y a m c ev hp hc w R.dr_switch_on A B (T.paused_typed (T.dr_switch_state_typed {D = D} ta ts tg)) h =
-      round_one m c (hp D B (T.paused_typed ta) (left_typed h)) hc (λ k i. G.resume_paused (G.step_dr_switch ev (stepped i)))
-
-  pub dr_switch_goes : (p : Frozen ℕ) (t : Network ℕ) (s : Scope ℕ) (x l y : Datum) (a : State ℕ) (m c : ℕ) → l ≡ left x → restart_in x ≡ None
-      → RunsWhere keys p l a y m → (suc (m + 0) < 2 ^ 32 → c ≡ suc (m + 0)) → (w : Frozen ℕ) → DrSwitchBy w p t s
-      → RunsWhere keys w x (dr_switch_state a t s) y c
-  dr_switch_goes p t s x l y a m c el ev hp hc w k = dr_switch_goes_at p t s x y a m c ev (subst (λ z. RunsWhere keys p z a y m) el hp) hc w k
-
-  -- at an event what ran goes on too, and answers
-  pub dr_switch_cuts : (p : Frozen ℕ) (t : Network ℕ) (s : Scope ℕ) (x v u y z : Datum) (a b : State ℕ) (m n c : ℕ) → restart_in x ≡ Some (v, u)
-      → RunsWhere keys p v a y m → RunsWhere keys (unstarted t (push_param s u)) v b z n → (suc (m + n) < 2 ^ 32 → c ≡ suc (m + n)) → (w : Frozen ℕ)
-      → DrSwitchBy w p t s → RunsWhere keys w x (dr_switch_state b t s) y c
-  dr_switch_cuts p t s x v u y z a b m n c ev hp hq hc w R.dr_switch_new A B (T.unstarted_typed (N.dr_switch_typed {D = D} {C = C} tf tg) ts) h =
-      let k : HasType v D × HasType u C = cut_typed h ev in
-      round_two m n c (λ i j. suc (i + j)) (λ i j. refl) (hp D B (T.unstarted_typed tf ts) k.0)
-      (hq D B (T.unstarted_typed tg (pushed_param keys ts k.1)) k.0) hc
-      (λ i j one two. G.resume_unstarted (G.cut_dr_switch ev (started one) (started two)))
-  dr_switch_cuts p t s x v u y z a b m n c ev hp hq hc w R.dr_switch_on A B (T.paused_typed (T.dr_switch_state_typed {D = D} {C = C} ta ts tg)) h =
-      let k : HasType v D × HasType u C = cut_typed h ev in
-      round_two m n c (λ i j. suc (i + j)) (λ i j. refl) (hp D B (T.paused_typed ta) k.0)
-      (hq D B (T.unstarted_typed tg (pushed_param keys ts k.1)) k.0) hc
-      (λ i j one two. G.resume_paused (G.step_dr_switch_over ev (stepped one) (started two)))
 
   k_switch_goes_at : (p q : Frozen ℕ) (t : Network ℕ) (s : Scope ℕ) (x v u : Datum) (a b : State ℕ) (m n c : ℕ) → RunsWhere keys p x a v m
       → RunsWhere keys q (pair x v) b u n → event_in u ≡ None → (suc (m + n) < 2 ^ 32 → c ≡ suc (m + n)) → (w : Frozen ℕ) → KSwitchBy w p q t s

@@ -8,7 +8,7 @@ use Rattle.sample_core.specs.HasType.{HasType, HaveType, unit_has, int_has, pair
 use Rattle.leaf_core.specs.ExpressionValue.{value_of}
 use Rattle.leaf_core.specs.KeyTree.{KeyTree}
 use Rattle.leaf_core.proofs.Soundness.{typed_value}
-use Rattle.net_tree.specs.Network.{Network, Networks}
+use Rattle.net_tree.specs.Network.{Timing, at_once, delayed, Network, Networks}
 use Rattle.net_meaning.specs.SignalFunction.{items_of}
 use Rattle.net_meaning.specs.Typing as T
 use Rattle.net_meaning.specs.Typing.{Arrow, OldAt, old_here, old_after, copies, members, arrow, AnyType, Typed, AllTyped, TypedSamples, no_sample, and_sample, no_value, and_value}
@@ -19,11 +19,11 @@ use Rattle.cell_core.specs.Cell.{Cell, count_down, due, after_cell, cell_step}
 use Rattle.state_core.specs.State.{State, States, Scope, Frozens, Frozen, append_frozens, params_of, frozens_of, frozen_at, push_param, push_olds, all_unstarted, all_paused, frozen_list, first_frozen, chosen_frozen, turned}
 use Rattle.step_core.specs.Stepping as G
 use Rattle.step_core.specs.Stepping.{Starts, StartsEach, Resumes, ResumesEach, Steps, StepsEach}
-use Rattle.step_core.specs.Stepping.{event_in, restart_in}
+use Rattle.step_core.specs.Stepping.{event_in, restart_in, heard}
 use Rattle.state_core.specs.EmptyScope.{empty_scope}
 use Rattle.step_core.specs.RowTyping.{RowTyped, expression_in}
-use Rattle.step_core.specs.StateTyping.{row_value, CellTyped, previous_typed, queue_typed, latest_typed, accumulating_typed, waiting_typed, over_typed, recurring_typed, ticking_typed, summing_typed, StateTyped, StatesTyped, ScopeTyped, FrozensTyped, FrozenTyped, arr_state_typed, seq_state_typed, first_state_typed, par_state_typed, loop_state_typed, cell_state_typed, accum_state_typed, switch_state_typed, d_switch_state_typed, r_switch_state_typed, k_switch_state_typed, p_switch_state_typed, dr_switch_state_typed, rp_switch_state_typed, no_state_typed, and_state_typed, scope_typed, no_frozen_typed, and_frozen_typed, unstarted_typed, paused_typed}
-use Rattle.step_core.specs.Runs.{EachIs, MembersTyped}
+use Rattle.step_core.specs.StateTyping.{row_value, CellTyped, previous_typed, queue_typed, latest_typed, accumulating_typed, waiting_typed, over_typed, recurring_typed, ticking_typed, summing_typed, StateTyped, StatesTyped, ScopeTyped, FrozensTyped, FrozenTyped, arr_state_typed, seq_state_typed, first_state_typed, par_state_typed, loop_state_typed, cell_state_typed, accum_state_typed, switch_state_typed, r_switch_state_typed, k_switch_state_typed, p_switch_state_typed, rp_switch_state_typed, no_state_typed, and_state_typed, scope_typed, no_frozen_typed, and_frozen_typed, unstarted_typed, paused_typed}
+use Rattle.step_core.specs.Runs.{EachIs, MemberStatesTyped}
 use Rattle.step_core.proofs.ChosenMembers.{each-take, EachStarts, choices, each-chosen_frozen}
 
 -- what holds of both holds of the one chosen
@@ -42,6 +42,11 @@ cut_typed (pair_has h no_event_has) e = absurd (cc)
 cut_typed {D = D} {C = C} {u = u} {c = c} (pair_has {v = w} h (event_has {v = v} k)) e =
     let same : (w, v) ≡ (u, c) = cc in
     subst (λ (r : Datum × Datum). HasType r.0 D × HasType r.1 C) same (h, k)
+
+-- what is heard of two typed answers
+heard_typed : (tm : Timing) {B : TypeTree} {v y : Datum} → HasType v B → HasType y B → HasType (heard tm v y) B
+heard_typed at_once h k = k
+heard_typed delayed h k = h
 
 -- and the elements of a list value
 items_typed : {v : Datum} {V : TypeTree} → HasType v (list_ty V) → EachIs (λ u. HasType u V) (items_of v)
@@ -140,15 +145,15 @@ module _ (keys : List KeyTree) where
 
   -- Members of an `rpSwitchB`.
   unstarted_members : {fs : Networks ℕ} {s : Scope ℕ} {Ps : List TypeTree} {Os : List Arrow} {D B : TypeTree} → AllTyped (RowTyped keys) AnyType Ps Os fs D B
-      → ScopeTyped keys s Ps Os → MembersTyped keys D B (frozen_list (all_unstarted fs s))
+      → ScopeTyped keys s Ps Os → MemberStatesTyped keys D B (frozen_list (all_unstarted fs s))
   unstarted_members T.no_members_typed h = tt
   unstarted_members (T.and_member_typed k ks) h = (unstarted_typed k h, unstarted_members ks h)
 
   pub first_typed : {fs : Networks ℕ} {s : Scope ℕ} {Ps : List TypeTree} {Os : List Arrow} {D B : TypeTree} → AllTyped (RowTyped keys) AnyType Ps Os fs D B
-      → ScopeTyped keys s Ps Os → MembersTyped keys D B (first_frozen fs s)
+      → ScopeTyped keys s Ps Os → MemberStatesTyped keys D B (first_frozen fs s)
   first_typed {D = D} {B = B} ks h = each-take (λ f. FrozenTyped keys f D B) 64 _ (unstarted_members ks h)
 
-  pub paused_members : {as' : States ℕ} {n : ℕ} {D B : TypeTree} (d : ℕ) → StatesTyped keys as' n D B → MembersTyped keys D B (frozen_list (all_paused as' d))
+  pub paused_members : {as' : States ℕ} {n : ℕ} {D B : TypeTree} (d : ℕ) → StatesTyped keys as' n D B → MemberStatesTyped keys D B (frozen_list (all_paused as' d))
   paused_members d no_state_typed = tt
   paused_members d (and_state_typed h hs) = (paused_typed h, paused_members d hs)
 
@@ -165,14 +170,14 @@ module _ (keys : List KeyTree) where
   -- what is chosen of typed ones, and of what starts under typed values
   pub chosen_typed : {t : Network ℕ} {s : Scope ℕ} {Ps : List TypeTree} {Os : List Arrow} {D B V : TypeTree} (ms : List (Frozen ℕ)) (w : Datum)
       → Typed (RowTyped keys) AnyType (Ps ++ V ∷ []) Os t D B → ScopeTyped keys s Ps Os → HasType w (pair_ty (list_ty int_ty) (list_ty V))
-      → MembersTyped keys D B ms → MembersTyped keys D B (chosen_frozen t s ms w)
+      → MemberStatesTyped keys D B ms → MemberStatesTyped keys D B (chosen_frozen t s ms w)
   chosen_typed {t = t} {s = s} {D = D} {B = B} {V = V} ms w k h hw hs =
       each-chosen_frozen (λ f. FrozenTyped keys f D B) t s ms w hs (started_members V (items_of (right w)) k h (items_typed (typed_right hw)))
 
   -- so what runs on a typed sample is typed
   turned_typed : {t : Network ℕ} {s : Scope ℕ} {m : ℕ} {x : Datum} {Ps : List TypeTree} {Os : List Arrow} {D B C V : TypeTree} (ms : List (Frozen ℕ))
       → RowTyped keys m Ps C (pair_ty (list_ty int_ty) (list_ty V)) → Typed (RowTyped keys) AnyType (Ps ++ V ∷ []) Os t D B → ScopeTyped keys s Ps Os
-      → MembersTyped keys D B ms → HasType x (pair_ty D (event_ty C)) → MembersTyped keys D B (turned (row_value keys m (params_of s)) t s ms x)
+      → MemberStatesTyped keys D B ms → HasType x (pair_ty D (event_ty C)) → MemberStatesTyped keys D B (turned (row_value keys m (params_of s)) t s ms x)
   turned_typed ms r k h hs (pair_has j no_event_has) = hs
   turned_typed ms r k h hs (pair_has j (event_has i)) = chosen_typed ms _ k h (row_typed r (params_typed h) i) hs
 
@@ -241,23 +246,22 @@ module _ (keys : List KeyTree) where
     starts_typed (G.start_switch kf e) (T.switch_typed f t) h j =
         let one = starts_typed kf f h j in
         (switch_state_typed one.0 h t, typed_left one.1)
-    starts_typed (G.fire_switch kf e kt) (T.switch_typed f t) h j =
-        let one = starts_typed kf f h j in
-        starts_typed kt t (pushed_param h (event_typed (typed_right one.1) e)) j
-    starts_typed (G.start_d_switch kf e) (T.d_switch_typed f t) h j =
-        let one = starts_typed kf f h j in
-        (d_switch_state_typed one.0 h t, typed_left one.1)
-    starts_typed (G.fire_d_switch kf e kt) (T.d_switch_typed f t) h j =
+    starts_typed (G.fire_switch {tm = tm} kf e kt) (T.switch_typed f t) h j =
         let one = starts_typed kf f h j in
         let two = starts_typed kt t (pushed_param h (event_typed (typed_right one.1) e)) j in
-        (two.0, typed_left one.1)
+        (two.0, heard_typed tm (typed_left one.1) two.1)
     starts_typed (G.start_r_switch e kf) (T.r_switch_typed f t) h j =
         let one = starts_typed kf f h (typed_left j) in
         (r_switch_state_typed one.0 h t, one.1)
-    starts_typed (G.cut_r_switch e kt) (T.r_switch_typed f t) h j =
+    starts_typed (G.cut_at_once e kt) (T.r_switch_typed f t) h j =
         let cut = cut_typed j e in
         let one = starts_typed kt t (pushed_param h cut.1) cut.0 in
         (r_switch_state_typed one.0 h t, one.1)
+    starts_typed (G.cut_delayed e kf kt) (T.r_switch_typed f t) h j =
+        let cut = cut_typed j e in
+        let one = starts_typed kf f h cut.0 in
+        let two = starts_typed kt t (pushed_param h cut.1) cut.0 in
+        (r_switch_state_typed two.0 h t, one.1)
     starts_typed (G.start_k_switch kf ke e) (T.k_switch_typed f _ g t) h j =
         let one = starts_typed kf f h j in
         let two = starts_typed ke g h (pair_has j one.1) in
@@ -277,14 +281,6 @@ module _ (keys : List KeyTree) where
     starts_typed (G.start_old e kr) (T.old_typed i) h j = resumes_typed kr (old_typed h i e) j
     starts_typed (G.start_initial_out kf) (T.initial_out_typed r f) h j = ((starts_typed kf f h j).0, row_typed r (params_typed h) unit_has)
     starts_typed (G.start_initial_in kf) (T.initial_in_typed r f) h j = starts_typed kf f h (row_typed r (params_typed h) unit_has)
-    starts_typed (G.start_dr_switch e kf) (T.dr_switch_typed f t) h j =
-        let one = starts_typed kf f h (typed_left j) in
-        (dr_switch_state_typed one.0 h t, one.1)
-    starts_typed (G.cut_dr_switch e kf kt) (T.dr_switch_typed f t) h j =
-        let cut = cut_typed j e in
-        let one = starts_typed kf f h cut.0 in
-        let two = starts_typed kt t (pushed_param h cut.1) cut.0 in
-        (dr_switch_state_typed two.0 h t, one.1)
     starts_typed (G.start_rp_switch {fs = fs} {m = m} {t = t} {s = s} ks) (T.rp_switch_typed l u ts r k _) h j =
         let before = first_frozen fs s in
         let few : length before ≡ min 64 (length (frozen_list (all_unstarted fs s))) = length-take 64 _ in
@@ -310,7 +306,7 @@ module _ (keys : List KeyTree) where
 
     -- the members of an `rpSwitchB`, each on a typed sample
     pub resumes_each_typed : {ms : List (Frozen ℕ)} {x : Datum} {as' : States ℕ} {ys : List Datum} {n : ℕ} {D B : TypeTree} →
-        ResumesEach (row_value keys) ms x as' ys n → MembersTyped keys D B ms → HasType x D → StatesTyped keys as' (length ms) D B × HaveType (list_of ys) B
+        ResumesEach (row_value keys) ms x as' ys n → MemberStatesTyped keys D B ms → HasType x D → StatesTyped keys as' (length ms) D B × HaveType (list_of ys) B
     resumes_each_typed G.resume_none h j = (no_state_typed, end_has)
     resumes_each_typed (G.resume_also kf ks) h j =
         let one = resumes_typed kf h.0 j in
@@ -343,23 +339,22 @@ module _ (keys : List KeyTree) where
     steps_typed (G.step_switch ka e) (switch_state_typed a h t) j =
         let one = steps_typed ka a j in
         (switch_state_typed one.0 h t, typed_left one.1)
-    steps_typed (G.step_switch_over ka e kt) (switch_state_typed a h t) j =
-        let one = steps_typed ka a j in
-        starts_typed kt t (pushed_param h (event_typed (typed_right one.1) e)) j
-    steps_typed (G.step_d_switch ka e) (d_switch_state_typed a h t) j =
-        let one = steps_typed ka a j in
-        (d_switch_state_typed one.0 h t, typed_left one.1)
-    steps_typed (G.step_d_switch_over ka e kt) (d_switch_state_typed a h t) j =
+    steps_typed (G.step_switch_over {tm = tm} ka e kt) (switch_state_typed a h t) j =
         let one = steps_typed ka a j in
         let two = starts_typed kt t (pushed_param h (event_typed (typed_right one.1) e)) j in
-        (two.0, typed_left one.1)
+        (two.0, heard_typed tm (typed_left one.1) two.1)
     steps_typed (G.step_r_switch e ka) (r_switch_state_typed a h t) j =
         let one = steps_typed ka a (typed_left j) in
         (r_switch_state_typed one.0 h t, one.1)
-    steps_typed (G.step_r_switch_over e kt) (r_switch_state_typed a h t) j =
+    steps_typed (G.step_cut_at_once e kt) (r_switch_state_typed a h t) j =
         let cut = cut_typed j e in
         let one = starts_typed kt t (pushed_param h cut.1) cut.0 in
         (r_switch_state_typed one.0 h t, one.1)
+    steps_typed (G.step_cut_delayed e ka kt) (r_switch_state_typed a h t) j =
+        let cut = cut_typed j e in
+        let one = steps_typed ka a cut.0 in
+        let two = starts_typed kt t (pushed_param h cut.1) cut.0 in
+        (r_switch_state_typed two.0 h t, one.1)
     steps_typed (G.step_k_switch ka kb e) (k_switch_state_typed a b h t) j =
         let one = steps_typed ka a j in
         let two = steps_typed kb b (pair_has j one.1) in
@@ -376,14 +371,6 @@ module _ (keys : List KeyTree) where
         let all = each_steps_typed ks as' (λ i b. route_typed r (params_typed h) j u i (omega arith)) in
         let two = steps_typed kb b (pair_has j (list_has all.1)) in
         starts_typed kt t (pushed_olds (pushed_param h (event_typed two.1 e)) (paused_all x.0 as')) j
-    steps_typed (G.step_dr_switch e ka) (dr_switch_state_typed a h t) j =
-        let one = steps_typed ka a (typed_left j) in
-        (dr_switch_state_typed one.0 h t, one.1)
-    steps_typed (G.step_dr_switch_over e ka kt) (dr_switch_state_typed a h t) j =
-        let cut = cut_typed j e in
-        let one = steps_typed ka a cut.0 in
-        let two = starts_typed kt t (pushed_param h cut.1) cut.0 in
-        (dr_switch_state_typed two.0 h t, one.1)
     steps_typed (G.step_rp_switch {r = m} {as' = as'} {t = t} {s = s} {x = x} ks) (rp_switch_state_typed l r hs h k) j =
         let before = frozen_list (all_paused as' x.0) in
         let count = paused_count x.0 hs in

@@ -2,21 +2,22 @@
 use Rattle.std.proofs.Common.{◌≡◌, ℕ, suc, ◌+◌, ◌<◌, List, [], ◌∷◌, ◌++◌, length, take, drop, refl, sym, ap, ap₂, ◌∙◌, arith, Option, Some, None, append_assoc, length-append, length-drop, subst}
 use Rattle.std.proofs.lemmas.List.{take_at, drop_at}
 use Rattle.sample_core.specs.Datum.{Datum, event, left, right, pair}
+use Rattle.net_tree.specs.Network.{Timing, at_once, delayed}
 use Rattle.net_meaning.specs.SignalFunction.{TimedList, SignalFunction, last_or, first_event, step_of, lefts, rights, watch, pair_samples, resume, IsSignalFunction, answer}
 use Rattle.state_core.specs.Visits.{VisitCounts, both_at_first, switch_counts, and_one, add_counts}
 use Rattle.state_core.specs.CountedFunction.{CountedFunction, IsCountedFunction, Continues, StandsVia, TakesSample, visits_at}
-use Rattle.state_core.specs.CountedForms.{counted_switch_at, counted_switch, counted_d_switch, counted_watch, counted_k_switch, counted_resume}
+use Rattle.state_core.specs.CountedForms.{counted_switch_at, counted_switch, counted_watch, counted_k_switch, counted_resume}
 use Rattle.state_core.specs.StandsByForm.{SwitchStands, KSwitchStands}
-use Rattle.step_core.specs.Stepping.{event_in}
+use Rattle.step_core.specs.Stepping.{event_in, heard}
 use Rattle.net_meaning.proofs.Zips.{length-zip_with}
 use Rattle.net_meaning.proofs.Events.{IsPlain}
 use Rattle.net_meaning.proofs.Plain.{IsSignal-watching}
-use Rattle.net_meaning.proofs.Switches.{lately, switching_late-is, IsSignal-lefts, IsSignal-rights, IsSignal-late}
-use Rattle.step_core.proofs.VisitSums.{IsCount-and_one, IsCount-added, IsCount-before}
+use Rattle.net_meaning.proofs.Switches.{late, lately, switching-is, IsSignal-lefts, IsSignal-rights, IsSignal-late}
+use Rattle.step_core.proofs.VisitSums.{IsCount-and_one, IsCount-added, IsCount-beside}
 use Rattle.net_meaning.proofs.PlainSteps.{answer-after, answer-watching, push_pair_samples}
 use Rattle.net_meaning.proofs.SwitchSteps.{quiet_push, answer_before, event_seen, GoesOn, GoesOn-switch_at, answer-first, answer-later, answer-late_first, answer-late, answer-resume_first}
 use Rattle.net_meaning.proofs.Resumed.{IsSignal-resume}
-use Rattle.step_core.proofs.VisitSteps.{last-append_from, last-drop}
+use Rattle.step_core.proofs.VisitSteps.{last-behind, last-later}
 use Rattle.step_core.proofs.CountedFunctions.{Via-here, Via-continues, counts-some, tally-and_one, tally-added, length-added}
 
 abbrev unsome : Datum → Option Datum → Datum
@@ -101,7 +102,7 @@ module _ (f : CountedFunction) (e : SignalFunction) (t : Datum → TimedList →
             let lr : length rest ≡ length r + 1 = length-append r (y ∷ []) in
             ap (λ s. last_or 0 ((counted_switch_at f e t).visits s)) (ap (λ s. s ++ y ∷ []) (append_assoc p (x ∷ []) r) ∙ append_assoc p (x ∷ r) (y ∷ []))
             ∙ ap (last_or 0) (counts_from p x c rest i a)
-            ∙ last-append_from 0 (take (length p) (f.visits xs)) (both_at_first ms ns) (both-some ms ns (omega arith) (omega arith))
+            ∙ last-behind 0 0 (take (length p) (f.visits xs)) (both_at_first ms ns) (both-some ms ns (omega arith) (omega arith))
             ∙ both-later 0 ms ns (omega arith) (omega arith);
       }
 
@@ -119,10 +120,10 @@ module _ (f : CountedFunction) (e : SignalFunction) (t : Datum → TimedList →
       let lm : length ms ≡ 1 = length-late p x [] in
       let ln : length ns ≡ 1 = ct.is_count.counted (x ∷ []) in
       ap (last_or 0) (counts_from p x c [] i a)
-      ∙ last-append_from 0 (take (length p) (f.visits xs)) (both_at_first ms ns) (both-some ms ns (omega arith) (omega arith))
+      ∙ last-behind 0 0 (take (length p) (f.visits xs)) (both_at_first ms ns) (both-some ms ns (omega arith) (omega arith))
       ∙ both-now 0 ms ns lm ln
       ∙ ap (λ k. k + last_or 0 ns)
-      (last-drop (length p) (f.visits xs) (let l : length (f.visits xs) ≡ length xs = cf.is_count.counted xs in omega (arith, length-append p (x ∷ []))))
+      (last-later 0 0 (length p) (f.visits xs) (let l : length (f.visits xs) ≡ length xs = cf.is_count.counted xs in omega (arith, length-append p (x ∷ []))))
 
   -- what took over stands for the switch
   pub switch_at_took : {P : CountedFunction → TimedList → Type 0} (p : TimedList) (x : ℕ × Datum) (c y : Datum) (m n : ℕ) → IsCountedFunction (t c p x.0)
@@ -151,76 +152,70 @@ tally-halved : (f : CountedFunction) → IsCountedFunction f → (q : TimedList)
     → suc n ≡ visits_at (halved f).visits q x
 tally-halved f cf q x n e = ap suc e ∙ sym (tally-and_one f.visits q x (counts-some cf.heaviest f.visits cf.is_count q x))
 
-module _ (f : CountedFunction) (t : Datum
+-- at the event's sample the answer that is heard
+heard-first : (tm : Timing) (g h : SignalFunction) → IsSignalFunction g → IsSignalFunction h → (x : ℕ × Datum) (v y : Datum)
+    → v ≡ answer g [] x → y ≡ answer h [] x → heard tm v y ≡ answer (late tm g h) [] x
+heard-first at_once g h sg sh x v y ev ey = ey
+heard-first delayed g h sg sh x v y ev ey = ev ∙ sym (answer-late_first g h sg sh x)
+
+module _ (tm : Timing) (f : CountedFunction) (t : Datum
     → CountedFunction) (cf : IsCountedFunction f) (q : TimedList) (x : ℕ × Datum) (i : first_event (rights f.function q) ≡ None) where
   answer-right : (v : Datum) (o : Option Datum) → v ≡ answer f.function q x → event_in (right v) ≡ o → event_in (answer (rights f.function) q x) ≡ o
   answer-right v o e h = ap event_in (answer-after right f.function cf.is_signal_function q x ∙ ap right (sym e)) ∙ h
 
-  -- a switch goes on, where what takes over starts as `over` says
-  quiet_took : (form : CountedFunction → (Datum → CountedFunction) → CountedFunction) (over : Datum → TimedList → ℕ → CountedFunction)
-      → form f t ≡ counted_switch_at (halved f) (rights f.function) over → {A : CountedFunction → TimedList → Type 0} (v : Datum) (n : ℕ)
-      → TakesSample A f q x v n → event_in (right v) ≡ None → TakesSample (StandsVia (SwitchStands form A t)) (form f t) q x (left v) (suc n)
-  quiet_took form over is v n tf h =
+  -- what takes over, and the switch with it
+  abbrev over : Datum → TimedList → ℕ → CountedFunction
+  over c p d = record { function = lately tm f.function (λ c. (t c).function) c p d; visits = (t c).visits }
+
+  switch-is : counted_switch tm f t ≡ counted_switch_at (halved f) (rights f.function) over
+  switch-is = ap (λ s. let c : CountedFunction = record { function = s; visits = (counted_switch tm f t).visits } in c)
+      (switching-is tm f.function (λ c. (t c).function) cf.is_signal_function)
+
+  pub switch_took : {A : CountedFunction → TimedList → Type 0} (v : Datum) (n : ℕ) → TakesSample A f q x v n → event_in (right v) ≡ None
+      → TakesSample (StandsVia (SwitchStands tm A t)) (counted_switch tm f t) q x (left v) (suc n)
+  switch_took v n tf h =
       let se : IsSignalFunction (rights f.function) = IsSignal-rights f.function cf.is_signal_function in
       let ch : IsCountedFunction (halved f) = IsCounted-halved f cf in
       let i' : first_event (rights f.function (q ++ x ∷ [])) ≡ None =
       switch_at_quiet (halved f) (rights f.function) over ch se q x i (answer-right v None tf.answered h) in
       record {
-        stands = Via-here (form f t) (q ++ x ∷ []) (record { f = f; is_f = cf; unseen = i'; first_part = tf.stands; same = refl });
+        stands = Via-here (counted_switch tm f t) (q ++ x ∷ []) (record { f = f; is_f = cf; unseen = i'; first_part = tf.stands; same = refl });
         answered = ap left tf.answered ∙ sym (answer-after left f.function cf.is_signal_function q x)
-            ∙ sym (answer_quiet (halved f) (rights f.function) over ch se q x i') ∙ ap (λ s. answer s.function q x) (sym is);
+            ∙ sym (answer_quiet (halved f) (rights f.function) over ch se q x i') ∙ ap (λ s. answer s.function q x) (sym switch-is);
         counted = tally-halved f cf q x n tf.counted ∙ sym (tally_quiet (halved f) (rights f.function) over ch se q x i')
-            ∙ ap (λ s. visits_at s.visits q x) (sym is);
+            ∙ ap (λ s. visits_at s.visits q x) (sym switch-is);
       }
 
-  pub switch_took : {A : CountedFunction → TimedList → Type 0} (v : Datum) (n : ℕ) → TakesSample A f q x v n → event_in (right v) ≡ None
-      → TakesSample (StandsVia (SwitchStands counted_switch A t)) (counted_switch f t) q x (left v) (suc n)
-  switch_took v n tf h = quiet_took counted_switch (λ c p d. t c) refl v n tf h
+  -- what ran before, kept for the event's sample
+  abbrev kept_back : SignalFunction
+  kept_back = resume (lefts f.function) q x.0
 
-  pub switch_over_took : {A P : CountedFunction → TimedList → Type 0} (v c y : Datum) (m n : ℕ) → IsCountedFunction (t c) → TakesSample A f q x v m
-      → event_in (right v) ≡ Some c → TakesSample (StandsVia P) (t c) [] x y n → TakesSample (StandsVia P) (counted_switch f t) q x y (suc m + n)
-  switch_over_took {A} {P} v c y m n ct tf h tg =
-      switch_at_took (halved f) (rights f.function) (λ c p d. t c) (IsCounted-halved f cf) (IsSignal-rights f.function cf.is_signal_function) {P = P} q x c y
-      (suc m) n ct i
-      (event_is (answer (rights f.function) q x) c (answer-right v (Some c) tf.answered h)) (tally-halved f cf q x m tf.counted) tg
-
-  -- what takes over in `dSwitch`, and the switch with it
-  abbrev lately_counted : Datum → TimedList → ℕ → CountedFunction
-  lately_counted c p d = record { function = lately f.function (λ c. (t c).function) c p d; visits = (t c).visits }
-
-  d_switch-is : counted_d_switch f t ≡ counted_switch_at (halved f) (rights f.function) lately_counted
-  d_switch-is = ap (λ s. let c : CountedFunction = record { function = s; visits = (counted_d_switch f t).visits } in c)
-      (switching_late-is f.function (λ c. (t c).function) cf.is_signal_function)
-
-  pub d_switch_took : {A : CountedFunction → TimedList → Type 0} (v : Datum) (n : ℕ) → TakesSample A f q x v n → event_in (right v) ≡ None
-      → TakesSample (StandsVia (SwitchStands counted_d_switch A t)) (counted_d_switch f t) q x (left v) (suc n)
-  d_switch_took v n tf h = quiet_took counted_d_switch lately_counted d_switch-is v n tf h
-
-  IsSignal-kept_back : IsSignalFunction (resume (lefts f.function) q x.0)
+  IsSignal-kept_back : IsSignalFunction kept_back
   IsSignal-kept_back = IsSignal-resume (lefts f.function) (IsSignal-lefts f.function cf.is_signal_function) q x.0
 
-  pub d_switch_over_took : {A P : CountedFunction → TimedList → Type 0} (v c y : Datum) (m n : ℕ) → IsCountedFunction (t c) → TakesSample A f q x v m
-      → event_in (right v) ≡ Some c → TakesSample (StandsVia P) (t c) [] x y n → TakesSample (StandsVia P) (counted_d_switch f t) q x (left v) (suc m + n)
-  d_switch_over_took {A} {P} v c y m n ct tf h tg =
-      let back : SignalFunction = resume (lefts f.function) q x.0 in
-      let over : TakesSample (StandsVia P) (lately_counted c q x.0) [] x (left v) n = record {
-        stands = Via-continues (lately_counted c q x.0) (t c) (x ∷ []) (x ∷ [])
-            (record { answers = λ r z. answer-late back (t c).function ct.is_signal_function x r z; tallies = λ r z. refl }) tg.stands;
-        answered = ap left tf.answered ∙ sym (answer-after left f.function cf.is_signal_function q x)
-            ∙ sym (answer-resume_first (lefts f.function) (IsSignal-lefts f.function cf.is_signal_function) q x.0 x)
-            ∙ sym (answer-late_first back (t c).function IsSignal-kept_back ct.is_signal_function x);
+  pub switch_over_took : {A P : CountedFunction → TimedList → Type 0} (v c y : Datum) (m n : ℕ) → IsCountedFunction (t c) → TakesSample A f q x v m
+      → event_in (right v) ≡ Some c → TakesSample (StandsVia P) (t c) [] x y n
+      → TakesSample (StandsVia P) (counted_switch tm f t) q x (heard tm (left v) y) (suc m + n)
+  switch_over_took {A} {P} v c y m n ct tf h tg =
+      let sl : IsSignalFunction (lefts f.function) = IsSignal-lefts f.function cf.is_signal_function in
+      let left_now : left v ≡ answer kept_back [] x =
+      ap left tf.answered ∙ sym (answer-after left f.function cf.is_signal_function q x) ∙ sym (answer-resume_first (lefts f.function) sl q x.0 x) in
+      let starts : TakesSample (StandsVia P) (over c q x.0) [] x (heard tm (left v) y) n = record {
+        stands = Via-continues (over c q x.0) (t c) (x ∷ []) (x ∷ [])
+            (record { answers = λ r z. answer-late tm kept_back (t c).function ct.is_signal_function x r z; tallies = λ r z. refl }) tg.stands;
+        answered = heard-first tm kept_back (t c).function IsSignal-kept_back ct.is_signal_function x (left v) y left_now tg.answered;
         counted = tg.counted;
       } in
-      subst (λ d. TakesSample (StandsVia P) d q x (left v) (suc m + n)) (sym d_switch-is) (
-      switch_at_took (halved f) (rights f.function) lately_counted (IsCounted-halved f cf) (IsSignal-rights f.function cf.is_signal_function) {P = P} q x c
-      (left v) (suc m) n
+      subst (λ d. TakesSample (StandsVia P) d q x (heard tm (left v) y) (suc m + n)) (sym switch-is) (
+      switch_at_took (halved f) (rights f.function) over (IsCounted-halved f cf) (IsSignal-rights f.function cf.is_signal_function) {P = P} q x c
+      (heard tm (left v) y) (suc m) n
       (record {
-        is_signal_function = IsSignal-late back (t c).function IsSignal-kept_back ct.is_signal_function;
+        is_signal_function = IsSignal-late tm kept_back (t c).function IsSignal-kept_back ct.is_signal_function;
         heaviest = ct.heaviest;
         is_count =
             ct.is_count;
       }) i
-      (event_is (answer (rights f.function) q x) c (answer-right v (Some c) tf.answered h)) (tally-halved f cf q x m tf.counted) over)
+      (event_is (answer (rights f.function) q x) c (answer-right v (Some c) tf.answered h)) (tally-halved f cf q x m tf.counted) starts)
 
 module _ (f e : CountedFunction) (cf : IsCountedFunction f) (ce : IsCountedFunction e) where
   pub IsCounted-watched : IsCountedFunction (counted_watch f e)
@@ -229,8 +224,7 @@ module _ (f e : CountedFunction) (cf : IsCountedFunction f) (ce : IsCountedFunct
     heaviest = suc (cf.heaviest + ce.heaviest);
     is_count = IsCount-and_one (cf.heaviest + ce.heaviest) _
         (IsCount-added cf.heaviest ce.heaviest f.visits (λ xs. e.visits (pair_samples xs (f.function xs))) cf.is_count
-        (IsCount-before ce.heaviest (λ xs. pair_samples xs (f.function xs)) e.visits
-        (λ xs. length-zip_with _ xs (f.function xs) (cf.is_signal_function.sized xs)) ce.is_count));
+        (IsCount-beside ce.heaviest _ f.function cf.is_signal_function e.visits ce.is_count));
   }
 
   -- any switch whose event e sees on f's input and output

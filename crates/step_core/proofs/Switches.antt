@@ -5,34 +5,30 @@ use Rattle.std.proofs.lemmas.List.{length-append}
 use Rattle.cell_core.specs.Cell.{Cell}
 use Rattle.sample_core.specs.Datum.{Datum, left, right, pair, int, list, list_of}
 use Rattle.leaf_core.specs.KeyTree.{KeyTree}
-use Rattle.net_tree.specs.Network.{Network, Networks, seq, par, loop_pre, switch, d_switch, dr_switch, k_switch, p_switch, old, no_members, and_member}
+use Rattle.net_tree.specs.Network.{Timing, delayed, Network, Networks, seq, par, loop_pre, switch, r_switch, k_switch, p_switch, old, no_members, and_member}
 use Rattle.net_meaning.specs.Typing.{members}
 use Rattle.net_tree.specs.Weight.{weight, total}
-use Rattle.state_core.specs.State.{State, Scope, Frozen, switch_state, d_switch_state, k_switch_state, p_switch_state, and_state, and_frozen, unstarted, paused, params_of, frozens_of, frozen_at, push_param, push_old, push_olds}
+use Rattle.state_core.specs.State.{State, Scope, Frozen, switch_state, k_switch_state, p_switch_state, and_state, and_frozen, unstarted, paused, params_of, frozens_of, frozen_at, push_param, push_old, push_olds}
 use Rattle.state_core.specs.Tree.{Kept, wider, width_of, width, joined, nothing, one_place, head_state, member_states, running}
 use Rattle.step_core.specs.Called.{Called}
 use Rattle.step_core.specs.Flow.{Past, past_behind, flowed, all_flowed, placed, all_placed, standing, Flows, Runs, AllRun}
 use Rattle.step_core.specs.Outcome.{outcome}
 use Rattle.step_core.specs.Rank.{ranks_in, frozen_rank, frozen_ranks}
 use Rattle.step_core.specs.Runs as R
-use Rattle.step_core.specs.Runs.{RunsWhere, RunEachWhere, SwitchBy, DSwitchBy, KSwitchBy, PSwitchBy, by_row}
-use Rattle.step_core.specs.Stepping.{event_in}
+use Rattle.step_core.specs.Runs.{RunsWhere, RunEachWhere, SwitchBy, KSwitchBy, PSwitchBy, by_row}
+use Rattle.step_core.specs.Stepping.{event_in, heard}
 use Rattle.step_core.specs.Switching.{ListRuns}
-use Rattle.step_core.proofs.Falling.{members_fall, par_falls, dr_switch_within, k_switch_within, p_switch_within, old_falls, over_old_weighs, over_olds_weighs}
-use Rattle.step_core.proofs.Flows.{also_by, par_by, dr_switch_by}
+use Rattle.step_core.proofs.Falling.{members_fall, par_falls, delayed_within, k_switch_within, p_switch_within, old_falls, over_old_weighs, over_olds_weighs}
+use Rattle.step_core.proofs.Flows.{also_by, par_by, r_switch_by}
 use Rattle.step_core.proofs.Kepts.{behind_both, from_start, state_at, joined_assoc, joined_nothing, width_joined, members_more, behind_members}
 use Rattle.step_core.proofs.Ranks.{ranks-param}
-use Rattle.step_core.proofs.RunForms.{switch_goes, switch_fires, d_switch_goes, d_switch_fires, k_switch_goes, k_switch_fires, old_runs}
+use Rattle.step_core.proofs.RunForms.{switch_goes, switch_fires, k_switch_goes, k_switch_fires, old_runs}
 use Rattle.step_core.proofs.RunMembers.{none_runs, also_runs, p_switch_goes, p_switch_fires}
 
 -- the parts of what runs
-pub switch_by : (f t : Network ℕ) (s : Scope ℕ) (p : Past) → SwitchBy (standing (switch f t) s p) (placed f s p) t s
-switch_by f t s None = R.switch_new
-switch_by f t s (Some k) = R.switch_on
-
-pub d_switch_by : (f t : Network ℕ) (s : Scope ℕ) (p : Past) → DSwitchBy (standing (d_switch f t) s p) (placed f s p) t s
-d_switch_by f t s None = R.d_switch_new
-d_switch_by f t s (Some k) = R.d_switch_on
+pub switch_by : (tm : Timing) (f t : Network ℕ) (s : Scope ℕ) (p : Past) → SwitchBy tm (standing (switch tm f t) s p) (placed f s p) t s
+switch_by tm f t s None = R.switch_new
+switch_by tm f t s (Some k) = R.switch_on
 
 pub k_switch_by : (f e t : Network ℕ) (s : Scope ℕ) (p : Past)
     → KSwitchBy (standing (k_switch f e t) s p) (placed f s p) (placed e s (past_behind (0, 1) p)) t s
@@ -93,11 +89,6 @@ others_fall gs f fs s p before mid e w =
     let all : all_flowed gs s q ≡ and_frozen (flowed f s q) (all_flowed fs s (past_behind (width_of mid) p)) =
     ap (λ hs. all_flowed hs s q) e ∙ also_by f fs s q ∙ ap (λ z. and_frozen (flowed f s q) (all_flowed fs s z)) (behind_both (width f) (width_of before) (width_of mid) p w) in
     (members_fall _ _ _ all).1
-
-pub first_falls : (gs : Networks ℕ) (f : Network ℕ) (fs : Networks ℕ) (s : Scope ℕ) (q : Past) → gs ≡ and_member f fs
-    → frozen_rank (flowed f s q) ≤ total (frozen_ranks (all_flowed gs s q))
-first_falls gs f fs s q e =
-    (members_fall (all_flowed gs s q) (flowed f s q) (all_flowed fs s (past_behind (width f) q)) (ap (λ hs. all_flowed hs s q) e ∙ also_by f fs s q)).0
 
 pub others_placed_fall : (gs : Networks ℕ) (f : Network ℕ) (fs : Networks ℕ) (s : Scope ℕ) (p : Past) (before mid : Kept ℕ) → gs ≡ and_member f fs
     → width_of mid ≡ wider (width_of before) (0, 1)
@@ -180,10 +171,10 @@ resumed_falls k s p f e h =
 
 -- what starts in a `drSwitch` is less than it
 pub late_start_falls : (f t : Network ℕ) (s : Scope ℕ) (q : Past) (u : Datum)
-    → frozen_rank (unstarted t (push_param s u)) < frozen_rank (flowed (dr_switch f t) s q)
+    → frozen_rank (unstarted t (push_param s u)) < frozen_rank (flowed (r_switch delayed f t) s q)
 late_start_falls f t s q u =
     let same : weight t (ranks_in (push_param s u)) ≡ weight t (ranks_in s) = ap (weight t) (ranks-param s u) in
-    omega (arith, same, dr_switch_within _ (placed f s q) t s (dr_switch_by f t s q))
+    omega (arith, same, delayed_within _ (placed f s q) t s (r_switch_by delayed f t s q))
 
 module _ (keys : List KeyTree) where
   -- the first part of what begins
@@ -200,42 +191,24 @@ module _ (keys : List KeyTree) where
       → RunsWhere keys (standing t s'' q) x a y n → RunsWhere keys (unstarted t s') x a y n
   begun_runs t s' s'' q x y a n e h r = subst (λ z. RunsWhere keys (unstarted t z) x a y n) e (subst (λ z. RunsWhere keys (standing t s'' z) x a y n) h r)
 
-  -- `switch`
-  pub switch_stays : (f t : Network ℕ) (s : Scope ℕ) (p : Past) (x v l y : Datum) (net : Network ℕ) (s0 : Scope ℕ) (before now last : Kept ℕ) (m c : ℕ)
-      → (net ≡ switch f t) × (s0 ≡ s) × (before ≡ nothing) → last ≡ now → Runs keys (placed f s (past_behind (0, length before.1) p)) x before now v m
-      → event_in (right v) ≡ None → l ≡ left v → y ≡ l → (suc (m + 0) < 2 ^ 32 → c ≡ suc (m + 0))
-      → RunsWhere keys (standing (switch f t) s p) x (running net s0 last) y c
-  switch_stays f t s p x v l y net s0 before now last m c b e r ev el ey hc =
+  -- `switch` and `dSwitch`
+  pub switch_stays : (tm : Timing) (f t : Network ℕ) (s : Scope ℕ) (p : Past) (x v l y : Datum) (net : Network ℕ) (s0 : Scope ℕ) (before now last : Kept ℕ)
+      (m c : ℕ) → (net ≡ switch tm f t) × (s0 ≡ s) × (before ≡ nothing) → last ≡ now
+      → Runs keys (placed f s (past_behind (0, length before.1) p)) x before now v m → event_in (right v) ≡ None → l ≡ left v → y ≡ l
+      → (suc (m + 0) < 2 ^ 32 → c ≡ suc (m + 0)) → RunsWhere keys (standing (switch tm f t) s p) x (running net s0 last) y c
+  switch_stays tm f t s p x v l y net s0 before now last m c b e r ev el ey hc =
       let one = first_run f s p x v before now m b.2 r in
-      let state : running net s0 last ≡ switch_state one.0 t s =
-      ap (λ n. running n s0 last) b.0 ∙ ap (λ z. running (switch f t) z last) b.1 ∙ ap (running (switch f t) s) (e ∙ one.1) in
-      switch_goes keys (placed f s p) t s x v y one.0 _ m c state (ey ∙ el) one.2 ev hc _ (switch_by f t s p)
+      let state : running net s0 last ≡ switch_state tm one.0 t s =
+      ap (λ n. running n s0 last) b.0 ∙ ap (λ z. running (switch tm f t) z last) b.1 ∙ ap (running (switch tm f t) s) (e ∙ one.1) in
+      switch_goes keys tm (placed f s p) t s x v y one.0 _ m c state (ey ∙ el) one.2 ev hc _ (switch_by tm f t s p)
 
-  pub switch_ends : (f t : Network ℕ) (s s' s'' : Scope ℕ) (p q : Past) (x v u y : Datum) (before now : Kept ℕ) (b : State ℕ) (m n c : ℕ) → before ≡ nothing
-      → Runs keys (placed f s (past_behind (0, length before.1) p)) x before now v m → event_in (right v) ≡ Some u → s' ≡ push_param s u → s'' ≡ s' → q ≡ None
-      → RunsWhere keys (standing t s'' q) x b y n → (suc (m + n) < 2 ^ 32 → c ≡ suc (m + n)) → RunsWhere keys (standing (switch f t) s p) x b y c
-  switch_ends f t s s' s'' p q x v u y before now b m n c e r ev es e2 eq two hc =
+  pub switch_ends : (tm : Timing) (f t : Network ℕ) (s s' s'' : Scope ℕ) (p q : Past) (x v u y z : Datum) (before now : Kept ℕ) (b : State ℕ) (m n c : ℕ)
+      → before ≡ nothing → Runs keys (placed f s (past_behind (0, length before.1) p)) x before now v m → event_in (right v) ≡ Some u → s' ≡ push_param s u
+      → s'' ≡ s' → q ≡ None → RunsWhere keys (standing t s'' q) x b y n → z ≡ heard tm (left v) y → (suc (m + n) < 2 ^ 32 → c ≡ suc (m + n))
+      → RunsWhere keys (standing (switch tm f t) s p) x b z c
+  switch_ends tm f t s s' s'' p q x v u y z before now b m n c e r ev es e2 eq two ez hc =
       let one = first_run f s p x v before now m e r in
-      switch_fires keys (placed f s p) t s s' x v u y one.0 b m n c es one.2 ev (begun_runs t s' s'' q x y b n e2 eq two) hc _ (switch_by f t s p)
-
-  -- `dSwitch`
-  pub d_switch_stays : (f t : Network ℕ) (s : Scope ℕ) (p : Past) (x v l y : Datum) (net : Network ℕ) (s0 : Scope ℕ) (before now last : Kept ℕ) (m c : ℕ)
-      → (net ≡ d_switch f t) × (s0 ≡ s) × (before ≡ nothing) → last ≡ now → Runs keys (placed f s (past_behind (0, length before.1) p)) x before now v m
-      → event_in (right v) ≡ None → l ≡ left v → y ≡ l → (suc (m + 0) < 2 ^ 32 → c ≡ suc (m + 0))
-      → RunsWhere keys (standing (d_switch f t) s p) x (running net s0 last) y c
-  d_switch_stays f t s p x v l y net s0 before now last m c b e r ev el ey hc =
-      let one = first_run f s p x v before now m b.2 r in
-      let state : running net s0 last ≡ d_switch_state one.0 t s =
-      ap (λ n. running n s0 last) b.0 ∙ ap (λ z. running (d_switch f t) z last) b.1 ∙ ap (running (d_switch f t) s) (e ∙ one.1) in
-      d_switch_goes keys (placed f s p) t s x v y one.0 _ m c state (ey ∙ el) one.2 ev hc _ (d_switch_by f t s p)
-
-  pub d_switch_ends : (f t : Network ℕ) (s s' s'' : Scope ℕ) (p q : Past) (x v l y u z : Datum) (before now : Kept ℕ) (b : State ℕ) (m n c : ℕ) → before ≡ nothing
-      → Runs keys (placed f s (past_behind (0, length before.1) p)) x before now v m → event_in (right v) ≡ Some u → s' ≡ push_param s u → s'' ≡ s' → q ≡ None
-      → RunsWhere keys (standing t s'' q) x b z n → l ≡ left v → y ≡ l → (suc (m + n) < 2 ^ 32 → c ≡ suc (m + n))
-      → RunsWhere keys (standing (d_switch f t) s p) x b y c
-  d_switch_ends f t s s' s'' p q x v l y u z before now b m n c e r ev es e2 eq two el ey hc =
-      let one = first_run f s p x v before now m e r in
-      d_switch_fires keys (placed f s p) t s s' x v u z y one.0 b m n c es (ey ∙ el) one.2 ev (begun_runs t s' s'' q x z b n e2 eq two) hc _ (d_switch_by f t s p)
+      switch_fires keys tm (placed f s p) t s s' x v u y z one.0 b m n c es ez one.2 ev (begun_runs t s' s'' q x y b n e2 eq two) hc _ (switch_by tm f t s p)
 
   -- what watches a first part
   watch_run : (e : Network ℕ) (s : Scope ℕ) (p : Past) (x y : Datum) (mid now : Kept ℕ) (a : State ℕ) (n : ℕ) → mid ≡ one_place a

@@ -4,6 +4,15 @@ use Rattle.sample_core.specs.Datum.{Datum}
 use Rattle.net_meaning.specs.SignalFunction.{TimedList, last_or}
 use Rattle.state_core.specs.Visits.{VisitCounts, add_counts, and_one, resume_counts}
 
+-- the last of a list, behind others, or without its first items
+pub last-behind : {A : Type 0} (a d : A) (ms ns : List A) → 0 < length ns → last_or a (ms ++ ns) ≡ last_or d ns
+last-behind a d [] [] l = absurd (omega arith)
+last-behind a d [] (n ∷ ns) l = refl
+last-behind a d (m ∷ ms) ns l = last-behind m d ms ns l
+
+pub last-later : {A : Type 0} (a d : A) (k : ℕ) (ns : List A) → k < length ns → last_or a (drop k ns) ≡ last_or d ns
+last-later a d k ns l = sym (last-behind d a (take k ns) (drop k ns) (omega (arith, length-drop k ns))) ∙ ap (last_or d) (take-append-drop k ns)
+
 -- the last count, 0 where there is none
 abbrev pub last_count : List ℕ → ℕ
 last_count ns = last_or 0 ns
@@ -25,14 +34,6 @@ pub last-and_one : (ns : List ℕ) → 0 < length ns → last_count (and_one ns)
 last-and_one [] l = absurd (omega arith)
 last-and_one (n ∷ ns) l = last-and_one_from n ns
 
-pub last-append_from : (a : ℕ) (ms ns : List ℕ) → 0 < length ns → last_or a (ms ++ ns) ≡ last_or 0 ns
-last-append_from a [] [] l = absurd (omega arith)
-last-append_from a [] (n ∷ ns) l = refl
-last-append_from a (m ∷ ms) ns l = last-append_from m ms ns l
-
-pub last-drop : (n : ℕ) (ns : List ℕ) → n < length ns → last_count (drop n ns) ≡ last_count ns
-last-drop n ns l = sym (last-append_from 0 (take n ns) (drop n ns) (omega (arith, length-drop n ns))) ∙ ap last_count (take-append-drop n ns)
-
 pub last-resume_counts : (v : VisitCounts) (p : TimedList) (d : ℕ) (x : ℕ × Datum) (xs : TimedList) → length p < length (v (p ++ (d, x.1) ∷ xs))
     → last_count (resume_counts v p d (x ∷ xs)) ≡ last_count (v (p ++ (d, x.1) ∷ xs))
-last-resume_counts v p d x xs l = last-drop (length p) (v (p ++ (d, x.1) ∷ xs)) l
+last-resume_counts v p d x xs l = last-later 0 0 (length p) (v (p ++ (d, x.1) ∷ xs)) l

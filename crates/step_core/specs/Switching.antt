@@ -1,8 +1,8 @@
 -- What takes over from a switch, and what its parts led to.
-use Rattle.std.specs.Prelude.{◌≡◌, ℕ, List, [], Option, Some, None}
+use Rattle.std.specs.Prelude.{◌≡◌, ℕ, List, [], Option, Some, None, Bool, true, false}
 use Rattle.sample_core.specs.Datum.{Datum, left, list, list_of}
 use Rattle.leaf_core.specs.KeyTree.{KeyTree}
-use Rattle.net_tree.specs.Network.{Network, Networks}
+use Rattle.net_tree.specs.Network.{Timing, at_once, delayed, Network, Networks}
 use Rattle.state_core.specs.RowsView.{rows_in}
 use Rattle.state_core.specs.State.{Scope, Frozen, params_of, chosen_frozen}
 use Rattle.state_core.specs.StateView.{kept_of, scope_of}
@@ -14,8 +14,13 @@ use Rattle.step_core.specs.Flow.{AllRun, MembersRun, Past, members_before}
 use Rattle.step_core.specs.Stepping.{event_in, restart_in}
 
 -- this network is to run in this scope, and keeps nothing yet
-abbrev pub Begins : Running → Network ℕ → Scope ℕ → Type 0
-Begins r net s = (rows_in r.net.now ≡ net) × (scope_of r.env ≡ s) × (kept_of r.kept ≡ nothing)
+abbrev pub BeginsAfter : Running → Network ℕ → Scope ℕ → Type 0
+BeginsAfter r net s = (rows_in r.net.now ≡ net) × (scope_of r.env ≡ s) × (kept_of r.kept ≡ nothing)
+
+-- a timing by whether it is `delayed`
+abbrev pub timing_of : Bool → Timing
+timing_of false = at_once
+timing_of true = delayed
 
 -- v was seen: where it is an event, what takes over has the scope that `into` makes of its value
 abbrev pub Fires : Datum → (Datum → Scope ℕ) → Option Env → Type 0

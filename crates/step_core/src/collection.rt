@@ -9,7 +9,7 @@ ghost use Rattle.state_core.specs.State.{paused};
 ghost use Rattle.state_core.specs.StateView.{frozen_of, kept_of, running_of, scope_of, state_of};
 ghost use Rattle.step_core.specs.Flow.{MembersRun, past_in, standing};
 ghost use Rattle.step_core.specs.Runs.{RunsWhere};
-ghost use Rattle.step_core.specs.Switching.{Begins, TurnedRun};
+ghost use Rattle.step_core.specs.Switching.{BeginsAfter, TurnedRun};
 
 use crate::choice::{Choice, chosen, first_members};
 use crate::on::{On, both, node};
@@ -32,7 +32,7 @@ pub(crate) fn run_collection<'n, R: Rows>(
     out: &mut Sample,
     choice: Choice<'n>,
 ) -> Result<u32, Memory>
-    requires { Begins running.old (rp_switch (map_networks row_number (members_of members.now))
+    requires { BeginsAfter running.old (rp_switch (map_networks row_number (members_of members.now))
         (row_number choice.chooser) (rows_in choice.starts.now)) (scope_of on.now.env.now) }
     ensures { IfOk result (λ n. RunsWhere (R.keys on.now.rows.now)
         (standing (rp_switch (map_networks row_number (members_of members.entry.now))

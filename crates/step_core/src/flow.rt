@@ -2,7 +2,7 @@
 
 ghost use Rattle.std.specs.Prelude.{◌≡◌, ◌≢◌, ◌<◌, ◌++◌, ◌∷◌, [], None, Some, IfOk, MatchOption, length, map, slice_get, slice_set};
 ghost use Rattle.sample_core.specs.{Datum.Datum, Datum.left, Datum.pair, Datum.right, ValueView.datum_of};
-ghost use Rattle.net_tree.specs.Network.{map_networks, seq, first, par, loop_pre, initial_out, initial_in, accum_by, r_switch, dr_switch};
+ghost use Rattle.net_tree.specs.Network.{map_networks, seq, first, par, loop_pre, initial_out, initial_in, accum_by, at_once, delayed, r_switch};
 ghost use Rattle.net_tree.specs.NetworkView.{members_of};
 ghost use Rattle.cell_core.specs.Cell.{previous};
 ghost use Rattle.state_core.specs.RowsView.{rows_in, row_number};
@@ -521,7 +521,7 @@ fn flow_restart<'n, R: Rows>(
     t: &'n Net<LeafId>,
 ) -> Result<u32, Memory>
     ensures { IfOk result (λ n. Flows (R.keys on.now.rows.now)
-        (r_switch (rows_in f.entry.now) (rows_in t.entry.now))
+        (r_switch at_once (rows_in f.entry.now) (rows_in t.entry.now))
         (scope_of on.now.env.now) (past_in on.now.before on.now.dt) (datum_of x.now)
         (kept_of kept.old) (kept_of kept.new) (datum_of out.new) n) }
 {
@@ -549,7 +549,7 @@ fn flow_late_restart<'n, R: Rows>(
     t: &'n Net<LeafId>,
 ) -> Result<u32, Memory>
     ensures { IfOk result (λ n. Flows (R.keys on.now.rows.now)
-        (dr_switch (rows_in f.entry.now) (rows_in t.entry.now))
+        (r_switch delayed (rows_in f.entry.now) (rows_in t.entry.now))
         (scope_of on.now.env.now) (past_in on.now.before on.now.dt) (datum_of x.now)
         (kept_of kept.old) (kept_of kept.new) (datum_of out.new) n) }
 {

@@ -1,8 +1,8 @@
 // One sample through what runs at a place of its own.
 
 ghost use Rattle.std.specs.Prelude.{◌≡◌, ◌<◌, ◌^◌, [], IfOk, length, map, pos};
-ghost use Rattle.sample_core.specs.{Datum.int, Datum.pair, ValueView.datum_of};
-ghost use Rattle.net_tree.specs.Network.{map_networks, initial_out, initial_in, switch, d_switch, k_switch, p_switch, old};
+ghost use Rattle.sample_core.specs.{Datum.int, Datum.left, Datum.pair, ValueView.datum_of};
+ghost use Rattle.net_tree.specs.Network.{map_networks, initial_out, initial_in, switch, k_switch, p_switch, old};
 ghost use Rattle.net_tree.specs.NetworkView.{members_of};
 ghost use Rattle.state_core.specs.RowsView.{rows_in, row_number};
 ghost use Rattle.state_core.specs.State.{paused, push_param as with_param, unstarted};
@@ -10,7 +10,8 @@ ghost use Rattle.state_core.specs.StateView.{frozen_of, kept_of, running_of, sco
 ghost use Rattle.step_core.specs.Called.{Called};
 ghost use Rattle.step_core.specs.Flow.{AllRun, Runs, past_behind, past_in, placed, standing};
 ghost use Rattle.step_core.specs.Runs.{RunsWhere};
-ghost use Rattle.step_core.specs.Switching.{Begins, ListRuns};
+ghost use Rattle.step_core.specs.Stepping.{heard};
+ghost use Rattle.step_core.specs.Switching.{BeginsAfter, ListRuns, timing_of};
 
 use crate::choice::Choice;
 use crate::collection::run_collection;
@@ -250,8 +251,20 @@ fn run_in<'n, R: Rows>(
         _ => running.renew(net, on.env)?,
     }
     match net {
-        Net::Switch(f, t) => run_switch(on, f.get(), x, running, out, t.get()),
-        Net::DSwitch(f, t) => run_d_switch(on, f.get(), x, running, out, t.get()),
+        Net::Switch(f, t) => {
+            let over = Over {
+                net: t.get(),
+                delayed: false,
+            };
+            run_switch(on, f.get(), x, running, out, over)
+        }
+        Net::DSwitch(f, t) => {
+            let over = Over {
+                net: t.get(),
+                delayed: true,
+            };
+            run_switch(on, f.get(), x, running, out, over)
+        }
         Net::KSwitch(f, e, t) => {
             let rest = Rest {
                 watch: e.get(),
@@ -285,6 +298,13 @@ fn run_in<'n, R: Rows>(
     }
 }
 
+/// What takes over from a switch, and whether what ran before is still heard at the event.
+#[derive(Clone, Copy)]
+struct Over<'n> {
+    net: &'n Net<LeafId>,
+    delayed: bool,
+}
+
 /// What watches the parts of a switch, and what takes over from it.
 #[derive(Clone, Copy)]
 struct Rest<'n> {
@@ -299,7 +319,8 @@ struct Members<'n> {
     nets: &'n [Net<LeafId>],
 }
 
-/// `switch`: at an event the network that takes over answers.
+/// `switch` and `dSwitch`: at an event another network takes over, and what is heard is its answer
+/// or still that of its part.
 #[cycle(run)]
 #[inline(never)]
 fn run_switch<'n, R: Rows>(
@@ -308,12 +329,13 @@ fn run_switch<'n, R: Rows>(
     x: &Sample,
     running: &mut Running<'n>,
     out: &mut Sample,
-    t: &'n Net<LeafId>,
+    over: Over<'n>,
 ) -> Result<u32, Memory>
-    requires { Begins running.old (switch (rows_in f.now) (rows_in t.now))
-        (scope_of on.now.env.now) }
+    requires { BeginsAfter running.old (switch (timing_of over.delayed) (rows_in f.now)
+        (rows_in over.net.now)) (scope_of on.now.env.now) }
     ensures { IfOk result (λ n. RunsWhere (R.keys on.now.rows.now)
-        (standing (switch (rows_in f.entry.now) (rows_in t.entry.now)) (scope_of on.now.env.now)
+        (standing (switch (timing_of over.entry.delayed) (rows_in f.entry.now)
+        (rows_in over.entry.net.now)) (scope_of on.now.env.now)
         (past_in on.now.before on.now.dt))
         (datum_of x.now) (running_of running.new) (datum_of out.new) n) }
 {
@@ -321,9 +343,11 @@ fn run_switch<'n, R: Rows>(
     match run_place(on, f, x, &mut running.kept, &mut answer) {
         Ok(one) => match fire(on.alloc, second(&answer), on.env) {
             Ok(Some(env)) => {
-                let two = run_in(&on.started(&env), t, x, running, out);
+                let two = run_in(&on.started(&env), over.net, x, running, out);
+                let done = hear(on.alloc, over.delayed, &answer, out);
                 drop(answer);
                 drop(env);
+                done?;
                 Ok(node(one, two?))
             }
             Ok(None) => {
@@ -345,55 +369,17 @@ fn run_switch<'n, R: Rows>(
     }
 }
 
-/// `dSwitch`: at an event its part still answers.
-#[cycle(run)]
-#[inline(never)]
-fn run_d_switch<'n, R: Rows>(
-    on: &On<'_, 'n, R>,
-    f: &'n Net<LeafId>,
-    x: &Sample,
-    running: &mut Running<'n>,
-    out: &mut Sample,
-    t: &'n Net<LeafId>,
-) -> Result<u32, Memory>
-    requires { Begins running.old (d_switch (rows_in f.now) (rows_in t.now))
-        (scope_of on.now.env.now) }
-    ensures { IfOk result (λ n. RunsWhere (R.keys on.now.rows.now)
-        (standing (d_switch (rows_in f.entry.now) (rows_in t.entry.now)) (scope_of on.now.env.now)
-        (past_in on.now.before on.now.dt))
-        (datum_of x.now) (running_of running.new) (datum_of out.new) n) }
+/// What is heard of a switch at an event: what took over, which stands in its place, or what ran
+/// before.
+#[inline(always)]
+fn hear(alloc: Global, delayed: bool, before: &Sample, out: &mut Sample) -> Result<(), Memory>
+    ensures { IfOk result (λ _. datum_of out.new
+        ≡ heard (timing_of delayed) (left (datum_of before.now)) (datum_of out.old)) }
 {
-    let mut answer = Sample::Int(0);
-    match run_place(on, f, x, &mut running.kept, &mut answer) {
-        Ok(one) => match fire(on.alloc, second(&answer), on.env) {
-            Ok(fired) => {
-                let done = out.put_copy(on.alloc, first(&answer));
-                drop(answer);
-                match fired {
-                    Some(env) => {
-                        let mut unheard = Sample::Int(0);
-                        let two = run_in(&on.started(&env), t, x, running, &mut unheard);
-                        drop(env);
-                        drop(unheard);
-                        done?;
-                        Ok(node(one, two?))
-                    }
-                    None => {
-                        done?;
-                        running.kept.end();
-                        Ok(node(one, 0))
-                    }
-                }
-            }
-            Err(memory) => {
-                drop(answer);
-                Err(memory)
-            }
-        },
-        Err(memory) => {
-            drop(answer);
-            Err(memory)
-        }
+    if delayed {
+        out.put_copy(alloc, first(before))
+    } else {
+        Ok(())
     }
 }
 
@@ -408,7 +394,7 @@ fn run_k_switch<'n, R: Rows>(
     out: &mut Sample,
     rest: Rest<'n>,
 ) -> Result<u32, Memory>
-    requires { Begins running.old (k_switch (rows_in f.now) (rows_in rest.watch.now)
+    requires { BeginsAfter running.old (k_switch (rows_in f.now) (rows_in rest.watch.now)
         (rows_in rest.over.now)) (scope_of on.now.env.now) }
     ensures { IfOk result (λ n. RunsWhere (R.keys on.now.rows.now)
         (standing (k_switch (rows_in f.entry.now) (rows_in rest.entry.watch.now)
@@ -444,7 +430,7 @@ fn run_p_switch<'n, R: Rows>(
     out: &mut Sample,
     rest: Rest<'n>,
 ) -> Result<u32, Memory>
-    requires { Begins running.old (p_switch (row_number members.router)
+    requires { BeginsAfter running.old (p_switch (row_number members.router)
         (map_networks row_number (members_of members.nets.now))
         (rows_in rest.watch.now) (rows_in rest.over.now)) (scope_of on.now.env.now) }
     ensures { IfOk result (λ n. RunsWhere (R.keys on.now.rows.now)

@@ -11,7 +11,7 @@ use Rattle.sample_core.specs.ReadingLaws.{ReadingLaw}
 use Rattle.sample_core.specs.TypeTree.{TypeTree}
 use Rattle.sample_core.specs.ValueView.{datum_of}
 use Rattle.sample_core.specs.declared.sample.Sample.{Sample}
-use Rattle.stream_text.specs.Calls.{MayTakeNext, step_of}
+use Rattle.stream_text.specs.Calls.{MayTakeNext, step_alone}
 use Rattle.stream_text.specs.Answers.{ReaderState, SameLast, TakesLine, AnswersSample, TakesNext, KnownLine, ended, shown, last, FaultyLine, known_bytes, Unfinished, HasFault, IsAnswer, GivesAnswer, GivesStep}
 use Rattle.stream_text.specs.LineAhead.{IsAhead}
 use Rattle.stream_text.specs.LineTaken.{TakesKept, TakesLast}
@@ -29,6 +29,7 @@ use Rattle.stream_text.specs.declared.settle.Settled.TheVariants as T
 use Rattle.stream_text.proofs.Lines.{has_line, one_line}
 use Rattle.stream_text.proofs.Settling.{none_read}
 use Rattle.stream_text.proofs.Samples.{refused_of_text, shown_no_sample, read_typed, read_step}
+use Rattle.stream_text.specs.declared.line.TheConstants.{MOST_SAMPLES}
 
 -- the state with the bytes that are kept after reading on, and the number of reads
 abbrev pub read_on : ReaderState → List ℕ → ℕ → ReaderState
@@ -210,7 +211,7 @@ before_kept law A s s' has has' (Ok None) b h = same_before A s s' h.gives.same 
 before_kept law A s s' has has' (Err fault) b h = same_before A s s' h.gives.same b
 
 -- a line that is kept whole and holds a sample is taken
-pub next_taken : (A : TypeTree) (s s' : ReaderState) (d size : ℕ) (value : Option Sample) → s.lines < 1000000 → s.met ≡ M.Nothing → s.before ≢ None
+pub next_taken : (A : TypeTree) (s s' : ReaderState) (d size : ℕ) (value : Option Sample) → s.lines < MOST_SAMPLES → s.met ≡ M.Nothing → s.before ≢ None
     → IsAhead A s.kept d size value → s'.kept ≡ drop (size + 1) s.kept → s'.lines ≡ suc s.lines
     → ((v : Datum) → s.before ≡ Some v → s'.before ≡ Some (value_behind v value)) → s'.met ≡ s.met → s'.reads ≡ s.reads → TakesNext A s d s'
 next_taken A s s' d size value few m some ahead kept lines keeps met reads = go s.before refl
@@ -297,13 +298,13 @@ next_before law A s s' (Some d) b h = subst (IsBefore A s'.lines) (sym h.takes.k
 
 -- an answer is one with the step alone
 step_answers : (A : TypeTree) (s s' : ReaderState) (has has' : Option (List ℕ)) (answer : Result (Option (ℕ × Sample)) StreamFault)
-    → GivesAnswer A s has answer s' has' → GivesStep A s has (step_of answer) s' has'
+    → GivesAnswer A s has answer s' has' → GivesStep A s has (step_alone answer) s' has'
 step_answers A s s' has has' (Ok (Some x)) h = (x.1, h)
 step_answers A s s' has has' (Ok None) h = h
 step_answers A s s' has has' (Err fault) h = h
 
 -- where nothing was told before, and all was as it was
 pub step_given : (A : TypeTree) (s same s' : ReaderState) (has has' : Option (List ℕ)) (answer : Result (Option (ℕ × Sample)) StreamFault)
-    (step : Result (Option ℕ) StreamFault) → same ≡ s → step ≡ step_of answer → GivesAnswer A same has answer s' has' → GivesStep A s has step s' has'
+    (step : Result (Option ℕ) StreamFault) → same ≡ s → step ≡ step_alone answer → GivesAnswer A same has answer s' has' → GivesStep A s has step s' has'
 step_given A s same s' has has' answer step e q h =
     subst (λ r. GivesStep A s has r s' has') (sym q) (step_answers A s s' has has' answer (subst (λ t. GivesAnswer A t has answer s' has') e h))

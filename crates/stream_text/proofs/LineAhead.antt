@@ -21,6 +21,7 @@ use Rattle.stream_text.proofs.FeedFree.{cons_free, decimal_free, equals_free, fr
 use Rattle.stream_text.proofs.LineLaws.{line_law}
 use Rattle.stream_text.proofs.StepLaws.{step_law}
 use Rattle.stream_text.proofs.WholeValues.{whole_values}
+use Rattle.stream_text.specs.declared.line.TheConstants.{MOST_BYTES}
 
 -- bytes without line feed, in front of one, are all that stands before the first
 feed_behind : (line more : List ℕ) → IsFeedFree line → IsFirstFeed (line ++ (10 ∷ more)) (length line)
@@ -68,7 +69,7 @@ behind_within bytes rest d e =
 
 -- a step, and behind it the end of a line, are the line
 pub is_ahead : ReadingLaw → (A : TypeTree) (bytes rest : List ℕ) (d size taken : ℕ) (value : Option Sample) → step_in bytes ≡ Some (d, rest)
-    → EndsLine A rest taken value → size + length rest ≡ length bytes + taken → length bytes ≤ 65537 → IsAhead A bytes d size value
+    → EndsLine A rest taken value → size + length rest ≡ length bytes + taken → length bytes ≤ MOST_BYTES + 1 → IsAhead A bytes d size value
 is_ahead law A bytes rest d size taken value e h same short = record {
   feed = subst (λ k. IsFirstFeed bytes k) (sym size_is)
       (subst (λ bs. IsFirstFeed bs (length line)) (sym bytes_are) (feed_behind line h.more (line_free d value)));

@@ -11,11 +11,12 @@ use Rattle.sample_core.specs.declared.fault.ValueFault.{ValueFault}
 use Rattle.sample_core.specs.declared.fault.ValueFault.TheVariants as V
 use Rattle.stream_text.specs.LineFaults.{IsWithinLimits, BeginsWithPlus, ValueFaulty, none_in_front, goes_on, LineFaulty, too_many, too_long, first_with_plus, nothing_before, first_no_value, later_no_step, later_no_value, LineFaultLaw}
 use Rattle.stream_text.specs.LineLaws.{StepLaw}
-use Rattle.stream_text.specs.StepText.{behind, step_in}
+use Rattle.stream_text.specs.StepText.{stripped, step_in}
 use Rattle.stream_text.specs.StreamText.{if_whole, whole_value, with_step, later_line, line_after, line_read}
 use Rattle.stream_text.specs.declared.fault.StreamFault.{StreamFault}
 use Rattle.stream_text.specs.declared.fault.StreamFault.TheVariants as S
 use Rattle.stream_text.proofs.LineLaws.{behind_limits}
+use Rattle.stream_text.specs.declared.line.TheConstants.{MOST_SAMPLES, MOST_BYTES}
 
 -- what the fault of bytes in the place of a value tells of them
 abbrev ValueFaultOf : TypeTree → ℕ → List ℕ → StreamFault → Type 0
@@ -40,7 +41,7 @@ faulty_value A n d bs f (goes_on {v = v} {taken = taken} q t) =
     let p : nat_eq taken (length bs) ≡ false = grind (arith, nat_tests, t) in
     ap (λ r. with_step d (if_whole n (length bs) r)) q ∙ ap (λ b. with_step d (if b then Ok v else Err (S.Value n (V.NotAValue taken)))) p
 
-plus : (line : List ℕ) → is_some (behind 43 line) ≡ true → BeginsWithPlus line
+plus : (line : List ℕ) → is_some (stripped 43 line) ≡ true → BeginsWithPlus line
 plus [] h = absurd (cc)
 plus (c ∷ cs) h = go (nat_eq c 43) refl h
   where
@@ -48,13 +49,13 @@ plus (c ∷ cs) h = go (nat_eq c 43) refl h
     go true q e = (cs, ap (λ k. k ∷ cs) (eqb-true c 43 q))
     go false q e = absurd (cc)
 
-plus_found : (line : List ℕ) → BeginsWithPlus line → is_some (behind 43 line) ≡ true
-plus_found line h = ap (λ k. is_some (behind 43 k)) h.1
+plus_found : (line : List ℕ) → BeginsWithPlus line → is_some (stripped 43 line) ≡ true
+plus_found line h = ap (λ k. is_some (stripped 43 k)) h.1
 
-no_plus : (line : List ℕ) → (BeginsWithPlus line → ⊥) → is_some (behind 43 line) ≡ false
-no_plus line h = go (is_some (behind 43 line)) refl
+no_plus : (line : List ℕ) → (BeginsWithPlus line → ⊥) → is_some (stripped 43 line) ≡ false
+no_plus line h = go (is_some (stripped 43 line)) refl
   where
-    go : (b : Bool) → is_some (behind 43 line) ≡ b → is_some (behind 43 line) ≡ false
+    go : (b : Bool) → is_some (stripped 43 line) ≡ b → is_some (stripped 43 line) ≡ false
     go true q = absurd (h (plus line q))
     go false q = q
 
@@ -70,7 +71,7 @@ differs bs q e = let p : bytes_eq bs (codes "=") ≡ true = (bytes_eq-Decides bs
 
 module _ (A : TypeTree) (n : ℕ) (line : List ℕ) where
   first_faulty : (fault : StreamFault) → IsWithinLimits n line → line_after A n None line ≡ Err fault → LineFaulty A n line None fault
-  first_faulty fault l h = plus_or (is_some (behind 43 line)) refl h
+  first_faulty fault l h = plus_or (is_some (stripped 43 line)) refl h
     where
       same_or : (BeginsWithPlus line → ⊥) → (b : Bool) → bytes_eq line (codes "=") ≡ b
           → (if b then Err (S.NothingBefore n) else with_step 0 (whole_value A n line)) ≡ Err fault → LineFaulty A n line None fault
@@ -79,12 +80,12 @@ module _ (A : TypeTree) (n : ℕ) (line : List ℕ) where
       same_or m false q e = let v : ValueFaultOf A n line fault = value_faulty A n 0 line fault e in
           subst (λ f. LineFaulty A n line None f) v.1 (first_no_value l m (differs line q) v.2)
 
-      plus_or : (b : Bool) → is_some (behind 43 line) ≡ b
+      plus_or : (b : Bool) → is_some (stripped 43 line) ≡ b
           → (if b then Err (S.Step n) else (if bytes_eq line (codes "=") then Err (S.NothingBefore n) else with_step 0 (whole_value A n line))) ≡ Err fault
           → LineFaulty A n line None fault
       plus_or true q e = let i : S.Step n ≡ fault = cc in
           subst (λ f. LineFaulty A n line None f) i (first_with_plus l (plus line q))
-      plus_or false q e = same_or (λ k. let p : is_some (behind 43 line) ≡ true = plus_found line k in cc) (bytes_eq line (codes "=")) refl e
+      plus_or false q e = same_or (λ k. let p : is_some (stripped 43 line) ≡ true = plus_found line k in cc) (bytes_eq line (codes "=")) refl e
 
   later_faulty : StepLaw → (v : Datum) (fault : StreamFault) → IsWithinLimits n line → line_after A n (Some v) line ≡ Err fault
       → LineFaulty A n line (Some v) fault
@@ -108,22 +109,22 @@ module _ (A : TypeTree) (n : ℕ) (line : List ℕ) where
   within_faulty step (Some v) fault l h = later_faulty step v fault l h
 
   faulty : StepLaw → (before : Option Datum) (fault : StreamFault) → line_read A n before line ≡ Err fault → LineFaulty A n line before fault
-  faulty step before fault h = many_or (nat_lt 1000000 n) refl h
+  faulty step before fault h = many_or (nat_lt MOST_SAMPLES n) refl h
     where
-      long_or : n ≤ 1000000 → (b : Bool) → nat_lt 65536 (length line) ≡ b → (if b then Err (S.LineTooLong n) else line_after A n before line) ≡ Err fault
+      long_or : n ≤ MOST_SAMPLES → (b : Bool) → nat_lt MOST_BYTES (length line) ≡ b → (if b then Err (S.LineTooLong n) else line_after A n before line) ≡ Err fault
           → LineFaulty A n line before fault
       long_or m true q e = let i : S.LineTooLong n ≡ fault = cc in
           subst (λ f. LineFaulty A n line before f) i (too_long m (grind (arith, nat_tests, q)))
       long_or m false q e = within_faulty step before fault (m, grind (arith, nat_tests, q)) e
 
-      many_or : (b : Bool) → nat_lt 1000000 n ≡ b
-          → (if b then Err (S.TooManySamples n) else (if nat_lt 65536 (length line) then Err (S.LineTooLong n) else line_after A n before line)) ≡ Err fault
+      many_or : (b : Bool) → nat_lt MOST_SAMPLES n ≡ b
+          → (if b then Err (S.TooManySamples n) else (if nat_lt MOST_BYTES (length line) then Err (S.LineTooLong n) else line_after A n before line)) ≡ Err fault
           → LineFaulty A n line before fault
       many_or true q e = let i : S.TooManySamples n ≡ fault = cc in
           subst (λ f. LineFaulty A n line before f) i (too_many (grind (arith, nat_tests, q)))
-      many_or false q e = long_or (grind (arith, nat_tests, q)) (nat_lt 65536 (length line)) refl e
+      many_or false q e = long_or (grind (arith, nat_tests, q)) (nat_lt MOST_BYTES (length line)) refl e
 
-  rest_of_first : (p q : Bool) → is_some (behind 43 line) ≡ p → bytes_eq line (codes "=") ≡ q
+  rest_of_first : (p q : Bool) → is_some (stripped 43 line) ≡ p → bytes_eq line (codes "=") ≡ q
       → line_after A n None line ≡ (if p then Err (S.Step n) else (if q then Err (S.NothingBefore n) else with_step 0 (whole_value A n line)))
   rest_of_first p q e f =
       ap (λ b. if b then Err (S.Step n) else (if bytes_eq line (codes "=") then Err (S.NothingBefore n) else with_step 0 (whole_value A n line))) e
@@ -131,17 +132,17 @@ module _ (A : TypeTree) (n : ℕ) (line : List ℕ) where
 
   told : StepLaw → (before : Option Datum) (fault : StreamFault) → LineFaulty A n line before fault → line_read A n before line ≡ Err fault
   told step before fault (too_many m) =
-      let q : nat_lt 1000000 n ≡ true = grind (arith, nat_tests, m) in
-      ap (λ b. if b then Err (S.TooManySamples n) else (if nat_lt 65536 (length line) then Err (S.LineTooLong n) else line_after A n before line)) q
+      let q : nat_lt MOST_SAMPLES n ≡ true = grind (arith, nat_tests, m) in
+      ap (λ b. if b then Err (S.TooManySamples n) else (if nat_lt MOST_BYTES (length line) then Err (S.LineTooLong n) else line_after A n before line)) q
   told step before fault (too_long m l) =
-      let p : nat_lt 1000000 n ≡ false = grind (arith, nat_tests, m) in
-      let q : nat_lt 65536 (length line) ≡ true = grind (arith, nat_tests, l) in
-      ap (λ b. if b then Err (S.TooManySamples n) else (if nat_lt 65536 (length line) then Err (S.LineTooLong n) else line_after A n before line)) p
+      let p : nat_lt MOST_SAMPLES n ≡ false = grind (arith, nat_tests, m) in
+      let q : nat_lt MOST_BYTES (length line) ≡ true = grind (arith, nat_tests, l) in
+      ap (λ b. if b then Err (S.TooManySamples n) else (if nat_lt MOST_BYTES (length line) then Err (S.LineTooLong n) else line_after A n before line)) p
       ∙ ap (λ b. if b then Err (S.LineTooLong n) else line_after A n before line) q
   told step before fault (first_with_plus l h) = behind_limits A n None line l.0 l.1 ∙ rest_of_first true (bytes_eq line (codes "=")) (plus_found line h) refl
   told step before fault (nothing_before l e) =
       behind_limits A n None line l.0 l.1
-      ∙ rest_of_first false true (ap (λ k. is_some (behind 43 k)) e) ((bytes_eq-Decides line (codes "=")).1 e)
+      ∙ rest_of_first false true (ap (λ k. is_some (stripped 43 k)) e) ((bytes_eq-Decides line (codes "=")).1 e)
   told step before fault (first_no_value {fault = f} l m e v) =
       behind_limits A n None line l.0 l.1 ∙ rest_of_first false false (no_plus line m) (not_same line e) ∙ faulty_value A n 0 line f v
   told step before fault (later_no_step {v = v} l m) = behind_limits A n (Some v) line l.0 l.1 ∙ ap (later_line A n v) (go (step_in line) refl)

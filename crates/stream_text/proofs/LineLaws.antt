@@ -13,11 +13,12 @@ use Rattle.sample_core.specs.HasType.{HasType, int_has}
 use Rattle.sample_core.specs.Spelling.{spelling}
 use Rattle.sample_core.specs.TypeTree.{TypeTree}
 use Rattle.stream_text.specs.LineLaws.{WholeValueLaw, IsStepped, StepLaw, HoldsSample, LineLaw}
-use Rattle.stream_text.specs.StepText.{behind, step_in}
+use Rattle.stream_text.specs.StepText.{stripped, step_in}
 use Rattle.stream_text.specs.StreamText.{whole_value, with_step, later_line, line_after, line_read}
 use Rattle.stream_text.specs.declared.fault.StreamFault.TheVariants as S
 use Rattle.stream_text.proofs.Samples.{from_else, with_step_from, after_limits, read_few}
 use Rattle.stream_text.proofs.Steps.{digit_in_range}
+use Rattle.stream_text.specs.declared.line.TheConstants.{MOST_SAMPLES, MOST_BYTES}
 
 -- bytes begin neither with `+` nor with `=`
 abbrev pub Begins : List ℕ → Type 0
@@ -58,10 +59,10 @@ spelling_begins no_event A t = begins 110 _ refl refl
 spelling_begins (event v) A t = begins 40 _ refl refl
 spelling_begins (list vs) A t = begins 40 _ refl refl
 
-no_plus : (bs : List ℕ) → Begins bs → is_some (behind 43 bs) ≡ false
+no_plus : (bs : List ℕ) → Begins bs → is_some (stripped 43 bs) ≡ false
 no_plus bs b =
     let n : nat_eq b.0 43 ≡ false = not_eq b.0 43 b.3 in
-    ap (λ k. is_some (behind 43 k)) b.2 ∙ ap (λ p. is_some (if p then Some b.1 else None)) n
+    ap (λ k. is_some (stripped 43 k)) b.2 ∙ ap (λ p. is_some (if p then Some b.1 else None)) n
   where
     not_eq : (x y : ℕ) → x ≢ y → nat_eq x y ≡ false
     not_eq x y h = grind (arith, nat_tests)
@@ -73,17 +74,17 @@ no_equals bs b = go (bytes_eq bs (codes "=")) refl
     go true q = absurd (b.4 (let e : b.0 ∷ b.1 ≡ 61 ∷ [] = sym b.2 ∙ (bytes_eq-Decides bs (codes "=")).0 q in cc))
     go false q = refl
 
-short_line : (A : TypeTree) (n : ℕ) (before : Option Datum) (line : List ℕ) (x : ℕ × Datum) → line_read A n before line ≡ Ok x → length line ≤ 65536
-short_line A n before line x h = go (nat_lt 65536 (length line)) refl (from_else (nat_lt 1000000 n) _ _ x h)
+short_line : (A : TypeTree) (n : ℕ) (before : Option Datum) (line : List ℕ) (x : ℕ × Datum) → line_read A n before line ≡ Ok x → length line ≤ MOST_BYTES
+short_line A n before line x h = go (nat_lt MOST_BYTES (length line)) refl (from_else (nat_lt MOST_SAMPLES n) _ _ x h)
   where
-    go : (b : Bool) → nat_lt 65536 (length line) ≡ b → (if b then Err (S.LineTooLong n) else line_after A n before line) ≡ Ok x → length line ≤ 65536
+    go : (b : Bool) → nat_lt MOST_BYTES (length line) ≡ b → (if b then Err (S.LineTooLong n) else line_after A n before line) ≡ Ok x → length line ≤ MOST_BYTES
     go true q e = absurd (cc)
     go false q e = grind (arith, nat_tests, q)
 
 held : WholeValueLaw → StepLaw → (A : TypeTree) (n : ℕ) (before : Option Datum) (line : List ℕ) (x : ℕ × Datum) → line_after A n before line ≡ Ok x
     → HoldsSample A before line x
 held value step A n None line x h =
-    let one = from_else (is_some (behind 43 line)) _ _ x h in
+    let one = from_else (is_some (stripped 43 line)) _ _ x h in
     let two = from_else (bytes_eq line (codes "=")) _ _ x one in
     let w : (whole_value A n line ≡ Ok x.1) × (x.0 ≡ 0) = with_step_from 0 (whole_value A n line) x two in
     let v = (value A n line x.1).0 w.0 in
@@ -132,12 +133,12 @@ read value step A n (Some before) line x h = go h.2
         (no_equals rest (subst Begins (sym e.1) (spelling_begins x.1 A e.0)))
         ∙ ap (with_step x.0) ((value A n rest x.1).1 (e.0, e.1))
 
-pub behind_limits : (A : TypeTree) (n : ℕ) (before : Option Datum) (line : List ℕ) → n ≤ 1000000 → length line ≤ 65536
+pub behind_limits : (A : TypeTree) (n : ℕ) (before : Option Datum) (line : List ℕ) → n ≤ MOST_SAMPLES → length line ≤ MOST_BYTES
     → line_read A n before line ≡ line_after A n before line
 behind_limits A n before line l m =
-    let a : nat_lt 1000000 n ≡ false = grind (arith, nat_tests, l) in
-    let b : nat_lt 65536 (length line) ≡ false = grind (arith, nat_tests, m) in
-    ap (λ p. if p then Err (S.TooManySamples n) else (if nat_lt 65536 (length line) then Err (S.LineTooLong n) else line_after A n before line)) a
+    let a : nat_lt MOST_SAMPLES n ≡ false = grind (arith, nat_tests, l) in
+    let b : nat_lt MOST_BYTES (length line) ≡ false = grind (arith, nat_tests, m) in
+    ap (λ p. if p then Err (S.TooManySamples n) else (if nat_lt MOST_BYTES (length line) then Err (S.LineTooLong n) else line_after A n before line)) a
     ∙ ap (λ p. if p then Err (S.LineTooLong n) else line_after A n before line) b
 
 pub line_law : WholeValueLaw → StepLaw → LineLaw

@@ -13,12 +13,13 @@ use Rattle.sample_core.specs.ReadingLaws.{ReadingLaw}
 use Rattle.sample_core.specs.TypeTree.{TypeTree}
 use Rattle.sample_core.specs.declared.fault.ValueFault.{ValueFault}
 use Rattle.sample_core.specs.declared.fault.ValueFault.TheVariants as V
-use Rattle.stream_text.specs.StepText.{behind, is_step, step_then, step_if, step_in}
+use Rattle.stream_text.specs.StepText.{stripped, is_step, step_then, step_if, step_in}
 use Rattle.stream_text.specs.StreamText.{IsBefore, IsOfText, if_whole, whole_value, with_step, first_line, later_line, line_after, line_read}
 use Rattle.stream_text.specs.TextLines.{shows_fault}
 use Rattle.stream_text.specs.declared.fault.StreamFault.{StreamFault}
 use Rattle.stream_text.specs.declared.fault.StreamFault.TheVariants as S
 use Rattle.stream_text.proofs.Steps.{digit_in_range, next_value}
+use Rattle.stream_text.specs.declared.line.TheConstants.{MOST_SAMPLES, MOST_BYTES}
 
 -- what is answered where a test does not refuse
 pub from_else : {X : Type 0} (b : Bool) (f : StreamFault) (r : Result X StreamFault) (x : X) → (if b then Err f else r) ≡ Ok x → r ≡ Ok x
@@ -48,7 +49,7 @@ with_step_from d (Err f) x h = absurd (cc)
 first_typed : ReadingLaw → (A : TypeTree) (n : ℕ) (line : List ℕ) (x : ℕ × Datum) → first_line A n line ≡ Ok x → HasType x.1 A
 first_typed law A n line x h =
     let one : (if bytes_eq line (codes "=") then Err (S.NothingBefore n) else with_step 0 (whole_value A n line)) ≡ Ok x =
-    from_else (is_some (behind 43 line)) _ _ x h in
+    from_else (is_some (stripped 43 line)) _ _ x h in
     let two : with_step 0 (whole_value A n line) ≡ Ok x = from_else (bytes_eq line (codes "=")) _ _ x one in
     whole_typed law A n line x.1 (with_step_from 0 (whole_value A n line) x two).0
 
@@ -99,28 +100,28 @@ followed_is true d None s h = absurd (cc)
 followed_is false d o s h = absurd (cc)
 
 pub stepped_range : (line : List ℕ) (s : ℕ × List ℕ) → step_in line ≡ Some s → (1 ≤ s.0) × (s.0 < 2 ^ 63)
-stepped_range line s h = go (behind 43 line) h
+stepped_range line s h = go (stripped 43 line) h
   where
     go : (o : Option (List ℕ)) → step_if o ≡ Some s → (1 ≤ s.0) × (s.0 < 2 ^ 63)
     go None e = absurd (cc)
     go (Some bs) e =
         let ds : List ℕ = take_while is_ascii_digit bs in
         let f : (is_step ds ≡ true)
-        × (digits_value 10 ds ≡ s.0) = followed_is (is_step ds) (digits_value 10 ds) (behind 32 (drop (prefix_len is_ascii_digit bs) bs)) s e in
+        × (digits_value 10 ds ≡ s.0) = followed_is (is_step ds) (digits_value 10 ds) (stripped 32 (drop (prefix_len is_ascii_digit bs) bs)) s e in
         subst (λ n. (1 ≤ n) × (n < 2 ^ 63)) f.1 (step_range ds (first_of_while is_ascii_digit bs) f.0)
 
 -- behind the limits, the line is read by what it holds
 pub after_limits : (A : TypeTree) (n : ℕ) (before : Option Datum) (line : List ℕ) (x : ℕ × Datum) → line_read A n before line ≡ Ok x
     → line_after A n before line ≡ Ok x
-after_limits A n before line x h = from_else (nat_lt 65536 (length line)) _ _ x (from_else (nat_lt 1000000 n) _ _ x h)
+after_limits A n before line x h = from_else (nat_lt MOST_BYTES (length line)) _ _ x (from_else (nat_lt MOST_SAMPLES n) _ _ x h)
 
 -- a line that is read is one of the first 1,000,000
-pub read_few : (A : TypeTree) (n : ℕ) (before : Option Datum) (line : List ℕ) (x : ℕ × Datum) → line_read A n before line ≡ Ok x → n ≤ 1000000
-read_few A n before line x e = go (nat_lt 1000000 n) refl e
+pub read_few : (A : TypeTree) (n : ℕ) (before : Option Datum) (line : List ℕ) (x : ℕ × Datum) → line_read A n before line ≡ Ok x → n ≤ MOST_SAMPLES
+read_few A n before line x e = go (nat_lt MOST_SAMPLES n) refl e
   where
-    go : (b : Bool) → nat_lt 1000000 n ≡ b
-        → (if b then Err (S.TooManySamples n) else (if nat_lt 65536 (length line) then Err (S.LineTooLong n) else line_after A n before line)) ≡ Ok x
-        → n ≤ 1000000
+    go : (b : Bool) → nat_lt MOST_SAMPLES n ≡ b
+        → (if b then Err (S.TooManySamples n) else (if nat_lt MOST_BYTES (length line) then Err (S.LineTooLong n) else line_after A n before line)) ≡ Ok x
+        → n ≤ MOST_SAMPLES
     go true q h = absurd (cc)
     go false q h = grind (arith, nat_tests)
 
@@ -159,12 +160,12 @@ later_of_text A n before None = tt
 later_of_text A n before (Some (d, bs)) = either (bytes_eq bs (codes "=")) _ _ tt (whole_of_text A n d (length bs) (reading A bs))
 
 after_of_text : (A : TypeTree) (n : ℕ) (before : Option Datum) (line : List ℕ) → OfText (line_after A n before line)
-after_of_text A n None line = either (is_some (behind 43 line)) _ _ tt
+after_of_text A n None line = either (is_some (stripped 43 line)) _ _ tt
     (either (bytes_eq line (codes "=")) _ _ tt (whole_of_text A n 0 (length line) (reading A line)))
 after_of_text A n (Some before) line = later_of_text A n before (step_in line)
 
 read_of_text : (A : TypeTree) (n : ℕ) (before : Option Datum) (line : List ℕ) → OfText (line_read A n before line)
-read_of_text A n before line = either (nat_lt 1000000 n) _ _ tt (either (nat_lt 65536 (length line)) _ _ tt (after_of_text A n before line))
+read_of_text A n before line = either (nat_lt MOST_SAMPLES n) _ _ tt (either (nat_lt MOST_BYTES (length line)) _ _ tt (after_of_text A n before line))
 
 -- a line's fault is one that its text can have
 pub refused_of_text : (A : TypeTree) (n : ℕ) (before : Option Datum) (line : List ℕ) (fault : StreamFault) → line_read A n before line ≡ Err fault
@@ -174,7 +175,7 @@ refused_of_text A n before line fault e = subst OfText e (read_of_text A n befor
 -- a line that shows a fault holds no sample
 pub shown_no_sample : (A : TypeTree) (n : ℕ) (before : Option Datum) (line : List ℕ) (x : ℕ × Datum) → shows_fault n (length line) ≡ true
     → line_read A n before line ≡ Ok x → ⊥
-shown_no_sample A n before line x s e = go (nat_lt 1000000 n) (nat_lt 65536 (length line)) (nat_lt 0 (length line)) s e
+shown_no_sample A n before line x s e = go (nat_lt MOST_SAMPLES n) (nat_lt MOST_BYTES (length line)) (nat_lt 0 (length line)) s e
   where
     go : (many long some : Bool) → (long || (many && some)) ≡ true
         → (if many then Err (S.TooManySamples n) else (if long then Err (S.LineTooLong n) else line_after A n before line)) ≡ Ok x → ⊥
@@ -185,30 +186,27 @@ shown_no_sample A n before line x s e = go (nat_lt 1000000 n) (nat_lt 65536 (len
 -- where a line that shows a fault goes on, it shows the same
 pub shown_on : (A : TypeTree) (n : ℕ) (before : Option Datum) (line tail : List ℕ) (fault : StreamFault) → shows_fault n (length line) ≡ true
     → line_read A n before line ≡ Err fault → line_read A n before (line ++ tail) ≡ Err fault
-shown_on A n before line tail fault s e = go (nat_lt 1000000 n) refl (nat_lt 65536 (length line)) refl (nat_lt 0 (length line)) s e
+shown_on A n before line tail fault s e = go (nat_lt MOST_SAMPLES n) refl (nat_lt MOST_BYTES (length line)) refl (nat_lt 0 (length line)) s e
   where
-    reads : Bool → Bool → List ℕ → Result (ℕ × Datum) StreamFault
-    reads many long l = if many then Err (S.TooManySamples n) else (if long then Err (S.LineTooLong n) else line_after A n before l)
-
-    go : (many : Bool) → nat_lt 1000000 n ≡ many → (long : Bool) → nat_lt 65536 (length line) ≡ long → (some : Bool) → (long || (many && some)) ≡ true
+    go : (many : Bool) → nat_lt MOST_SAMPLES n ≡ many → (long : Bool) → nat_lt MOST_BYTES (length line) ≡ long → (some : Bool) → (long || (many && some)) ≡ true
         → (if many then Err (S.TooManySamples n) else (if long then Err (S.LineTooLong n) else line_after A n before line)) ≡ Err fault
         → line_read A n before (line ++ tail) ≡ Err fault
     go true m long l some q r =
-        ap (λ b. if b then Err (S.TooManySamples n) else (if nat_lt 65536 (length (line ++ tail)) then Err
+        ap (λ b. if b then Err (S.TooManySamples n) else (if nat_lt MOST_BYTES (length (line ++ tail)) then Err
         (S.LineTooLong n) else line_after A n before (line ++ tail))) m ∙ r
     go false m true l some q r =
-        let more : nat_lt 65536 (length (line ++ tail)) ≡ true = (let k : length
+        let more : nat_lt MOST_BYTES (length (line ++ tail)) ≡ true = (let k : length
         (line ++ tail) ≡ length line + length tail = length-append line tail in grind (arith, nat_tests, k, l)) in
-        ap (λ b. if b then Err (S.TooManySamples n) else (if nat_lt 65536 (length (line ++ tail)) then Err
+        ap (λ b. if b then Err (S.TooManySamples n) else (if nat_lt MOST_BYTES (length (line ++ tail)) then Err
         (S.LineTooLong n) else line_after A n before (line ++ tail))) m
         ∙ ap (λ b. if b then Err (S.LineTooLong n) else line_after A n before (line ++ tail)) more ∙ r
     go false m false l some q r = absurd (cc)
 
 -- bytes that show a fault are some
 pub shown_some : (n size : ℕ) → shows_fault n size ≡ true → 0 < size
-shown_some n size h = go (nat_lt 65536 size) refl (nat_lt 1000000 n) (nat_lt 0 size) refl h
+shown_some n size h = go (nat_lt MOST_BYTES size) refl (nat_lt MOST_SAMPLES n) (nat_lt 0 size) refl h
   where
-    go : (long : Bool) → nat_lt 65536 size ≡ long → (many some : Bool) → nat_lt 0 size ≡ some → (long || (many && some)) ≡ true → 0 < size
+    go : (long : Bool) → nat_lt MOST_BYTES size ≡ long → (many some : Bool) → nat_lt 0 size ≡ some → (long || (many && some)) ≡ true → 0 < size
     go true l many some s q = grind (arith, nat_tests, l)
     go false l true true s q = grind (arith, nat_tests, s)
     go false l true false s q = absurd (cc)

@@ -1,5 +1,5 @@
 -- Reading on, piece by piece.
-use Rattle.std.proofs.Common.{◌≡◌, ◌≤◌, ◌<◌, ◌+◌, ◌^◌, ℕ, false, List, [], ◌∷◌, ◌++◌, length, length-append, Option, Some, None, Result, Ok, Err, refl, sym, ap, ◌∙◌, subst, arith, append_assoc, append-nil, inl, inr, if◌then◌else◌}
+use Rattle.std.proofs.Common.{◌≡◌, ◌≤◌, ◌<◌, ◌+◌, ℕ, false, List, [], ◌∷◌, ◌++◌, length, length-append, Option, Some, None, Result, Ok, Err, refl, sym, ap, ◌∙◌, subst, arith, append_assoc, append-nil, inl, inr, if◌then◌else◌}
 use Rattle.std.specs.Prelude.{◌⊎◌}
 use Rattle.std.specs.Io.KnownBytes.{Consumes, IsAtEnd, Keeps}
 use Rattle.stream_text.specs.Pieces.{ArePieces, ReadPieces, Reads, bytes_read, piece_bytes}
@@ -11,6 +11,8 @@ use Rattle.stream_text.specs.declared.settle.Settled.{Settled}
 use Rattle.stream_text.specs.declared.settle.Settled.TheVariants as T
 use Rattle.stream_text.proofs.Lines.{front-free}
 use Rattle.stream_text.proofs.Pieces.{asks-more, bytes-behind, pieces-append, pieces-map}
+use Rattle.stream_text.specs.declared.kept.TheConstants.{PIECE}
+use Rattle.stream_text.specs.declared.settle.TheConstants.{MOST_READS}
 
 pub consumes_none : (has : Option (List ℕ)) → Consumes has has []
 consumes_none None = tt
@@ -36,17 +38,6 @@ pub record Asked (has has' : Option (List ℕ)) (n : ℕ) (kept kept' : List ℕ
   pub asks : AsksAsNeeded n kept pieces
   pub keeps : kept' ≡ kept ++ bytes_read pieces
   pub counts : reads' ≡ reads + length pieces
-
-pub asked_none : (has : Option (List ℕ)) (n : ℕ) (kept : List ℕ) (reads : ℕ) → Asked has has n kept kept reads reads
-asked_none has n kept reads = record {
-  pieces = [];
-  consumes = consumes_none has;
-  are = tt;
-  unread = λ e. refl;
-  asks = tt;
-  keeps = sym (append-nil kept);
-  counts = omega arith;
-}
 
 -- no pieces are those with one behind them
 no_more : (ps : ReadPieces) (p : Option (List ℕ)) → ps ++ p ∷ [] ≡ [] → ⊥
@@ -85,7 +76,7 @@ open_more has has' has'' n kept kept' kept'' reads reads' p h u e c a =
       counts = more.3;
     }
 
-some_bytes : (bytes : List ℕ) → 0 < length bytes → length bytes ≤ 4096 → ArePieces ⊥ (Some bytes ∷ [])
+some_bytes : (bytes : List ℕ) → 0 < length bytes → length bytes ≤ PIECE → ArePieces ⊥ (Some bytes ∷ [])
 some_bytes [] l m = absurd (omega arith)
 some_bytes (b ∷ bs) l m = (m, tt)
 
@@ -96,7 +87,7 @@ keeps_none (Some xs) (Some ys) k = sym k
 
 -- a piece more
 pub asked_more : (has has' has'' : Option (List ℕ)) (n : ℕ) (kept kept' kept'' piece : List ℕ) (reads reads' : ℕ) → Asked has has' n kept kept' reads reads'
-    → front_lines n kept' ≡ [] → kept'' ≡ kept' ++ piece → 0 < length piece → length piece ≤ 4096 → Consumes has' has'' piece
+    → front_lines n kept' ≡ [] → kept'' ≡ kept' ++ piece → 0 < length piece → length piece ≤ PIECE → Consumes has' has'' piece
     → Asked has has'' n kept kept'' reads (reads' + 1)
 asked_more has has' has'' n kept kept' kept'' piece reads reads' h u e l m c =
     open_more has has' has'' n kept kept' kept'' reads reads' (Some piece) h u e c (some_bytes piece l m)
@@ -148,7 +139,7 @@ read_settles has has' has'' n kept kept' kept'' reads reads' h u e k =
 
 -- no read may be made any more
 pub turns_settle : (has has' : Option (List ℕ)) (n : ℕ) (kept kept' : List ℕ) (reads reads' : ℕ) → Asked has has' n kept kept' reads reads'
-    → front_lines n kept' ≡ [] → reads' ≡ 2 ^ 40 → Settles has has' n kept kept' reads reads' (Err S.ReadTurns)
+    → front_lines n kept' ≡ [] → reads' ≡ MOST_READS → Settles has has' n kept kept' reads reads' (Err S.ReadTurns)
 turns_settle has has' n kept kept' reads reads' h u e = settles has has' n kept kept' reads reads' (Err S.ReadTurns) h ((u, h.are), e)
 
 -- where what is kept settles no line, what was kept first settles none

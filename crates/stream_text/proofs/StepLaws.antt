@@ -11,11 +11,11 @@ use Rattle.std.proofs.lemmas.Bool.Decides.{nat_tests}
 use Rattle.std.proofs.lemmas.Fmt.{decimal_nonempty, digits_decimal, digits_value-decimal, decimal-digits_value, first_decimal}
 use Rattle.std.proofs.lemmas.Str.Parse.{numerals_by_value, tells_all_ascii_digits}
 use Rattle.stream_text.specs.LineLaws.{IsStepped, StepLaw}
-use Rattle.stream_text.specs.StepText.{behind, is_step, step_then, step_if, step_in}
+use Rattle.stream_text.specs.StepText.{stripped, is_step, step_then, step_if, step_in}
 use Rattle.stream_text.proofs.Samples.{stepped_range}
 
 -- what stands behind a byte that stands first
-behind_is : (b : ℕ) (bs rest : List ℕ) → behind b bs ≡ Some rest → bs ≡ b ∷ rest
+behind_is : (b : ℕ) (bs rest : List ℕ) → stripped b bs ≡ Some rest → bs ≡ b ∷ rest
 behind_is b [] rest e = absurd (cc)
 behind_is b (c ∷ cs) rest e = go (nat_eq c b) refl e
   where
@@ -23,7 +23,7 @@ behind_is b (c ∷ cs) rest e = go (nat_eq c b) refl e
     go true q h = let i : c ≡ b = eqb-true c b q in let j : cs ≡ rest = cc in cc
     go false q h = absurd (cc)
 
-is_behind : (b : ℕ) (rest : List ℕ) → behind b (b ∷ rest) ≡ Some rest
+is_behind : (b : ℕ) (rest : List ℕ) → stripped b (b ∷ rest) ≡ Some rest
 is_behind b rest = let e : nat_eq b b ≡ true = grind (arith, nat_tests) in ap (λ p. if p then Some rest else None) e
 
 -- the digits in front, and what stands behind them
@@ -69,13 +69,13 @@ followed true d None e rest h = absurd (cc)
 followed false d o e rest h = absurd (cc)
 
 stepped_is : (line rest : List ℕ) (d : ℕ) → step_in line ≡ Some (d, rest) → IsStepped line d rest
-stepped_is line rest d h = go (behind 43 line) refl h
+stepped_is line rest d h = go (stripped 43 line) refl h
   where
-    go : (o : Option (List ℕ)) → behind 43 line ≡ o → step_if o ≡ Some (d, rest) → IsStepped line d rest
+    go : (o : Option (List ℕ)) → stripped 43 line ≡ o → step_if o ≡ Some (d, rest) → IsStepped line d rest
     go None q e = absurd (cc)
     go (Some bs) q e =
         let ds : List ℕ = take_while is_ascii_digit bs in
-        let f = followed (is_step ds) (digits_value 10 ds) (behind 32 (drop (prefix_len is_ascii_digit bs) bs)) d rest e in
+        let f = followed (is_step ds) (digits_value 10 ds) (stripped 32 (drop (prefix_len is_ascii_digit bs) bs)) d rest e in
         let r = stepped_range line (d, rest) h in
         let s = some_digit ds f.0 in
         let small : digits_value 10 ds < 2 ^ 64 = let k : digits_value 10 ds ≡ d = f.1 in omega (arith, k, r.1) in
@@ -105,8 +105,8 @@ is_stepped line rest d h =
     let front : take (prefix_len is_ascii_digit bs) bs ≡ decimal d = ap (λ k. take k bs) n ∙ take_seam (decimal d) (32 ∷ rest) in
     let after : drop (prefix_len is_ascii_digit bs) bs ≡ 32 ∷ rest = ap (λ k. drop k bs) n ∙ drop_seam (decimal d) (32 ∷ rest) in
     ap step_in h.2
-    ∙ ap (λ ds. step_then (is_step ds) (digits_value 10 ds) (behind 32 (drop (prefix_len is_ascii_digit bs) bs))) front
-    ∙ ap (λ r. step_then (is_step (decimal d)) (digits_value 10 (decimal d)) (behind 32 r)) after
+    ∙ ap (λ ds. step_then (is_step ds) (digits_value 10 ds) (stripped 32 (drop (prefix_len is_ascii_digit bs) bs))) front
+    ∙ ap (λ r. step_then (is_step (decimal d)) (digits_value 10 (decimal d)) (stripped 32 r)) after
     ∙ ap (λ o. step_then (is_step (decimal d)) (digits_value 10 (decimal d)) o) (is_behind 32 rest)
     ∙ ap (λ p. step_then p (digits_value 10 (decimal d)) (Some rest)) step
     ∙ ap (λ k. Some (k, rest)) value

@@ -1,5 +1,5 @@
 -- What the calls of a reader of lines answer.
-use Rattle.std.specs.Prelude.{◌≡◌, ◌≢◌, ◌⊎◌, ◌+◌, ◌^◌, ℕ, suc, true, List, [], ◌∷◌, ◌++◌, length, Option, Some, None, Result, Ok, Err}
+use Rattle.std.specs.Prelude.{◌≡◌, ◌≢◌, ◌⊎◌, ◌+◌, ℕ, suc, true, List, [], ◌∷◌, ◌++◌, length, Option, Some, None, Result, Ok, Err}
 use Rattle.std.specs.Io.KnownBytes.{IsAtEnd}
 use Rattle.sample_core.specs.Datum.{Datum}
 use Rattle.sample_core.specs.TypeTree.{TypeTree}
@@ -13,6 +13,7 @@ use Rattle.stream_text.specs.declared.fault.StreamFault.{StreamFault}
 use Rattle.stream_text.specs.declared.fault.StreamFault.TheVariants as S
 use Rattle.stream_text.specs.declared.reader.Met.{Met}
 use Rattle.stream_text.specs.declared.reader.Met.TheVariants as M
+use Rattle.stream_text.specs.declared.settle.TheConstants.{MOST_READS}
 
 -- the bytes that were read and not yet answered, how many lines were answered, the value that was
 -- answered last, how many reads were made, and what has ended the stream
@@ -91,7 +92,7 @@ abbrev pub HasFault : TypeTree → Type 0 → ReaderState → ReadPieces → Str
 HasFault A end s pieces S.Ended s' = s.met ≡ M.Fault
 HasFault A end s pieces S.Memory s' = s.met ≡ M.Nothing
 HasFault A end s pieces S.Read s' = Unfinished s pieces s'
-HasFault A end s pieces S.ReadTurns s' = Unfinished s pieces s' × (s'.reads ≡ 2 ^ 40)
+HasFault A end s pieces S.ReadTurns s' = Unfinished s pieces s' × (s'.reads ≡ MOST_READS)
 HasFault A end s pieces fault s' = (s.met ≡ M.Nothing)
     × FaultyLine A end s (known_bytes s pieces) fault
 

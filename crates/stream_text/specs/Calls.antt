@@ -22,7 +22,7 @@ MayTakeNext A s (Some d) s' = TakesNext A s d s'
 MayTakeNext A s None s' = s' ≡ s
 
 -- the answer with the sample's step alone
-abbrev pub step_of : Result (Option (ℕ × Sample)) StreamFault → Result (Option ℕ) StreamFault
-step_of (Ok (Some x)) = Ok (Some x.0)
-step_of (Ok None) = Ok None
-step_of (Err fault) = Err fault
+abbrev pub step_alone : Result (Option (ℕ × Sample)) StreamFault → Result (Option ℕ) StreamFault
+step_alone (Ok (Some x)) = Ok (Some x.0)
+step_alone (Ok None) = Ok None
+step_alone (Err fault) = Err fault

@@ -1,5 +1,5 @@
 -- What the answers of successive calls tell of a stream.
-use Rattle.std.specs.Prelude.{◌≡◌, ◌⊎◌, ◌^◌, ℕ, suc, List, [], ◌∷◌, ◌++◌, length, Option, Some, None, Ok, Err}
+use Rattle.std.specs.Prelude.{◌≡◌, ◌⊎◌, ℕ, suc, List, [], ◌∷◌, ◌++◌, length, Option, Some, None, Ok, Err}
 use Rattle.std.specs.Io.KnownBytes.{Consumes, IsAtEnd}
 use Rattle.sample_core.specs.Datum.{Datum}
 use Rattle.sample_core.specs.TypeTree.{TypeTree}
@@ -13,6 +13,7 @@ use Rattle.stream_text.specs.declared.fault.StreamFault.{StreamFault}
 use Rattle.stream_text.specs.declared.fault.StreamFault.TheVariants as S
 use Rattle.stream_text.specs.declared.reader.Met.{Met}
 use Rattle.stream_text.specs.declared.reader.Met.TheVariants as M
+use Rattle.stream_text.specs.declared.settle.TheConstants.{MOST_READS}
 
 -- P holds of the text that begins with the bytes that were read: of these alone, where there are no
 -- more, or of every text that begins with them
@@ -116,4 +117,4 @@ UnreadLaw = (A : TypeTree) (has has' has'' : Option (List ℕ)) (s s' : ReaderSt
 abbrev pub TurnsLaw : Type 0
 TurnsLaw = (A : TypeTree) (has has' has'' : Option (List ℕ)) (s s' : ReaderState)
     (p : List (ℕ × Datum)) → Heard A has has' s p → GivesAnswer A s has' (Err S.ReadTurns) s' has''
-    → HeardFront A has has'' p (2 ^ 40)
+    → HeardFront A has has'' p MOST_READS

@@ -9,6 +9,7 @@ use Rattle.sample_core.specs.declared.sample.Sample.{Sample}
 use Rattle.stream_text.specs.StreamText.{line_read}
 use Rattle.stream_text.specs.StreamView.{value_behind}
 use Rattle.stream_text.specs.TextLines.{IsFirstFeed}
+use Rattle.stream_text.specs.declared.line.TheConstants.{MOST_SAMPLES}
 
 -- what stands behind a later line's step: its value's spelling, where it writes one, and else `=`
 abbrev pub behind_step : Option Sample → List ℕ
@@ -29,5 +30,5 @@ pub record EndsLine (A : TypeTree) (bytes : List ℕ) (size : ℕ) (value : Opti
 pub record IsAhead (A : TypeTree) (bytes : List ℕ) (d size : ℕ) (value : Option Sample) : Type 0
   where
     pub feed : IsFirstFeed bytes size
-    pub reads : (n : ℕ) (before : Datum) → n ≤ 1000000
+    pub reads : (n : ℕ) (before : Datum) → n ≤ MOST_SAMPLES
         → line_read A n (Some before) (take size bytes) ≡ Ok (d, value_behind before value)

@@ -9,10 +9,11 @@ use Rattle.stream_text.specs.LineLaws.{IsStepped}
 use Rattle.stream_text.specs.StreamText.{line_read}
 use Rattle.stream_text.specs.declared.fault.StreamFault.{StreamFault}
 use Rattle.stream_text.specs.declared.fault.StreamFault.TheVariants as S
+use Rattle.stream_text.specs.declared.line.TheConstants.{MOST_SAMPLES, MOST_BYTES}
 
 -- the line is neither one too many nor too long
 abbrev pub IsWithinLimits : ℕ → List ℕ → Type 0
-IsWithinLimits n line = (n ≤ 1000000) × (length line ≤ 65536)
+IsWithinLimits n line = (n ≤ MOST_SAMPLES) × (length line ≤ MOST_BYTES)
 
 -- the bytes begin with a `+`
 abbrev pub BeginsWithPlus : List ℕ → Type 0
@@ -28,9 +29,9 @@ pub data ValueFaulty (A : TypeTree) (bs : List ℕ) : ValueFault → Type 0 wher
 -- before which no value is, and the later lines.
 pub data LineFaulty (A : TypeTree) (n : ℕ) (line : List ℕ) : Option Datum → StreamFault → Type 0
   where
-    too_many : {before : Option Datum} → 1000000 < n
+    too_many : {before : Option Datum} → MOST_SAMPLES < n
         → LineFaulty A n line before (S.TooManySamples n)
-    too_long : {before : Option Datum} → n ≤ 1000000 → 65536 < length line
+    too_long : {before : Option Datum} → n ≤ MOST_SAMPLES → MOST_BYTES < length line
         → LineFaulty A n line before (S.LineTooLong n)
     first_with_plus : IsWithinLimits n line → BeginsWithPlus line
         → LineFaulty A n line None (S.Step n)

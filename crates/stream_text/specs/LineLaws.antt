@@ -7,6 +7,7 @@ use Rattle.sample_core.specs.Spelling.{spelling}
 use Rattle.sample_core.specs.TypeTree.{TypeTree}
 use Rattle.stream_text.specs.StepText.{step_in}
 use Rattle.stream_text.specs.StreamText.{line_read, whole_value}
+use Rattle.stream_text.specs.declared.line.TheConstants.{MOST_SAMPLES, MOST_BYTES}
 
 -- bytes are read as a value of a type exactly where they are its spelling
 abbrev pub WholeValueLaw : Type 0
@@ -34,4 +35,4 @@ HoldsSample A (Some before) line x = (rest : List ℕ) × IsStepped line x.0 res
 abbrev pub LineLaw : Type 0
 LineLaw = (A : TypeTree) (n : ℕ) (before : Option Datum) (line : List ℕ) (x : ℕ × Datum)
     → line_read A n before line ≡ Ok x
-    ↔ ((n ≤ 1000000) × (length line ≤ 65536) × HoldsSample A before line x)
+    ↔ ((n ≤ MOST_SAMPLES) × (length line ≤ MOST_BYTES) × HoldsSample A before line x)

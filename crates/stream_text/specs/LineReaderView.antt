@@ -8,5 +8,5 @@ abbrev pub source_of : {R : Type 0} → LineReader R → R
 source_of r = r.source
 
 -- what is kept of the stream
-abbrev pub state_of : {R : Type 0} → LineReader R → ReaderState
-state_of r = reader_state r.state
+abbrev pub stream_state : {R : Type 0} → LineReader R → ReaderState
+stream_state r = reader_state r.state

@@ -3,12 +3,13 @@ use Rattle.std.specs.Prelude.{◌≡◌, ◌<◌, ◌≤◌, ℕ, List, [], ◌�
 use Rattle.std.specs.Io.KnownBytes.{Consumes, IsAtEnd, Keeps}
 use Rattle.stream_text.specs.declared.kept.Piece.{Piece}
 use Rattle.stream_text.specs.declared.kept.Piece.TheVariants as P
+use Rattle.stream_text.specs.declared.kept.TheConstants.{PIECE}
 
 -- The bytes that a reader has left, and those that are kept of it, before a read and after it: what
 -- it gave is kept behind the others; at the end that is nothing.
 abbrev pub KeepsPiece : Option (List ℕ) → Option (List ℕ) → List ℕ → List ℕ → Piece → Type 0
 KeepsPiece has has' kept kept' P.Bytes = (got : List ℕ) × (kept' ≡ kept ++ got)
-    × (0 < length got) × (length got ≤ 4096) × Consumes has has' got
+    × (0 < length got) × (length got ≤ PIECE) × Consumes has has' got
 KeepsPiece has has' kept kept' P.End = (kept' ≡ kept) × Keeps has has' × IsAtEnd has'
 KeepsPiece has has' kept kept' P.Failed = (kept' ≡ kept) × Keeps has has'
 
@@ -32,7 +33,7 @@ abbrev pub ArePieces : Type 0 → ReadPieces → Type 0
 ArePieces end [] = ⊤
 ArePieces end (None ∷ later) = ArePieces end later
 ArePieces end (Some [] ∷ later) = end × (later ≡ [])
-ArePieces end (Some bytes ∷ later) = (length bytes ≤ 4096) × ArePieces end later
+ArePieces end (Some bytes ∷ later) = (length bytes ≤ PIECE) × ArePieces end later
 
 -- Reads gave these pieces of the bytes that a reader had. Where none was made, it is as it was.
 pub record Reads (has : Option (List ℕ)) (pieces : ReadPieces) (has' : Option (List ℕ)) : Type 0

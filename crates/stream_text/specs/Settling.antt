@@ -1,5 +1,5 @@
 -- How far a reader is read to know the next line.
-use Rattle.std.specs.Prelude.{◌≡◌, ◌⊎◌, ◌+◌, ◌^◌, ℕ, true, List, [], ◌∷◌, ◌++◌, length, Option, Result, Ok, Err, ⊤}
+use Rattle.std.specs.Prelude.{◌≡◌, ◌⊎◌, ◌+◌, ℕ, true, List, [], ◌∷◌, ◌++◌, length, Option, Result, Ok, Err, ⊤}
 use Rattle.std.specs.Io.KnownBytes.{IsAtEnd}
 use Rattle.stream_text.specs.Pieces.{ArePieces, ReadPieces, Reads, bytes_read, piece_bytes}
 use Rattle.stream_text.specs.TextLines.{IsFeedFree, IsFirstFeed, front_lines, shows_fault}
@@ -7,6 +7,7 @@ use Rattle.stream_text.specs.declared.fault.StreamFault.{StreamFault}
 use Rattle.stream_text.specs.declared.fault.StreamFault.TheVariants as S
 use Rattle.stream_text.specs.declared.settle.Settled.{Settled}
 use Rattle.stream_text.specs.declared.settle.Settled.TheVariants as T
+use Rattle.stream_text.specs.declared.settle.TheConstants.{MOST_READS}
 
 -- line n of the kept bytes is the first so many: a line feed stands behind them, or they are all,
 -- and show a fault
@@ -31,7 +32,7 @@ abbrev pub IsSettled : Type 0 → ℕ → List ℕ → ReadPieces → ℕ → Re
 IsSettled end n kept pieces reads (Ok (T.Line size)) = SettlesLine n kept size
 IsSettled end n kept pieces reads (Ok T.Last) = end × IsFeedFree kept
 IsSettled end n kept pieces reads (Err S.Read) = IsUnsettled n kept pieces
-IsSettled end n kept pieces reads (Err S.ReadTurns) = IsUnsettled n kept pieces × (reads ≡ 2 ^ 40)
+IsSettled end n kept pieces reads (Err S.ReadTurns) = IsUnsettled n kept pieces × (reads ≡ MOST_READS)
 IsSettled end n kept pieces reads (Err _) = ⊥
 
 -- A reader was read, no further than line n needs. What it gave is kept behind the bytes before,

@@ -5,9 +5,9 @@ use Rattle.std.specs.List.{prefix_len, take_while}
 use Rattle.std.specs.Str.Parse.{digits_value}
 
 -- what stands behind the byte b, where it stands first
-abbrev pub behind : ℕ → List ℕ → Option (List ℕ)
-behind b [] = None
-behind b (c ∷ cs) = if nat_eq c b then Some cs else None
+abbrev pub stripped : ℕ → List ℕ → Option (List ℕ)
+stripped b [] = None
+stripped b (c ∷ cs) = if nat_eq c b then Some cs else None
 
 -- whether digits write a step: the first is not 0, and the number is below 2^63
 abbrev pub is_step : List ℕ → Bool
@@ -24,7 +24,7 @@ abbrev pub step_at_front : List ℕ → Option (ℕ × List ℕ)
 step_at_front bs =
     step_then (is_step (take_while is_ascii_digit bs))
     (digits_value 10 (take_while is_ascii_digit bs))
-    (behind 32 (drop (prefix_len is_ascii_digit bs) bs))
+    (stripped 32 (drop (prefix_len is_ascii_digit bs) bs))
 
 -- the step at the front, and what stands behind it and a space, where there are bytes
 abbrev pub step_if : Option (List ℕ) → Option (ℕ × List ℕ)
@@ -33,4 +33,4 @@ step_if (Some bs) = step_at_front bs
 
 -- The step of a line that begins with `+`, a step and a space, and what stands behind these.
 abbrev pub step_in : List ℕ → Option (ℕ × List ℕ)
-step_in line = step_if (behind 43 line)
+step_in line = step_if (stripped 43 line)

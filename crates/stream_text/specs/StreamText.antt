@@ -7,10 +7,11 @@ use Rattle.sample_core.specs.TypeTree.{TypeTree}
 use Rattle.sample_core.specs.Reading.{reading}
 use Rattle.sample_core.specs.declared.fault.ValueFault.{ValueFault}
 use Rattle.sample_core.specs.declared.fault.ValueFault.TheVariants as V
-use Rattle.stream_text.specs.StepText.{behind, step_in}
+use Rattle.stream_text.specs.StepText.{stripped, step_in}
 use Rattle.stream_text.specs.TextLines.{front_lines, lines_of}
 use Rattle.stream_text.specs.declared.fault.StreamFault.{StreamFault}
 use Rattle.stream_text.specs.declared.fault.StreamFault.TheVariants as S
+use Rattle.stream_text.specs.declared.line.TheConstants.{MOST_SAMPLES, MOST_BYTES}
 
 -- a value that was read off the front of so many bytes of line n is whole where it takes all of
 -- them
@@ -29,7 +30,7 @@ with_step d value = value >>= (λ v. Ok (d, v))
 
 -- line 1 is a value; its step is 0, since no network sees it
 abbrev pub first_line : TypeTree → ℕ → List ℕ → Result (ℕ × Datum) StreamFault
-first_line A n line = if is_some (behind 43 line) then Err (S.Step n)
+first_line A n line = if is_some (stripped 43 line) then Err (S.Step n)
     else (if bytes_eq line (codes "=") then Err (S.NothingBefore n)
     else with_step 0 (whole_value A n line))
 
@@ -53,8 +54,8 @@ line_after A n (Some before) line = later_line A n before (step_in line)
 -- The sample of line n, where the value before it is given; or what is wrong with the line. The
 -- limits come first.
 abbrev pub line_read : TypeTree → ℕ → Option Datum → List ℕ → Result (ℕ × Datum) StreamFault
-line_read A n before line = if nat_lt 1000000 n then Err (S.TooManySamples n)
-    else (if nat_lt 65536 (length line) then Err (S.LineTooLong n) else line_after A n before line)
+line_read A n before line = if nat_lt MOST_SAMPLES n then Err (S.TooManySamples n)
+    else (if nat_lt MOST_BYTES (length line) then Err (S.LineTooLong n) else line_after A n before line)
 
 -- a fault that a line's text can have
 abbrev pub IsOfText : StreamFault → Type 0

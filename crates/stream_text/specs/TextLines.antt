@@ -1,5 +1,6 @@
 -- A text as lines.
 use Rattle.std.specs.Prelude.{◌≡◌, ◌≢◌, ◌<◌, ◌+◌, ℕ, nat_eq, nat_lt, Bool, ◌&&◌, ◌||◌, List, [], ◌∷◌, ◌++◌, length, slice_index, take, if◌then◌else◌}
+use Rattle.stream_text.specs.declared.line.TheConstants.{MOST_SAMPLES, MOST_BYTES}
 
 -- no byte is a line feed
 abbrev pub IsFeedFree : List ℕ → Type 0
@@ -47,7 +48,7 @@ lines_of text = (split text).lines ++ last_line (split text).behind
 -- whether so many bytes without line feed, the front of line n, show already that it holds no
 -- sample: it is too long, or one line too many
 abbrev pub shows_fault : ℕ → ℕ → Bool
-shows_fault n size = nat_lt 65536 size || (nat_lt 1000000 n && nat_lt 0 size)
+shows_fault n size = nat_lt MOST_BYTES size || (nat_lt MOST_SAMPLES n && nat_lt 0 size)
 
 -- The lines of bytes that aren't known to be all, from line n on: those with their line feed, and
 -- what stands behind them where it shows its fault already.

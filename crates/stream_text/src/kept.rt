@@ -4,23 +4,20 @@ ghost use Rattle.std.specs.Prelude.{◌≡◌, ◌≤◌, ◌<◌, ◌++◌, ◌
 ghost use Rattle.stream_text.specs.TextLines.{IsFeedFree, IsFirstFeed};
 ghost use Rattle.std.specs.Io.KnownBytes.{Consumes, IsAtEnd, Keeps};
 ghost use Rattle.stream_text.specs.Pieces.{KeepsPiece};
+ghost use Rattle.stream_text.specs.declared.kept.TheConstants.{ROOM};
 
+use crate::line::{LINE_FEED, MOST_BYTES};
 use memchr::memchr;
 use sample_core::Memory;
 use std::alloc::Global;
 use std::io::{self, Read};
 use std::marker::Model;
 
-/// The most bytes of a line, without its line feed.
-pub const MOST_BYTES: usize = 65_536;
-
 /// The most bytes of a piece.
 const PIECE: usize = 4_096;
 
 /// Room for a line and a piece.
 const ROOM: usize = MOST_BYTES + PIECE;
-
-const LINE_FEED: u8 = b'\n';
 
 /// What a read of a piece gave.
 #[derive(Clone, Copy)]
@@ -51,7 +48,7 @@ impl Model for Pending {
     ghost view = { λ k. drop k.start k.bytes.items };
 
     ghost invariant = { λ k. (k.start + k.searched ≤ vec_len k.bytes)
-        × (69632 ≤ vec_capacity k.bytes)
+        × (ROOM ≤ vec_capacity k.bytes)
         × IsFeedFree (take k.searched (drop k.start k.bytes.items)) };
 }
 
@@ -134,7 +131,7 @@ impl Pending {
     /// Reads one piece of at most 4,096 bytes, and keeps it behind the others. There must be at
     /// most 65,536 bytes.
     pub fn fill<R: Read>(&mut self, source: &mut R) -> Piece
-        requires { length self.old ≤ 65536 }
+        requires { length self.old ≤ MOST_BYTES }
         ensures { KeepsPiece (R.remaining source.old) (R.remaining source.new) self.old self.new
             result }
     {
@@ -168,7 +165,7 @@ fn move_to_front(bytes: &mut Vec<u8>, start: usize)
 
 /// Reads a piece behind the bytes, which have room for it.
 fn read_behind<R: Read>(bytes: &mut Vec<u8>, source: &mut R) -> Piece
-    requires { vec_len bytes.old + 4096 ≤ vec_capacity bytes.old }
+    requires { vec_len bytes.old + PIECE ≤ vec_capacity bytes.old }
     ensures piece { KeepsPiece (R.remaining source.old) (R.remaining source.new) bytes.old.items
         bytes.new.items result }
     ensures capacity { vec_capacity bytes.old ≤ vec_capacity bytes.new }

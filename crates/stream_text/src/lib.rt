@@ -24,4 +24,5 @@ mod step_text;
 pub use device::{Counted, Device};
 pub use fault::StreamFault;
 pub use laws::stream_laws;
+pub use line::{MOST_BYTES, MOST_SAMPLES};
 pub use reader::{LineReader, LineState};

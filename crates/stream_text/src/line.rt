@@ -1,6 +1,6 @@
 // Samples of the lines of a stream's text.
 
-ghost use Rattle.std.specs.Prelude.{◌≤◌, IfSome, None, Some, length, if◌then◌else◌};
+ghost use Rattle.std.specs.Prelude.{◌≤◌, ◌+◌, IfSome, None, Some, length, if◌then◌else◌};
 ghost use Rattle.sample_core.specs.{ValueView.datum_of, TypeView.type_of};
 ghost use Rattle.stream_text.specs.LineAhead.{EndsLine, IsAhead};
 ghost use Rattle.stream_text.specs.StepText.{step_in};
@@ -13,12 +13,13 @@ use sample_core::{Sample, Ty, ValueFault, read_value, read_value_over, reading_l
 use std::alloc::Global;
 
 /// The most samples of a run.
-const MOST_SAMPLES: u64 = 1_000_000;
+pub const MOST_SAMPLES: u64 = 1_000_000;
 
 /// The most bytes of a line, without its line feed.
-const MOST_BYTES: usize = 65_536;
+pub const MOST_BYTES: usize = 65_536;
 
-const LINE_FEED: u8 = b'\n';
+/// What ends a line.
+pub const LINE_FEED: u8 = b'\n';
 
 /// The sample of a line, which has a value of the type, with the step that precedes it. Lines are
 /// numbered from 1, and `before` is the value of the line before; it is `None` for line 1, whose
@@ -122,7 +123,7 @@ pub fn read_ahead(
     bytes: &[u8],
     spare: &mut Sample,
 ) -> Option<(u64, bool, usize)>
-    requires { length bytes.now ≤ 65537 }
+    requires { length bytes.now ≤ MOST_BYTES + 1 }
     ensures { IfSome result (λ x. IsAhead (type_of ty.now) bytes.now x.0 x.2
         (if x.1 then Some spare.new else None)) }
 {

@@ -1,15 +1,17 @@
 // The samples of a stream, read from any reader.
 
-ghost use Rattle.std.specs.Prelude.{◌≡◌, ◌≤◌, ◌<◌, ◌^◌, IfOk, IfSome, None, Some, if◌then◌else◌};
+ghost use Rattle.std.specs.Prelude.{◌≡◌, ◌≤◌, ◌<◌, IfOk, IfSome, None, Some, if◌then◌else◌};
 ghost use Rattle.std.specs.Option.{option_map};
 ghost use Rattle.sample_core.specs.{Datum.Datum, HasType.HasType, TypeView.type_of, ValueView.datum_of};
-ghost use Rattle.stream_text.specs.{Calls.FailsBySource, Calls.LastFits, Calls.step_of, StreamView.value_behind};
+ghost use Rattle.stream_text.specs.{Calls.FailsBySource, Calls.LastFits, Calls.step_alone, StreamView.value_behind};
+ghost use Rattle.stream_text.specs.declared.line.TheConstants.{MOST_SAMPLES};
+ghost use Rattle.stream_text.specs.declared.settle.TheConstants.{MOST_READS};
 
 use crate::device::Device;
 use crate::fault::StreamFault;
-use crate::kept::{MOST_BYTES, Pending};
-use crate::line::{read_ahead, read_line};
-use crate::settle::{MOST_SAMPLES, Settled, settle};
+use crate::kept::Pending;
+use crate::line::{MOST_BYTES, MOST_SAMPLES, read_ahead, read_line};
+use crate::settle::{Settled, settle};
 use sample_core::{Memory, Sample, Ty, reading_laws};
 use std::alloc::Global;
 use std::io::Read;
@@ -41,12 +43,12 @@ pub struct LineState {
     spare: Sample,
     reads: u64,
     met: Met,
-    ghost few_lines: { lines ≤ 1000000 },
-    ghost few_reads: { reads ≤ 2 ^ 40 },
+    ghost few_lines: { lines ≤ MOST_SAMPLES },
+    ghost few_reads: { reads ≤ MOST_READS },
 }
 
 impl LineState {
-    ghost use Rattle.std.specs.Prelude.{◌≡◌, ◌≢◌, ◌≤◌, ◌<◌, ◌^◌, suc, length, None, Some};
+    ghost use Rattle.std.specs.Prelude.{◌≡◌, ◌≢◌, ◌≤◌, ◌<◌, ◌+◌, ◌^◌, suc, length, None, Some};
     ghost use Rattle.stream_text.specs.Answers.{GivesAnswer, GivesStep, IsFresh, SettlesNext};
     ghost use Rattle.stream_text.specs.Calls.{MayTakeNext};
     ghost use Rattle.stream_text.specs.LineTaken.{TakesKept, TakesLast, KeepsCopy};
@@ -95,7 +97,7 @@ impl LineState {
         ensures stepped { IfOk result (λ o. IfSome o (λ x. 0 < (reader_state self.old).lines
             → (1 ≤ x.0) × (x.0 < 2 ^ 63))) }
         ensures before { LastFits (type_of ty.now) (reader_state self.new) }
-        ensures few { (reader_state self.new).lines ≤ 1000000 }
+        ensures few { (reader_state self.new).lines ≤ MOST_SAMPLES }
     {
         // By these laws the sample is of the type.
         reading_laws();
@@ -124,7 +126,7 @@ impl LineState {
         ensures stepped { IfOk result (λ o. IfSome o (λ step. 0 < (reader_state self.old).lines
             → (1 ≤ step) × (step < 2 ^ 63))) }
         ensures before { LastFits (type_of ty.now) (reader_state self.new) }
-        ensures few { (reader_state self.new).lines ≤ 1000000 }
+        ensures few { (reader_state self.new).lines ≤ MOST_SAMPLES }
     {
         match self.next_kept(ty) {
             Some(step) => Ok(Some(step)),
@@ -142,7 +144,7 @@ impl LineState {
             (reader_state self.new) }
         ensures stepped { IfSome result (λ step. (1 ≤ step) × (step < 2 ^ 63)) }
         ensures before { LastFits (type_of ty.now) (reader_state self.new) }
-        ensures few { (reader_state self.new).lines ≤ 1000000 }
+        ensures few { (reader_state self.new).lines ≤ MOST_SAMPLES }
     {
         // By these laws the sample is of the type.
         reading_laws();
@@ -202,7 +204,7 @@ impl LineState {
     fn take_within(&mut self, ty: &Ty, most: usize) -> Option<u64>
         requires open { self.old.met ≡ M.Nothing }
         requires later { (reader_state self.old).before ≢ None }
-        requires short { most ≤ 65537 }
+        requires short { most ≤ MOST_BYTES + 1 }
         ensures { MayTakeNext (type_of ty.now) (reader_state self.old) result
             (reader_state self.new) }
     {
@@ -296,7 +298,7 @@ impl LineState {
         size: usize,
     ) -> Result<Option<(u64, Sample)>, StreamFault>
         requires within { size ≤ length self.old.kept }
-        requires few { (reader_state self.old).lines < 1000000 }
+        requires few { (reader_state self.old).lines < MOST_SAMPLES }
         ensures { KeepsCopy (reader_state self.old) (step, datum_of sample) size result
             (reader_state self.new) }
     {
@@ -326,12 +328,12 @@ pub struct LineReader<R: Drop> {
 impl<R: Read + Device + Drop> LineReader<R> {
     ghost use Rattle.std.specs.Prelude.{◌≡◌, ◌≤◌, ◌<◌, ◌^◌};
     ghost use Rattle.stream_text.specs.Answers.{GivesAnswer, IsFresh, SettlesNext};
-    ghost use Rattle.stream_text.specs.LineReaderView.{source_of, state_of};
+    ghost use Rattle.stream_text.specs.LineReaderView.{source_of, stream_state};
 
     /// The stream that the reader gives. `Memory`: there is no room for a line and a piece.
     pub fn new(alloc: Global, source: R) -> Result<LineReader<R>, Memory>
         ensures source { IfOk result (λ reader. source_of reader ≡ source) }
-        ensures fresh { IfOk result (λ reader. IsFresh (state_of reader)) }
+        ensures fresh { IfOk result (λ reader. IsFresh (stream_state reader)) }
     {
         match LineState::new(alloc) {
             Ok(state) => Ok(LineReader { source, state }),
@@ -344,18 +346,18 @@ impl<R: Read + Device + Drop> LineReader<R> {
 
     /// The next sample, as [`LineState::next`] answers it.
     pub fn next(&mut self, ty: &Ty) -> Result<Option<(u64, Sample)>, StreamFault>
-        requires { LastFits (type_of ty.now) (state_of self.old) }
-        ensures answers { GivesAnswer (type_of ty.now) (state_of self.old)
-            (R.remaining (source_of self.old)) result (state_of self.new)
+        requires { LastFits (type_of ty.now) (stream_state self.old) }
+        ensures answers { GivesAnswer (type_of ty.now) (stream_state self.old)
+            (R.remaining (source_of self.old)) result (stream_state self.new)
             (R.remaining (source_of self.new)) }
         ensures failed { FailsBySource (R.count (source_of self.old)) result
             (R.count (source_of self.new)) }
-        ensures unasked { SettlesNext (state_of self.old)
+        ensures unasked { SettlesNext (stream_state self.old)
             → source_of self.new ≡ source_of self.old }
         ensures typed { IfOk result (λ o. IfSome o (λ x. HasType (datum_of x.1) (type_of ty.now))) }
-        ensures stepped { IfOk result (λ o. IfSome o (λ x. 0 < (state_of self.old).lines
+        ensures stepped { IfOk result (λ o. IfSome o (λ x. 0 < (stream_state self.old).lines
             → (1 ≤ x.0) × (x.0 < 2 ^ 63))) }
-        ensures before { LastFits (type_of ty.now) (state_of self.new) }
+        ensures before { LastFits (type_of ty.now) (stream_state self.new) }
     {
         let failures = self.source.failures();
         self.state.next(&mut self.source, failures, ty)
@@ -367,7 +369,7 @@ impl<R: Read + Device + Drop> LineReader<R> {
 fn step_alone(
     answer: Result<Option<(u64, Sample)>, StreamFault>,
 ) -> Result<Option<u64>, StreamFault>
-    ensures { result ≡ step_of answer }
+    ensures { result ≡ step_alone answer }
 {
     match answer {
         Ok(Some((step, sample))) => {

@@ -1,17 +1,15 @@
 // Reading on until the next line is known.
 
-ghost use Rattle.std.specs.Prelude.{◌≡◌, ◌≢◌, ◌≤◌, ◌^◌, [], length, IfErr, IfNone, IfSome, true};
+ghost use Rattle.std.specs.Prelude.{◌≡◌, ◌≢◌, ◌≤◌, [], length, IfErr, IfNone, IfSome, true};
 ghost use Rattle.stream_text.specs.{Failures.Rose, Settling.SettlesLine, Settling.Settles};
 ghost use Rattle.stream_text.specs.TextLines.{IsFeedFree, front_lines, shows_fault};
 ghost use Rattle.stream_text.specs.declared.fault.StreamFault.TheVariants as Fault;
 
 use crate::device::Device;
 use crate::fault::StreamFault;
-use crate::kept::{MOST_BYTES, Pending, Piece};
+use crate::kept::{Pending, Piece};
+use crate::line::{MOST_BYTES, MOST_SAMPLES};
 use std::io::Read;
-
-/// The most samples of a run.
-pub const MOST_SAMPLES: u64 = 1_000_000;
 
 /// The most reads of a run, 2^40.
 const MOST_READS: u64 = 0x100_0000_0000;
@@ -38,11 +36,11 @@ pub fn settle<R: Read + Device>(
     failures: u64,
     source: &mut R,
 ) -> Result<Settled, StreamFault>
-    requires { reads.old ≤ 2 ^ 40 }
+    requires { reads.old ≤ MOST_READS }
     ensures settles { Settles (R.remaining source.old) (R.remaining source.new) number kept.old
         kept.new reads.old reads.new result }
     ensures unasked { front_lines number kept.old ≢ [] → source.new ≡ source.old }
-    ensures few { reads.new ≤ 2 ^ 40 }
+    ensures few { reads.new ≤ MOST_READS }
     ensures failed { IfErr result (λ fault. fault ≡ Fault.Read
         → Rose failures (R.count source.new)) }
 {
@@ -71,7 +69,7 @@ fn settled_size(kept: &mut Pending, number: u64) -> Option<usize>
     ensures same { kept.new ≡ kept.old }
     ensures settled { IfSome result (SettlesLine number kept.old) }
     ensures unsettled { IfNone result (front_lines number kept.old ≡ []) }
-    ensures short { IfNone result (length kept.old ≤ 65536) }
+    ensures short { IfNone result (length kept.old ≤ MOST_BYTES) }
     ensures free { IfNone result (IsFeedFree kept.old) }
 {
     if let Some(at) = kept.feed_at() {

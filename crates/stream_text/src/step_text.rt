@@ -5,14 +5,14 @@ ghost use Rattle.std.specs.Char.{is_ascii_digit};
 ghost use Rattle.std.specs.Option.{option_copied};
 ghost use Rattle.std.specs.List.{prefix_len};
 ghost use Rattle.std.specs.Str.Parse.{digits_value};
-ghost use Rattle.stream_text.specs.{StepText.behind, StepText.is_step, StepText.step_in, StreamView.step_view};
+ghost use Rattle.stream_text.specs.{StepText.stripped, StepText.is_step, StepText.step_in, StreamView.step_view};
 
 /// The greatest step, 2^63 - 1.
 const MOST: u64 = 0x7fff_ffff_ffff_ffff;
 
 /// What stands behind the byte, where it stands first; else `None`.
 pub fn strip(byte: u8, text: &[u8]) -> Option<&[u8]>
-    ensures { option_copied result ≡ behind byte text.now }
+    ensures { option_copied result ≡ stripped byte text.now }
 {
     match text {
         [first, rest @ ..] if *first == byte => Some(rest),

@@ -1,5 +1,6 @@
 // The host's files.
 
+use leaf_expr::MOST_LENGTH;
 use std::alloc::Global;
 use std::fs::File;
 use std::io::{self, ErrorKind, Read};
@@ -7,7 +8,7 @@ use std::rt;
 use yampa_run::{FileFault, Files};
 
 /// One byte more than a file may have, so that a longer one is seen to be too long.
-const MOST_BYTES: u64 = 1_048_577;
+const MOST_BYTES: u64 = MOST_LENGTH as u64 + 1;
 
 /// Files of the host by their paths. Nothing is told of what they hold.
 #[derive(Drop)]

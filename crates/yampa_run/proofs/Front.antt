@@ -11,6 +11,7 @@ use Rattle.stream_text.specs.StreamText.{front, line_after, line_read, samples, 
 use Rattle.stream_text.specs.TextLines.{Split, split, led_by, last_line, lines_of, shows_fault}
 use Rattle.stream_text.specs.declared.fault.StreamFault.{StreamFault}
 use Rattle.stream_text.specs.declared.fault.StreamFault.TheVariants as S
+use Rattle.stream_text.specs.declared.line.TheConstants.{MOST_SAMPLES, MOST_BYTES}
 use Rattle.yampa_run.specs.Output.{front_output_of, spelled_lines}
 use Rattle.yampa_run.specs.Runs.{BeginsOutput}
 use Rattle.yampa_run.proofs.Runs.{later_lines}
@@ -52,7 +53,7 @@ read_on A n before (line ∷ lines) more e = go (line_read A n before line) (λ 
 -- a line that shows its fault ends what is read
 shown : (A : TypeTree) (n : ℕ) (before : Option Datum) (bs : List ℕ) → shows_fault n (length bs) ≡ true
     → (f : StreamFault) × (line_read A n before bs ≡ Err f)
-shown A n before bs s = go (nat_lt 1000000 n) (nat_lt 65536 (length bs)) (nat_lt 0 (length bs)) s
+shown A n before bs s = go (nat_lt MOST_SAMPLES n) (nat_lt MOST_BYTES (length bs)) (nat_lt 0 (length bs)) s
   where
     go : (p q r : Bool) → (q || (p && r)) ≡ true
         → (f : StreamFault) × ((if p then Err (S.TooManySamples n) else (if q then Err (S.LineTooLong n) else line_after A n before bs)) ≡ Err f)

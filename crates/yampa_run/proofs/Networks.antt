@@ -1,6 +1,7 @@
 -- What a file leads to, and a command line on it.
 use Rattle.std.proofs.Common.{◌≡◌, ◌≢◌, ◌≤◌, inr, ℕ, true, List, length, Option, Some, Result, Ok, Err, subst, sym}
 use Rattle.cert_check.specs.declared.answer.CheckFault.TheVariants as C
+use Rattle.cert_check.specs.declared.derivation.TheConstants.{MOST_STEPS}
 use Rattle.std.specs.Result.{IfErr}
 use Rattle.command_line.specs.CommandLine.{LeadingNames}
 use Rattle.net_tree.specs.LawStep.{Step}
@@ -15,12 +16,9 @@ use Rattle.net_types.proofs.Checks.{check_exact}
 use Rattle.net_types.specs.Check.{check}
 use Rattle.net_types.specs.declared.fault.TypeFault.{TypeFault}
 use Rattle.net_types.specs.declared.fault.TypeFault.TheVariants as T
-use Rattle.command_line.specs.CommandLine.{RequestTree, request_in}
-use Rattle.net_text.specs.CertificateLaws.{IsCertificateFault}
-use Rattle.yampa_run.specs.Preparation.{Fails, HasNoNetwork, HasNoPlace, HasNoSteps, ArePair, HaveOtherInputs, IsNotCertified, other_inputs, IsLeading, IsNetworkOf, IsNotApplied, IsNotThere, RefusesCheck, RefusesSteps, not_applied, not_there, IsNetworkIn, IsRefusal, IsRequested, Meets, RefusesText, RefusesTypes, KnownFiles, by_text, by_types}
+use Rattle.yampa_run.specs.Preparation.{HasNoNetwork, HasNoPlace, ArePair, HaveOtherInputs, IsNotCertified, other_inputs, IsLeading, IsNetworkOf, IsNotApplied, IsNotThere, RefusesCheck, RefusesSteps, not_applied, not_there, IsNetworkIn, RefusesText, RefusesTypes, KnownFiles, by_text, by_types}
 use Rattle.yampa_run.specs.declared.refused.Role.{Role}
 use Rattle.yampa_run.specs.declared.refused.Role.TheVariants as R
-use Rattle.yampa_run.specs.declared.preparation.Job.{Job}
 use Rattle.yampa_run.specs.declared.preparation.Job.TheVariants as J
 use Rattle.yampa_run.specs.declared.preparation.Refusal.{Refusal}
 use Rattle.yampa_run.specs.declared.preparation.Refusal.TheVariants as Refused
@@ -41,25 +39,6 @@ pub types_refused : (role : Role) (bytes : List ℕ) (A : TypeTree) (net : Netwo
 types_refused role bytes A net f file e (Refused.Line status line) h = inr (h.1, by_types A net f file (e h.0) h.2)
 types_refused role bytes A net f file e Refused.Memory h = tt
 
--- a text that is refused has no steps
-pub steps_refused : (bytes : List ℕ) (f : NetTextFault) → IsCertificateFault bytes f → (r : Refusal) → RefusesText R.Certificate f r
-    → HasNoSteps (Some bytes) r
-steps_refused bytes f wrong (Refused.Line status line) h = inr (h.1, (f, h.0, wrong, h.2))
-steps_refused bytes f wrong Refused.Memory h = tt
-
--- what meets a request is what the words ask for
-pub met : (told : KnownFiles) (words : List (List ℕ)) (what : RequestTree) → request_in words ≡ Some what → (job : Job) → Meets told what job
-    → IsRequested told words job
-met told words what e (J.Run t) h = record { what = what; asks = e; meets = h }
-met told words what e (J.PrintAndRefuse text line) h = record { what = what; asks = e; meets = h }
-met told words what e (J.Print text) h = inr (record { what = what; asks = e; meets = h })
-
--- where a request fails, so do the words that ask for it
-pub failed : (told : KnownFiles) (words : List (List ℕ)) (what : RequestTree) → request_in words ≡ Some what → (r : Refusal) → Fails told what r
-    → IsRefusal told words r
-failed told words what e (Refused.Line status line) h = inr (record { what = what; asks = e; fails = h })
-failed told words what e Refused.Memory h = tt
-
 -- where nothing stands at the place of a word, the steps there aren't printed
 pub nothing_there : {T : Type 0} (known at : Option (List ℕ)) (net : TypedNetwork) (p : List ℕ) (r : Result T Refusal) → IsNetworkOf known net
     → TellsPlace at p → IfErr r (IsNotThere net p) → IfErr r (HasNoPlace known at)
@@ -79,7 +58,7 @@ not_certified told from to source target (Ok job) files h = tt
 not_certified told from to source target (Err e) files h = other_inputs source target files h
 
 -- where memory is short, nothing is shown of at most 10,000 steps
-pub short_of_memory : {T : Type 0} (source : TypedNetwork) (steps : List Step) (r : Result T Refusal) → length steps ≤ 10000
+pub short_of_memory : {T : Type 0} (source : TypedNetwork) (steps : List Step) (r : Result T Refusal) → length steps ≤ MOST_STEPS
     → IfErr r (λ e. e ≡ Refused.Memory) → IfErr r (RefusesSteps source steps true)
 short_of_memory source steps (Ok job) few h = tt
 short_of_memory source steps (Err e) few h = record { fault = C.Memory; unapplied = few; refuses = subst (RefusesCheck C.Memory) (sym h) tt }

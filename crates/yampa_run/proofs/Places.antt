@@ -3,6 +3,7 @@ use Rattle.std.proofs.Common.{◌≡◌, ◌≢◌, ◌∙◌, ◌≤◌, ◌++�
 use Rattle.std.proofs.lemmas.Fmt.{decimal_digit}
 use Rattle.std.specs.Result.{IfOk}
 use Rattle.leaf_expr.specs.Sexpr.{depths}
+use Rattle.leaf_expr.specs.declared.expr_reader.TheConstants.{MOST_LENGTH}
 use Rattle.net_tree.specs.LawStep.{Step}
 use Rattle.net_tree.specs.Position.{position_spelling}
 use Rattle.net_text.specs.CertificateLaws.{IsCertificate}
@@ -13,6 +14,7 @@ use Rattle.net_text.proofs.CertificateLines.{step_spelled}
 use Rattle.net_text.proofs.CertificateRead.{one_certificate}
 use Rattle.net_text.proofs.PrintedCertificate.{printed_certificate}
 use Rattle.yampa_run.specs.Words.{IsPlace, IsPlaceIn, IsPlaceOfStep, TellsPlace, placed_file, step_at}
+use Rattle.yampa_run.specs.declared.words.TheConstants.{MOST_PLACE}
 
 -- child numbers nest no deeper than the position
 pub flat : (p : List ℕ) → depths (child_sexprs p) ≡ 0
@@ -38,10 +40,10 @@ fits p word h = record {
 pub placed : (word p : List ℕ) → IsPlace word p → IsCertificate (placed_file word) (step_at p ∷ [])
 placed word p h =
     subst (λ bs. IsCertificate bs (step_at p ∷ [])) (file_of word p h.2) (printed_certificate (step_at p ∷ []) (fits p word h, tt)
-    (subst (λ bs. length bs ≤ 1048576) (sym (file_of word p h.2)) short))
+    (subst (λ bs. length bs ≤ MOST_LENGTH) (sym (file_of word p h.2)) short))
   where
-    short : length (placed_file word) ≤ 1048576
-    short = let l : length word ≤ 1000000 = h.0 in let m : length (word ++ codes ")\n") ≡ length word + 2 = length-append word (codes ")\n") in grind arith
+    short : length (placed_file word) ≤ MOST_LENGTH
+    short = let l : length word ≤ MOST_PLACE = h.0 in let m : length (word ++ codes ")\n") ≡ length word + 2 = length-append word (codes ")\n") in grind arith
 
 abbrev first_position : List Step → List ℕ
 first_position [] = []
@@ -61,7 +63,7 @@ unread word p text f d only e h =
     let q = only (step_at p ∷ []) (subst (λ bs. IsCertificate bs (step_at p ∷ [])) (sym e) (placed word p h)) d in absurd (cc)
 
 -- where the file of a word is read as steps, these tell its position
-pub read_place : (word text : List ℕ) (steps : List Step) (place : Option (List ℕ)) → length word ≤ 1000000
+pub read_place : (word text : List ℕ) (steps : List Step) (place : Option (List ℕ)) → length word ≤ MOST_PLACE
     → ((ss : List Step) → IsCertificate text ss → ◌≡◌ {A = Result (List Step) NetTextFault} (Ok ss) (Ok steps)) → text ≡ placed_file word
     → IsPlaceOfStep word steps place → IsPlaceIn word place
 read_place word text steps None short only e told = λ p h.
@@ -71,7 +73,7 @@ read_place word text steps None short only e told = λ p h.
     ok_is q = cc
 read_place word text steps (Some p) short only e told = (short, told.0, told.1)
 
-pub all_read : {E : Type 0} (word text : List ℕ) (steps : List Step) (r : Result (Option (List ℕ)) E) → length word ≤ 1000000
+pub all_read : {E : Type 0} (word text : List ℕ) (steps : List Step) (r : Result (Option (List ℕ)) E) → length word ≤ MOST_PLACE
     → ((ss : List Step) → IsCertificate text ss → ◌≡◌ {A = Result (List Step) NetTextFault} (Ok ss) (Ok steps)) → text ≡ placed_file word
     → IfOk r (IsPlaceOfStep word steps) → IfOk r (IsPlaceIn word)
 all_read word text steps (Ok place) short only e told = read_place word text steps place short only e told

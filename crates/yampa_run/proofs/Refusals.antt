@@ -1,5 +1,5 @@
 -- Bytes are refused with one line, and have no network then. So nothing that can be done is refused.
-use Rattle.std.proofs.Common.{◌≡◌, ◌≢◌, ◌<◌, ◌≤◌, ℕ, Bool, true, false, List, arith, refl, sym, ap, ◌∙◌, subst, inl, inr, Option, Some, None, Result, Ok, Err, length}
+use Rattle.std.proofs.Common.{◌≡◌, ◌≢◌, ◌≤◌, ℕ, Bool, true, false, List, arith, refl, sym, ap, ◌∙◌, subst, inl, inr, Option, Some, None, Result, Ok, Err, length}
 use Rattle.std.specs.Prelude.{IsSome, string_bytes}
 use Rattle.sample_core.specs.TypeTree.{TypeTree}
 use Rattle.leaf_core.specs.Expression.{Expression}
@@ -22,6 +22,7 @@ use Rattle.cert_check.specs.declared.answer.CheckFault.{CheckFault}
 use Rattle.cert_check.specs.declared.answer.CheckFault.TheVariants as C
 use Rattle.cert_check.proofs.OneAnswer.{one_answer}
 use Rattle.cert_check.proofs.Taken.{applied}
+use Rattle.cert_check.specs.declared.derivation.TheConstants.{MOST_STEPS}
 use Rattle.net_meaning.specs.NetworkLimits.{WithinLimits}
 use Rattle.net_view.specs.Listed.{IsThere}
 use Rattle.net_view.specs.Trace.{TraceAnswer, first_steps}
@@ -29,7 +30,7 @@ use Rattle.yampa_run.specs.Words.{TellsFirst}
 use Rattle.yampa_run.proofs.Places.{one_place}
 use Rattle.command_line.specs.CommandLine.{DerivationNames, LeadingNames, RequestTree, types, run, outline, laws, optimise, improve, check as checks, run_checked, apply, certify, request_in, AsksNothing}
 use Rattle.yampa_run.specs.RefusalLines.{text_words, type_words}
-use Rattle.yampa_run.specs.Preparation.{AreTold, Fails, HasNoDerivation, HasNoNetwork, HasNoSteps, IsDerivedIn, IsNetworkIn, IsNetworkOf, IsApplied, IsLeading, IsNoNumber, IsCertified, IsNotCertified, TellsCertified, no_such_source, no_such_target, other_inputs, IsNotApplied, IsUnapplied, HasNoPlace, IsTold, AreStepsOf, KnownFiles, Meets, RefusesCheck, TellsApplied, TellsLaws, OneRefusalLaw, NoNetworkLaw, OnlyMemoryLaw, no_place, no_network as no_such_network, not_there, no_number, without_source, without_steps, not_applied, by_text, by_types, no_source, no_target, no_steps, not_accepted}
+use Rattle.yampa_run.specs.Preparation.{AreTold, Fails, HasNoDerivation, HasNoNetwork, HasNoSteps, IsDerivedIn, IsNetworkIn, IsNetworkOf, IsApplied, IsNoNumber, IsCertified, IsNotCertified, TellsCertified, no_such_source, no_such_target, other_inputs, IsNotApplied, IsUnapplied, HasNoPlace, IsTold, AreStepsOf, KnownFiles, Meets, RefusesCheck, TellsApplied, TellsLaws, OneRefusalLaw, NoNetworkLaw, OnlyMemoryLaw, no_place, no_network as no_such_network, not_there, no_number, without_source, without_steps, not_applied, by_text, by_types, no_source, no_target, no_steps, not_accepted}
 use Rattle.yampa_run.specs.declared.refused.Role.{Role}
 use Rattle.yampa_run.specs.declared.refused.Role.TheVariants as R
 use Rattle.yampa_run.specs.declared.preparation.Job.{Job}
@@ -163,7 +164,7 @@ no_step_fault source last steps f d l a b =
     go C.Memory b = begins
 
 -- what is shown of at most 10,000 steps is no fault
-no_trace_fault : (source : TypedNetwork) (steps : List Step) (f : CheckFault) → f ≢ C.Memory → length steps ≤ 10000 → TraceAnswer source steps (Err f) → ⊥
+no_trace_fault : (source : TypedNetwork) (steps : List Step) (f : CheckFault) → f ≢ C.Memory → length steps ≤ MOST_STEPS → TraceAnswer source steps (Err f) → ⊥
 no_trace_fault source steps C.TooManySteps d few b = omega (arith, few, b)
 no_trace_fault source steps C.Memory d few b = d refl
 no_trace_fault source steps C.InputsDiffer d few b = b

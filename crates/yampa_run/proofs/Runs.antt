@@ -1,10 +1,9 @@
 -- A run, sample by sample.
-use Rattle.std.proofs.Common.{◌≡◌, ◌≤◌, ◌<◌, ◌+◌, ◌^◌, ℕ, suc, List, [], ◌∷◌, ◌++◌, length, take, drop, Option, Some, None, Ok, Err, refl, sym, ap, ◌∙◌, subst, arith, append_assoc, append-nil, take-append-drop, inl, inr}
+use Rattle.std.proofs.Common.{◌≡◌, ◌≤◌, ◌+◌, ℕ, suc, List, [], ◌∷◌, ◌++◌, length, take, drop, Option, Some, None, Ok, Err, refl, sym, ap, ◌∙◌, subst, arith, append_assoc, append-nil, take-append-drop, inl, inr}
 use Rattle.std.specs.Prelude.{◌⊎◌, max, IfErr, Result}
 use Rattle.std.specs.Io.KnownBytes.{Appends, IsAtEnd}
 use Rattle.std.proofs.lemmas.List.{take_at}
 use Rattle.sample_core.specs.Datum.{Datum}
-use Rattle.sample_core.specs.HasType.{HasType}
 use Rattle.sample_core.specs.Spelling.{spelling}
 use Rattle.sample_core.specs.TypeTree.{TypeTree}
 use Rattle.sample_core.specs.declared.sample.Sample.{Sample}
@@ -29,8 +28,8 @@ use Rattle.stream_text.specs.declared.reader.Met.TheVariants as M
 use Rattle.stream_text.proofs.Hearing.{heard_none, heard_more, heard_end, heard_fault, heard_so_far, heard_short, heard_unread}
 use Rattle.stream_text.proofs.FeedFree.{spelling_free}
 use Rattle.stream_text.proofs.Settling.{consumes_none}
-use Rattle.yampa_run.specs.FaultLines.{EndsRun}
-use Rattle.yampa_run.specs.Output.{spelled_lines, line_feeds, line_of_value, greatest, most_visits_of, output_of}
+use Rattle.stream_text.specs.declared.line.TheConstants.{MOST_SAMPLES}
+use Rattle.yampa_run.specs.Output.{spelled_lines, line_feeds, line_of_value, greatest_of, most_visits_of, output_of}
 use Rattle.yampa_run.specs.Runs.{RunsToEnd, IsOutput, StopsAtFault, StopsUnread, BeginsOutput, StopsWithin, StopsRun, Answers, IsPartOfLine, Breaks, run_fault_of, stream_fault_of}
 use Rattle.yampa_run.specs.declared.fault.RunFault.{RunFault}
 use Rattle.yampa_run.specs.declared.fault.RunReport.{RunReport}
@@ -51,7 +50,7 @@ pub record Progress (A : TypeTree) (net : Network Expression) (has has' holds ho
   pub counted : lines ≡ s.lines
   pub visited : most ≡ most_visits_of net p
   pub before : IsBefore A s.lines s.before
-  pub few : s.lines ≤ 1000000
+  pub few : s.lines ≤ MOST_SAMPLES
 
 no_output : (net : Network Expression) → stream_of net [] ≡ []
 no_output net = outputs-take value_of net closed 0 []
@@ -66,7 +65,7 @@ begins A net has holds s r f st i n = record {
   of_network = n;
   wrote = subst (λ vs. Appends holds holds (spelled_lines vs)) (sym (no_output net)) (appends_none holds);
   counted = sym f.lines;
-  visited = sym (ap greatest (visits-take value_of net closed 0 []));
+  visited = sym (ap greatest_of (visits-take value_of net closed 0 []));
   before = subst (IsBefore A s.lines) (sym f.before) f.lines;
   few = let l : s.lines ≡ 0 = f.lines in omega (arith, l);
 }
@@ -88,9 +87,9 @@ later_lines net p later =
           ∙ sym (spelled-append (take (length p) all) (drop (length p) all)) ∙ ap spelled_lines (take-append-drop (length p) all),
     )
 
-greatest-push : (ns : List ℕ) (n : ℕ) → greatest (ns ++ n ∷ []) ≡ max (greatest ns) n
+greatest-push : (ns : List ℕ) (n : ℕ) → greatest_of (ns ++ n ∷ []) ≡ max (greatest_of ns) n
 greatest-push [] n = grind arith
-greatest-push (m ∷ ns) n = let i : greatest (ns ++ n ∷ []) ≡ max (greatest ns) n = greatest-push ns n in ap (max m) i ∙ max_three m (greatest ns) n
+greatest-push (m ∷ ns) n = let i : greatest_of (ns ++ n ∷ []) ≡ max (greatest_of ns) n = greatest-push ns n in ap (max m) i ∙ max_three m (greatest_of ns) n
   where
     max_three : (a b c : ℕ) → max a (max b c) ≡ max (max a b) c
     max_three a b c = grind arith
@@ -98,24 +97,12 @@ greatest-push (m ∷ ns) n = let i : greatest (ns ++ n ∷ []) ≡ max (greatest
 most_visits-push : (net : Network Expression) (p : TimedList) (x : ℕ × Datum)
     → most_visits_of net (p ++ x ∷ []) ≡ max (most_visits_of net p) (last_visits_of net (p ++ x ∷ []))
 most_visits-push net p x =
-    ap greatest (visits-push value_of net closed p x) ∙ greatest-push (visits_of value_of net closed p) (last_visits_of net (p ++ x ∷ []))
-
--- the runner may be pushed what was answered
-pub has_input : (A : TypeTree) (net : Network Expression) (has has' holds holds' : Option (List ℕ)) (s : ReaderState) (r : RunnerState)
-    (lines most : ℕ) (v : Datum)
-    → Progress A net has has' holds holds' s r lines most → HasType v A → HasType v r.input
-has_input A net has has' holds holds' s r lines most v g h = subst (HasType v) (sym g.of_type) h
-
-pub samples_are : (A : TypeTree) (net : Network Expression) (has has' holds holds' : Option (List ℕ)) (s : ReaderState) (r : RunnerState) (lines most : ℕ)
-    → Progress A net has has' holds holds' s r lines most → (r.samples ≡ s.lines) × (r.samples < 2 ^ 63)
-samples_are A net has has' holds holds' s r lines most g =
-    let e : r.samples ≡ s.lines = g.stands.counted ∙ g.heard.count in
-    (e, omega (arith, e, g.few))
+    ap greatest_of (visits-push value_of net closed p x) ∙ greatest-push (visits_of value_of net closed p) (last_visits_of net (p ++ x ∷ []))
 
 -- one sample more
 pub goes_on : (A : TypeTree) (net : Network Expression) (has has' has'' holds holds' holds'' : Option (List ℕ)) (s s' : ReaderState) (r r' : RunnerState)
     (lines most : ℕ) (x : ℕ × Sample) → Progress A net has has' holds holds' s r lines most → GivesAnswer A s has' (Ok (Some x)) s' has''
-    → IsBefore A s'.lines s'.before → s'.lines ≤ 1000000 → Answers r (sample_view x) holds' r' holds''
+    → IsBefore A s'.lines s'.before → s'.lines ≤ MOST_SAMPLES → Answers r (sample_view x) holds' r' holds''
     → Progress A net has has'' holds holds'' s' r' (lines + 1) (max most r'.visits)
 goes_on A net has has' has'' holds holds' holds'' s s' r r' lines most x g a b f w =
     let next : stream_of (network_in r) (g.p ++ sample_view x ∷ []) ≡ stream_of (network_in r) g.p ++ w.y ∷ [] = w.pushes.answers g.p g.stands in
@@ -284,21 +271,6 @@ pub stops_same : (A B : TypeTree) (net net' : Network Expression) (has has' hold
     → A ≡ B → net ≡ net' → IfErr result (StopsRun A net has has' holds holds') → IfErr result (StopsRun B net' has has' holds holds')
 stops_same A B net net' has has' holds holds' result e f h = subst (λ C. IfErr result (StopsRun C net' has has' holds holds')) e
     (subst (λ m. IfErr result (StopsRun A m has has' holds holds')) f h)
-
--- what a run ends with is told by the program
-pub answered : (A : TypeTree) (net : Network Expression) (has has' holds holds' : Option (List ℕ)) (fault : RunFault)
-    → StopsRun A net has has' holds holds' fault → EndsRun fault
-answered A net has has' holds holds' (U.Stream lines (S.Step n)) h = tt
-answered A net has has' holds holds' (U.Stream lines (S.Value n v)) h = tt
-answered A net has has' holds holds' (U.Stream lines (S.NothingBefore n)) h = tt
-answered A net has has' holds holds' (U.Stream lines (S.LineTooLong n)) h = tt
-answered A net has has' holds holds' (U.Stream lines (S.TooManySamples n)) h = tt
-answered A net has has' holds holds' (U.Stream lines S.ReadTurns) h = tt
-answered A net has has' holds holds' (U.Stream lines S.Read) h = tt
-answered A net has has' holds holds' (U.Stream lines S.Memory) h = tt
-answered A net has has' holds holds' (U.Stream lines S.Ended) h = h.of_text
-answered A net has has' holds holds' (U.Write lines) h = tt
-answered A net has has' holds holds' (U.Memory lines) h = tt
 
 -- a run that ends before its first read
 pub nothing_moved : (A : TypeTree) (net : Network Expression) (has holds : Option (List ℕ)) → StopsWithin A net has has holds holds 0

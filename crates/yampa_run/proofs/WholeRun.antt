@@ -11,7 +11,7 @@ use Rattle.stream_text.specs.LineFaults.{LineFaultLaw}
 use Rattle.stream_text.specs.declared.fault.StreamFault.TheVariants as S
 use Rattle.command_line.specs.CommandLine.{RequestTree, types, run, outline, laws, optimise, improve, check as checks, run_checked, apply, certify}
 use Rattle.yampa_run.specs.FaultLines.{line_of, status_of}
-use Rattle.yampa_run.specs.Headline.{RunsSo, output_in}
+use Rattle.yampa_run.specs.Headline.{RunsSo, text_output}
 use Rattle.yampa_run.specs.NetworkRun.{RunsOver}
 use Rattle.yampa_run.specs.Preparation.{AreStepsOf, IsApplied, IsDerivedIn, IsNetworkIn, IsNetworkOf, Meets}
 use Rattle.yampa_run.specs.RefusalLines.{refusal_line, refusal_status}
@@ -64,7 +64,7 @@ module _ (law : FaultLaw) (faults : LineFaultLaw) (t : TypedNetwork) (text : Lis
   told_so keys (Ok report) r = whole (writes_output t text has' holds holds' (Ok report) r.1 tt) refl
   told_so keys (Err (Refused.Line status line)) (inl s) = fault_told (Refused.Line status line) s.fault s.stops s.status_is s.line_is
   told_so keys (Err (Refused.Line status line)) (inr u) =
-      part (record { written = []; writes = u.still.writes; begins = ((output_in t text).bytes, refl) }) u.status_is (4, omega arith, sym u.line_is)
+      part (record { written = []; writes = u.still.writes; begins = ((text_output t text).bytes, refl) }) u.status_is (4, omega arith, sym u.line_is)
   told_so keys (Err Refused.Memory) r = part (part_of r.0 r.1) refl (0, omega arith, refl)
 
 -- a run isn't what is wanted of steps
@@ -74,7 +74,7 @@ not_run source steps true t n = n
 
 -- what is written of the target is written of the source
 as_source : (source target : TypedNetwork) (text : List ℕ) (holds holds' : Option (List ℕ)) (answer : Result RunReport Refusal)
-    → source.input ≡ target.input → output_in source text ≡ output_in target text → WritesAsTold target text holds holds' answer
+    → source.input ≡ target.input → text_output source text ≡ text_output target text → WritesAsTold target text holds holds' answer
     → WritesAsTold source text holds holds' answer
 as_source source target text holds holds' (Ok report) i e (whole w s) = whole (of_source source target text holds holds' (Ok report) i e w) s
 as_source source target text holds holds' (Err refusal) i e (up_to_fault {lines = lines} {fault = fault} w s l) =

@@ -2,6 +2,8 @@
 use Rattle.std.specs.Prelude.{◌≡◌, ◌≤◌, ℕ, List, length, Some, None, false}
 use Rattle.leaf_expr.specs.Printing.{type_sexpr}
 use Rattle.leaf_expr.specs.Sexpr.{depth}
+use Rattle.leaf_expr.specs.declared.type_reader.TheConstants.{MOST_OPEN}
+use Rattle.leaf_expr.specs.declared.expr_reader.TheConstants.{MOST_LENGTH}
 use Rattle.net_tree.specs.LawStep.{Step}
 use Rattle.net_meaning.specs.TypedNetwork.{TypedNetwork}
 use Rattle.net_text.specs.Printing.{Writable, file_spelling, network_sexpr}
@@ -12,9 +14,9 @@ use Rattle.yampa_run.specs.Preparation.{IsDerivedIn, IsLeading, IsTold, KnownFil
 -- the printed network is within the limits of files
 pub record FitsFile (t : TypedNetwork) : Type 0 where
   pub numbers : Writable t.net
-  pub type_depth : depth (type_sexpr t.input) ≤ 600
-  pub net_depth : depth (network_sexpr t.net) ≤ 600
-  pub size : length (file_spelling t.input t.net) ≤ 1048576
+  pub type_depth : depth (type_sexpr t.input) ≤ MOST_OPEN
+  pub net_depth : depth (network_sexpr t.net) ≤ MOST_OPEN
+  pub size : length (file_spelling t.input t.net) ≤ MOST_LENGTH
 
 -- the source and the certificate of a derivation, of which all steps are to be taken
 abbrev pub all_steps : DerivationNames → LeadingNames

@@ -15,8 +15,8 @@ use Rattle.yampa_run.specs.declared.fault.RunFault.{RunFault}
 use Rattle.yampa_run.specs.declared.fault.RunFault.TheVariants as U
 
 -- what a run of a typed network writes on a text, and the text's first fault
-abbrev pub output_in : TypedNetwork → List ℕ → Output
-output_in t text = output_of t.input t.net text
+abbrev pub text_output : TypedNetwork → List ℕ → Output
+text_output t text = output_of t.input t.net text
 
 -- the same of bytes that aren't known to be all
 abbrev pub front_output_in : TypedNetwork → List ℕ → Output
@@ -26,7 +26,7 @@ front_output_in t bs = front_output_of t.input t.net bs
 abbrev pub SameOutputLaw : Type 0
 SameOutputLaw = (source target : TypedNetwork) (steps : List Step) (text : List ℕ)
     → HasItsTypes source → Derives source target steps
-    → output_in source text ≡ output_in target text
+    → text_output source text ≡ text_output target text
 
 -- and so it is on bytes that aren't known to be all
 abbrev pub SameFrontLaw : Type 0
@@ -60,8 +60,8 @@ pub data TellsFault (lines : ℕ) : Option StreamFault → Result RunReport RunF
 -- tells the text's first fault
 pub record WritesOutput (t : TypedNetwork) (text : List ℕ) (holds holds' : Option (List ℕ))
     (result : Result RunReport RunFault) : Type 0 where
-  pub bytes : Appends holds holds' (output_in t text).bytes
-  pub told : TellsFault (length (samples t.input text).taken) (output_in t text).fault result
+  pub bytes : Appends holds holds' (text_output t text).bytes
+  pub told : TellsFault (length (samples t.input text).taken) (text_output t text).fault result
 
 -- a run of a typed network on a text, in whatever pieces it is read, writes exactly its output
 abbrev pub WritesOutputLaw : Type 0

@@ -6,6 +6,8 @@ use Rattle.sample_core.specs.TypeTree.{TypeTree}
 use Rattle.leaf_core.specs.Expression.{Expression}
 use Rattle.leaf_expr.specs.Printing.{type_sexpr}
 use Rattle.leaf_expr.specs.Sexpr.{depth}
+use Rattle.leaf_expr.specs.declared.type_reader.TheConstants.{MOST_OPEN}
+use Rattle.leaf_expr.specs.declared.expr_reader.TheConstants.{MOST_LENGTH}
 use Rattle.net_tree.specs.LawStep.{Step}
 use Rattle.net_tree.specs.Network.{Network}
 use Rattle.net_meaning.specs.TypedNetwork.{TypedNetwork}
@@ -20,11 +22,11 @@ use Rattle.yampa_run.specs.declared.telling.Telling.TheVariants as S
 -- texts are within the limits of files
 pub record FitFiles (A : TypeTree) (net : Network Expression) (steps : List Step) : Type 0 where
   pub numbers : Writable net
-  pub type_depth : depth (type_sexpr A) ≤ 600
-  pub net_depth : depth (network_sexpr net) ≤ 600
-  pub net_size : length (file_spelling A net) ≤ 1048576
+  pub type_depth : depth (type_sexpr A) ≤ MOST_OPEN
+  pub net_depth : depth (network_sexpr net) ≤ MOST_OPEN
+  pub net_size : length (file_spelling A net) ≤ MOST_LENGTH
   pub positions : All (λ s. ChildrenFit s.position) steps
-  pub certificate_size : length (certificate_spelling steps) ≤ 1048576
+  pub certificate_size : length (certificate_spelling steps) ≤ MOST_LENGTH
 
 -- three files: that of a source, and what the command printed of it in two runs, one without its
 -- flag and one with it

@@ -47,10 +47,10 @@ abbrev pub front_output_of : TypeTree → Network Expression → List ℕ → Ou
 front_output_of A net bs = output_on net (front A bs)
 
 -- the greatest number of a list, 0 where it has none
-abbrev pub greatest : List ℕ → ℕ
-greatest [] = 0
-greatest (n ∷ ns) = max n (greatest ns)
+abbrev pub greatest_of : List ℕ → ℕ
+greatest_of [] = 0
+greatest_of (n ∷ ns) = max n (greatest_of ns)
 
 -- the most nodes that a sample visits, 0 where there is none
 abbrev pub most_visits_of : Network Expression → TimedList → ℕ
-most_visits_of net xs = greatest (visits_of value_of net closed xs)
+most_visits_of net xs = greatest_of (visits_of value_of net closed xs)

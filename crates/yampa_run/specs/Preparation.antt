@@ -24,6 +24,7 @@ use Rattle.cert_check.specs.CheckAnswer.{CheckAnswer}
 use Rattle.cert_check.specs.StepAnswers.{ApplyAnswer}
 use Rattle.cert_check.specs.declared.answer.CheckFault.{CheckFault}
 use Rattle.cert_check.specs.declared.answer.CheckFault.TheVariants as C
+use Rattle.cert_check.specs.declared.derivation.TheConstants.{MOST_STEPS}
 use Rattle.net_opt.specs.Optimising.{Optimised}
 use Rattle.net_improve.specs.Improving.{Improved}
 use Rattle.leaf_table.specs.declared.fault.TableFault.{TableFault}
@@ -268,7 +269,7 @@ pub data HasNoPlace (told at : Option (List ℕ)) (refusal : Refusal) : Type 0 w
 
 -- the text tells what the steps do, at most 10,000, up to the one that is refused, if one is
 abbrev pub ShowsSteps : TypedNetwork → List Step → Option Stopped → List ℕ → Type 0
-ShowsSteps source steps stop text = (length steps ≤ 10000) × TellsTrace source steps stop text
+ShowsSteps source steps stop text = (length steps ≤ MOST_STEPS) × TellsTrace source steps stop text
 
 -- the text tells what the steps do up to one that is refused, and the line is check's on that
 pub record ShowsStop (source : TypedNetwork) (steps : List Step) (text line : List ℕ) : Type 0

@@ -1,5 +1,5 @@
 -- What the words of options tell: a number of steps, and a position.
-use Rattle.std.specs.Prelude.{◌≡◌, ◌≤◌, ◌^◌, ◌-◌, ◌&&◌, ℕ, Bool, true, List, [], ◌++◌, length, min, nat_lt, Option, Some, None, MatchOption, IsSome, ◌∷◌, codes, if◌then◌else◌}
+use Rattle.std.specs.Prelude.{◌≡◌, ◌≤◌, ◌^◌, ◌-◌, ◌&&◌, ℕ, Bool, List, [], ◌++◌, length, min, nat_lt, Option, Some, None, MatchOption, IsSome, ◌∷◌, codes, if◌then◌else◌}
 use Rattle.std.specs.Str.{all_ascii_digits}
 use Rattle.std.specs.Str.Parse.{digits_value}
 use Rattle.net_tree.specs.LawStep.{Step}
@@ -7,15 +7,16 @@ use Rattle.net_tree.specs.Position.{position_spelling}
 use Rattle.net_tree.specs.declared.law_step.Direction.TheVariants.{Forward}
 use Rattle.net_tree.specs.declared.law_step.Law.TheVariants as L
 use Rattle.net_text.specs.CertificatePrinting.{ChildrenFit}
+use Rattle.yampa_run.specs.declared.words.TheConstants.{MOST_PLACE}
 
 -- a word of digits, and at least one
-abbrev pub is_number : List ℕ → Bool
-is_number word = nat_lt 0 (length word) && all_ascii_digits word
+abbrev pub is_digits_word : List ℕ → Bool
+is_digits_word word = nat_lt 0 (length word) && all_ascii_digits word
 
 -- the number that a word of digits is, at most 2^64 - 1
 abbrev pub number_in : List ℕ → Option ℕ
 number_in word =
-    if is_number word then Some (min (2 ^ 64 - 1) (digits_value 10 word)) else None
+    if is_digits_word word then Some (min (2 ^ 64 - 1) (digits_value 10 word)) else None
 
 -- how many steps a word tells; all, where there is no word
 abbrev pub TellsFirst : Option (List ℕ) → Option ℕ → Type 0
@@ -25,7 +26,7 @@ TellsFirst (Some word) first = IsSome first × (first ≡ number_in word)
 -- the word is the position as it is printed, of at most a million bytes, with the child numbers
 -- that files may have
 abbrev pub IsPlace : List ℕ → List ℕ → Type 0
-IsPlace word p = (length word ≤ 1000000) × ChildrenFit p × (word ≡ position_spelling p)
+IsPlace word p = (length word ≤ MOST_PLACE) × ChildrenFit p × (word ≡ position_spelling p)
 
 -- the position that a word is, or the root, where there is no word
 abbrev pub TellsPlace : Option (List ℕ) → List ℕ → Type 0

@@ -6,21 +6,19 @@ ghost use Rattle.net_tree.specs.Position.{position_spelling};
 ghost use Rattle.net_text.specs.CertificatePrinting.{ChildrenFit};
 ghost use Rattle.net_text.specs.declared.fault.NetTextFault.TheVariants as Fault;
 ghost use Rattle.yampa_run.specs.Preparation.{IsNoNumber, IsNowhere};
-ghost use Rattle.yampa_run.specs.Words.{IsPlaceIn, IsPlaceOfStep, TellsFirst, TellsPlace, is_number, number_in, placed_file};
+ghost use Rattle.yampa_run.specs.Words.{IsPlaceIn, IsPlaceOfStep, TellsFirst, TellsPlace, is_digits_word, number_in, placed_file};
 
 use crate::preparation::Refusal;
 use crate::printed::push_words;
 use crate::refused::{no_number_line, no_place_line};
+use leaf_expr::MOST_INDEX;
 use net_text::{NetTextFault, read_cert};
 use net_tree::{LawStep, Position, push_position};
 use sample_core::Memory;
 use std::alloc::Global;
 
 /// The most bytes that the word of a position may have.
-const LONGEST_PLACE: usize = 1_000_000;
-
-/// The greatest child number that files may have.
-const LAST_CHILD: u32 = 65_535;
+const MOST_PLACE: usize = 1_000_000;
 
 /// How many steps are to be taken, by that word; `None`, for all, where there is no word. Refused
 /// with status 2 where the word is no number.
@@ -56,7 +54,7 @@ fn number_in(word: &str) -> Option<usize>
 
 /// Whether the word is digits, and at least one.
 fn is_number(word: &str) -> bool
-    ensures { result ≡ is_number word.now }
+    ensures { result ≡ is_digits_word word.now }
 {
     for byte in word.as_bytes() {
         if !byte.is_ascii_digit() {
@@ -88,7 +86,7 @@ pub(crate) fn place_of(alloc: Global, word: Option<&str>) -> Result<Position, Re
 fn place_in(alloc: Global, word: &str) -> Result<Option<Position>, Memory>
     ensures { IfOk result (IsPlaceIn word.now) }
 {
-    if word.len() > LONGEST_PLACE {
+    if word.len() > MOST_PLACE {
         return Ok(None);
     }
     let text = placed_file(alloc, word)?;
@@ -154,7 +152,7 @@ fn fit(children: &[u32]) -> bool
     ensures { IsTrue result ↔ ChildrenFit children.now }
 {
     for &child in children {
-        if child > LAST_CHILD {
+        if u64::from(child) > MOST_INDEX {
             return false;
         }
     }

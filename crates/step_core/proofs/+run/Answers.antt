@@ -16,7 +16,7 @@ use Rattle.step_core.specs.Rank.{frozen_rank}
 use Rattle.step_core.specs.Flow.{all_placed, members_before, past_behind, past_in, placed, standing, Runs}
 use Rattle.step_core.specs.Runs.{RunsWhere}
 use Rattle.step_core.specs.Switching.{IsChosen}
-use Rattle.step_core.proofs.Flows.{is_switch, is_d_switch, is_k_switch, is_p_switch, is_rp_switch, is_old, placed_by, arr_flows, cell_as, seq_flows, first_flows, loop_flows, par_flows, none_flow, chain_goes, each_begins, each_goes, no_items, placed_flows, restart_goes, restart_cuts, late_goes, late_cuts, initial_out_starts, initial_in_starts}
+use Rattle.step_core.proofs.Flows.{is_switch, is_k_switch, is_p_switch, is_rp_switch, is_old, placed_by, arr_flows, cell_as, seq_flows, first_flows, loop_flows, par_flows, none_flow, chain_goes, each_begins, each_goes, no_items, placed_flows, restart_goes, restart_cuts, late_cuts, initial_out_starts, initial_in_starts}
 use Rattle.step_core.proofs.CollectionRuns.{members_fall, turned_event, turned_none, collection_runs, members_begin, member_goes, members_end, initial_out_begins, initial_in_begins}
 use Rattle.step_core.proofs.Levels.{level_most}
 use Rattle.step_core.proofs.ListedMembers.{before_listed, first_before}
@@ -25,7 +25,7 @@ use Rattle.step_core.proofs.PassedNetworks.{passed_falls, passed_flows}
 use Rattle.step_core.proofs.Plain.{plain, flows_run}
 use Rattle.step_core.proofs.RunJoins.{if_ok, both_ok, fires_by, ran_as, runs_as}
 use Rattle.step_core.proofs.StateLists.{one_answered}
-use Rattle.step_core.proofs.Switches.{same_rank, late_start_falls, rest_falls, par_members_fall, one_cell_wider, flows_width, runs_width, others_fall, others_placed_fall, loop_part_falls, k_over_falls, p_over_falls, p_members_fall, p_watch_falls, resumed_falls, switch_stays, switch_ends, d_switch_stays, d_switch_ends, k_switch_stays, k_switch_ends, none_run, each_run_begins, each_run_goes, p_switch_stays, p_switch_ends, old_resumes}
+use Rattle.step_core.proofs.Switches.{same_rank, late_start_falls, rest_falls, par_members_fall, one_cell_wider, flows_width, runs_width, others_fall, others_placed_fall, loop_part_falls, k_over_falls, p_over_falls, p_members_fall, p_watch_falls, resumed_falls, switch_stays, switch_ends, k_switch_stays, k_switch_ends, none_run, each_run_begins, each_run_goes, p_switch_stays, p_switch_ends, old_resumes}
 use Rattle.step_core.proofs.+run.Goals as goal
 
 pub flow::flow-returns-in-Arr : goal.flow::flow-returns-in-Arr
@@ -37,7 +37,7 @@ pub flow::flow-returns-in-Switch : goal.flow::flow-returns-in-Switch
 flow::flow-returns-in-Switch g t c = if_ok c.run_place.result _ _ (λ n h. placed_flows _ _ _ _ _ _ _ _ n (elim c.in-Switch.is [
   | inl e ↦ placed_by _ _ (ap rows_in e.2) is_switch
   | inr others ↦ elim others [
-    | inl e ↦ placed_by _ _ (ap rows_in e.2) is_d_switch
+    | inl e ↦ placed_by _ _ (ap rows_in e.2) is_switch
     | inr others ↦ elim others [
       | inl e ↦ placed_by _ _ (ap rows_in e.3) is_k_switch
       | inr others ↦ elim others [
@@ -157,7 +157,7 @@ flow::flow_restart-returns-in_ok-one-in-Some g t c =
 
 pub flow::flow_restart-returns-in_ok-run_place-in-None : goal.flow::flow_restart-returns-in_ok-run_place-in-None
 flow::flow_restart-returns-in_ok-run_place-in-None g t c =
-    restart_goes _ _ _ _ _ _ _ _ _ _ _ _ c.first.ensures (sym c.restart_of.ensures ∙ ap restart_found c.in-None.is) c.in_ok-run_place-in-None.ensures
+    restart_goes _ _ _ _ _ _ _ _ _ _ _ _ _ c.first.ensures (sym c.restart_of.ensures ∙ ap restart_found c.in-None.is) c.in_ok-run_place-in-None.ensures
     c.node-in-None.ensures
 
 pub run::run_place-run_at_next-requires : goal.run::run_place-run_at_next-requires
@@ -187,28 +187,15 @@ run::run_in-returns-in_ok-visits-in_default-net g t c =
 pub run::run_switch-returns-in_ok-done-in-Ok-None : goal.run::run_switch-returns-in_ok-done-in-Ok-None
 run::run_switch-returns-in_ok-done-in-Ok-None g t c =
     let fires = fires_by _ _ (push_param (scope_of c.args.on.now.env.now)) _ _ c.second.ensures c.in-Ok-None.field-0-is c.in-Ok-None.ensures in
-    switch_stays _ _ _ _ _ _ _ _ _ _ _ _ _ _ _ _ c.requires c.end.ensures c.in-Ok.ensures fires c.first.ensures c.in_ok-done-in-Ok-None.ensures c.node-in-Ok-None.ensures
+    switch_stays _ _ _ _ _ _ _ _ _ _ _ _ _ _ _ _ _ c.requires c.end.ensures c.in-Ok.ensures fires c.first.ensures c.in_ok-done-in-Ok-None.ensures c.node-in-Ok-None.ensures
 
 pub run::run_switch-returns-in_ok-two-in-Ok-Some : goal.run::run_switch-returns-in_ok-two-in-Ok-Some
 run::run_switch-returns-in_ok-two-in-Ok-Some g t c =
     let fires = fires_by _ _ (push_param (scope_of c.args.on.now.env.now)) _ _ c.second.ensures c.in-Ok-Some.field-0-is c.in-Ok-Some.ensures in
-    switch_ends _ _ _ _ _ _ _ _ _ _ _ _ _ _ _ _ _ _ c.requires.2 c.in-Ok.ensures fires.1 fires.2 c.started.ensures.scope c.started.ensures.past
-    (subst (λ r. RunsWhere (g.R.Rows.keys r) (standing (rows_in c.args.t.now) (scope_of c.started.result.env.now)
+    switch_ends _ _ _ _ _ _ _ _ _ _ _ _ _ _ _ _ _ _ _ _ c.requires.2 c.in-Ok.ensures fires.1 fires.2 c.started.ensures.scope c.started.ensures.past
+    (subst (λ r. RunsWhere (g.R.Rows.keys r) (standing (rows_in c.args.over.net.now) (scope_of c.started.result.env.now)
     (past_in c.started.result.before c.started.result.dt)) (datum_of c.args.x.now) (running_of c.run_in-two.new.running) (datum_of c.run_in-two.new.out) c.in_ok-two-in-Ok-Some.field-0)
-    c.started.ensures.rows c.in_ok-two-in-Ok-Some.ensures) c.node.ensures
-
-pub run::run_d_switch-returns-in_ok-done-in-None : goal.run::run_d_switch-returns-in_ok-done-in-None
-run::run_d_switch-returns-in_ok-done-in-None g t c =
-    let fires = fires_by _ _ (push_param (scope_of c.args.on.now.env.now)) _ _ c.second.ensures c.in-None.is c.in-Ok-fire.ensures in
-    d_switch_stays _ _ _ _ _ _ _ _ _ _ _ _ _ _ _ _ c.requires c.end.ensures c.in-Ok.ensures fires c.first.ensures c.in_ok-done-in-None.ensures c.node-in-None.ensures
-
-pub run::run_d_switch-returns-in_ok-two-in-Some : goal.run::run_d_switch-returns-in_ok-two-in-Some
-run::run_d_switch-returns-in_ok-two-in-Some g t c =
-    let fires = fires_by _ _ (push_param (scope_of c.args.on.now.env.now)) _ _ c.second.ensures c.in-Some.is c.in-Ok-fire.ensures in
-    d_switch_ends _ _ _ _ _ _ _ _ _ _ _ _ _ _ _ _ _ _ _ _ c.requires.2 c.in-Ok.ensures fires.1 fires.2 c.started.ensures.scope c.started.ensures.past
-    (subst (λ r. RunsWhere (g.R.Rows.keys r) (standing (rows_in c.args.t.now) (scope_of c.started.result.env.now)
-    (past_in c.started.result.before c.started.result.dt)) (datum_of c.args.x.now) (running_of c.run_in-two.new.running) (datum_of c.run_in-two.new.out) c.in_ok-two-in-Some.field-0)
-    c.started.ensures.rows c.in_ok-two-in-Some.ensures) c.first.ensures c.in_ok-done-in-Some.ensures c.node.ensures
+    c.started.ensures.rows c.in_ok-two-in-Ok-Some.ensures) c.in_ok-done-in-Ok-Some.ensures c.node.ensures
 
 pub run::run_k_switch-run_in-three-requires : goal.run::run_k_switch-run_in-three-requires
 run::run_k_switch-run_in-three-requires g t c κs within =
@@ -379,7 +366,7 @@ flow::flow_late_restart-start_under-two-requires g t c κs within = (
 
 pub flow::flow_late_restart-returns-in_ok-run_place-in-None : goal.flow::flow_late_restart-returns-in_ok-run_place-in-None
 flow::flow_late_restart-returns-in_ok-run_place-in-None g t c =
-    late_goes _ _ _ _ _ _ _ _ _ _ _ _ c.first.ensures (sym c.restart_of.ensures ∙ ap restart_found c.in-None.is) c.in_ok-run_place-in-None.ensures
+    restart_goes _ _ _ _ _ _ _ _ _ _ _ _ _ c.first.ensures (sym c.restart_of.ensures ∙ ap restart_found c.in-None.is) c.in_ok-run_place-in-None.ensures
     c.node-in-None.ensures
 
 pub flow::flow_late_restart-returns-in_ok-push-in-Ok-two : goal.flow::flow_late_restart-returns-in_ok-push-in-Ok-two

@@ -1,5 +1,5 @@
 use Rattle.std.proofs.Common.{◌+◌, ◌*◌, ◌≡◌, ◌≤◌, drop, length, map, take}
-use Rattle.net_tree.specs.Network.{map_networks, seq, first, par, loop_pre, initial_out, initial_in, switch, d_switch, r_switch, dr_switch, rp_switch, k_switch, p_switch, old}
+use Rattle.net_tree.specs.Network.{map_networks, seq, first, par, loop_pre, initial_out, initial_in, at_once, delayed, switch, r_switch, rp_switch, k_switch, p_switch, old}
 use Rattle.net_tree.specs.NetworkView.{members_of}
 use Rattle.net_tree.specs.Weight.{total}
 use Rattle.state_core.specs.RowsView.{rows_in, row_number}
@@ -8,6 +8,7 @@ use Rattle.state_core.specs.StateView.{frozen_of, kept_of, scope_of, state_of}
 use Rattle.state_core.specs.Tree.{width_of}
 use Rattle.step_core.specs.Flow.{flowed, all_flowed, placed, all_placed, standing, past_behind, past_in}
 use Rattle.step_core.specs.Rank.{frozen_rank, frozen_ranks}
+use Rattle.step_core.specs.Switching.{timing_of}
 use Rattle.net_tree.proofs.Sizes.{net_size}
 use Rattle.sample_core.specs.ValueView.{datum_of}
 use Rattle.step_core.proofs.Flows.{ChainFlows, EachFlows}
@@ -47,11 +48,11 @@ decreases-flow::flow_loop g l =
 
 abbrev pub decreases-flow::flow_restart : goal.decreases-flow::flow_restart
 decreases-flow::flow_restart g l =
-    20 * frozen_rank (flowed (r_switch (rows_in l.f.now) (rows_in l.t.now)) (scope_of l.on.now.env.now) (past_behind (width_of (kept_of l.kept.now)) (past_in l.on.now.before l.on.now.dt))) + 11
+    20 * frozen_rank (flowed (r_switch at_once (rows_in l.f.now) (rows_in l.t.now)) (scope_of l.on.now.env.now) (past_behind (width_of (kept_of l.kept.now)) (past_in l.on.now.before l.on.now.dt))) + 11
 
 abbrev pub decreases-flow::flow_late_restart : goal.decreases-flow::flow_late_restart
 decreases-flow::flow_late_restart g l =
-    20 * frozen_rank (flowed (dr_switch (rows_in l.f.now) (rows_in l.t.now)) (scope_of l.on.now.env.now) (past_behind (width_of (kept_of l.kept.now)) (past_in l.on.now.before l.on.now.dt))) + 11
+    20 * frozen_rank (flowed (r_switch delayed (rows_in l.f.now) (rows_in l.t.now)) (scope_of l.on.now.env.now) (past_behind (width_of (kept_of l.kept.now)) (past_in l.on.now.before l.on.now.dt))) + 11
 
 abbrev pub decreases-flow::flow_initial_out : goal.decreases-flow::flow_initial_out
 decreases-flow::flow_initial_out g l =
@@ -130,11 +131,7 @@ decreases-run::run_old g l =
 
 abbrev pub decreases-run::run_switch : goal.decreases-run::run_switch
 decreases-run::run_switch g l =
-    20 * frozen_rank (standing (switch (rows_in l.f.now) (rows_in l.t.now)) (scope_of l.on.now.env.now) (past_in l.on.now.before l.on.now.dt)) + 12
-
-abbrev pub decreases-run::run_d_switch : goal.decreases-run::run_d_switch
-decreases-run::run_d_switch g l =
-    20 * frozen_rank (standing (d_switch (rows_in l.f.now) (rows_in l.t.now)) (scope_of l.on.now.env.now) (past_in l.on.now.before l.on.now.dt)) + 12
+    20 * frozen_rank (standing (switch (timing_of l.over.delayed) (rows_in l.f.now) (rows_in l.over.net.now)) (scope_of l.on.now.env.now) (past_in l.on.now.before l.on.now.dt)) + 12
 
 abbrev pub decreases-run::run_k_switch : goal.decreases-run::run_k_switch
 decreases-run::run_k_switch g l =

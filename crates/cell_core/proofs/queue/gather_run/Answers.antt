@@ -3,7 +3,7 @@ use Rattle.std.proofs.lemmas.List.{nil_from_length}
 use Rattle.cell_core.specs.declared.entry.Entry.{Entry}
 use Rattle.cell_core.specs.Cell.{due}
 use Rattle.cell_core.specs.Entries.{entry_of, entries_of}
-use Rattle.cell_core.specs.Queue.{behind, then_found}
+use Rattle.cell_core.specs.Queue.{times_behind, then_found}
 use Rattle.cell_core.proofs.Queues.{newest_first, one_due, gathers_on}
 use Rattle.cell_core.proofs.queue.gather_run.Goals as goal
 
@@ -23,4 +23,4 @@ each-preserved c = λ r fs g.
 pub returns : goal.returns
 returns c =
     c.each.invariant (Some c.each.time) c.each.entries
-    (λ out older. ap (λ (xs : List Entry). then_found (due c.args.dt out (behind c.each.time (reverse (entries_of xs) ++ older))) c.each.entries) (nil_from_length c.each.rest.now c.in_default.ensures.cases))
+    (λ out older. ap (λ (xs : List Entry). then_found (due c.args.dt out (times_behind c.each.time (reverse (entries_of xs) ++ older))) c.each.entries) (nil_from_length c.each.rest.now c.in_default.ensures.cases))

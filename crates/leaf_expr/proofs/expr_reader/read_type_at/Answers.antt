@@ -3,12 +3,13 @@ use Rattle.leaf_expr.specs.Grammar.{type_sort}
 use Rattle.leaf_expr.specs.ReadText.{type_left}
 use Rattle.leaf_expr.proofs.Answered.{tree_found, tree_only, tree_refused}
 use Rattle.leaf_expr.proofs.expr_reader.read_type_at.Goals as goal
+use Rattle.leaf_expr.specs.declared.type_reader.TheConstants.{MOST_OPEN}
 
 pub returns-clause-found : goal.returns-clause-found
-returns-clause-found c = tree_found type_sort c.args.text.now (600 - c.args.depth) c.args.at (type_left c.args.text.now) c.type_at.result c.type_at.ensures
+returns-clause-found c = tree_found type_sort c.args.text.now (MOST_OPEN - c.args.depth) c.args.at (type_left c.args.text.now) c.type_at.result c.type_at.ensures
 
 pub returns-clause-only : goal.returns-clause-only
-returns-clause-only c = tree_only type_sort c.args.text.now (600 - c.args.depth) c.args.at (type_left c.args.text.now) c.type_at.result c.type_at.ensures
+returns-clause-only c = tree_only type_sort c.args.text.now (MOST_OPEN - c.args.depth) c.args.at (type_left c.args.text.now) c.type_at.result c.type_at.ensures
 
 pub returns-clause-refused : goal.returns-clause-refused
-returns-clause-refused c = tree_refused type_sort c.args.text.now (600 - c.args.depth) c.args.at (type_left c.args.text.now) c.type_at.result c.type_at.ensures
+returns-clause-refused c = tree_refused type_sort c.args.text.now (MOST_OPEN - c.args.depth) c.args.at (type_left c.args.text.now) c.type_at.result c.type_at.ensures

@@ -1,7 +1,7 @@
 use Rattle.std.proofs.Common.{◌≡◌, ◌+◌, ◌*◌, ◌++◌, string_bytes, drop, map}
 use Rattle.sample_core.specs.Adding.{Extends}
 use Rattle.leaf_core.specs.Expression.{nodes_in, expressions_of}
-use Rattle.leaf_expr.specs.Sexpr.{spellings}
+use Rattle.leaf_expr.specs.Sexpr.{sexprs_spelling}
 use Rattle.leaf_expr.specs.Printing.{expression_sexprs}
 use Rattle.leaf_core.specs.ExpressionView.{expression_of}
 use Rattle.leaf_core.proofs.Sizes.{expr_nodes, exprs_nodes}
@@ -11,8 +11,8 @@ use Rattle.leaf_expr.proofs.print.+push_expr.Given as goal
 abbrev pub invariant-push_elements-loop-e : goal.invariant-push_elements-loop-e
 invariant-push_elements-loop-e l =
     Extends (string_bytes l.initial.text) (string_bytes l.text)
-    × (string_bytes l.text ++ spellings (expression_sexprs (expressions_of (map expression_of (drop l.e-index l.e-items)))) ≡ string_bytes l.initial.text
-    ++ spellings (expression_sexprs (expressions_of (map expression_of l.e-items))))
+    × (string_bytes l.text ++ sexprs_spelling (expression_sexprs (expressions_of (map expression_of (drop l.e-index l.e-items)))) ≡ string_bytes l.initial.text
+    ++ sexprs_spelling (expression_sexprs (expressions_of (map expression_of l.e-items))))
 
 abbrev pub decreases-push_three : goal.decreases-push_three
 decreases-push_three l = 5 * (nodes_in l.a.now + nodes_in l.b.now + nodes_in l.c.now) + 4

@@ -1,5 +1,5 @@
-use Rattle.net_meaning.proofs.SameForms.{initial_out_congruent, initial_in_congruent, late_restart_congruent, collection_congruent}
-use Rattle.net_meaning.proofs.Congruence.{arr_congruent, sequence_congruent, first_congruent, parallel_congruent, loop_congruent, previous_congruent, delay_congruent, hold_congruent, accumulate_congruent, after_congruent, repeatedly_congruent, switch_congruent, late_switch_congruent, restart_congruent, freeze_congruent, freeze_members_congruent}
+use Rattle.net_meaning.proofs.SameForms.{initial_out_congruent, initial_in_congruent, collection_congruent}
+use Rattle.net_meaning.proofs.Congruence.{arr_congruent, sequence_congruent, first_congruent, parallel_congruent, loop_congruent, previous_congruent, delay_congruent, hold_congruent, accumulate_congruent, after_congruent, repeatedly_congruent, switch_congruent, restart_congruent, freeze_congruent, freeze_members_congruent}
 use Rattle.net_meaning.proofs.laws.congruence_laws.Goals as goal
 
 pub returns-clause-arr : goal.returns-clause-arr
@@ -38,9 +38,6 @@ returns-clause-repeatedly c = repeatedly_congruent
 pub returns-clause-switch : goal.returns-clause-switch
 returns-clause-switch c = switch_congruent
 
-pub returns-clause-late_switch : goal.returns-clause-late_switch
-returns-clause-late_switch c = late_switch_congruent
-
 pub returns-clause-restart : goal.returns-clause-restart
 returns-clause-restart c = restart_congruent
 
@@ -55,9 +52,6 @@ returns-clause-initial_out c = initial_out_congruent
 
 pub returns-clause-initial_in : goal.returns-clause-initial_in
 returns-clause-initial_in c = initial_in_congruent
-
-pub returns-clause-late_restart : goal.returns-clause-late_restart
-returns-clause-late_restart c = late_restart_congruent
 
 pub returns-clause-collection : goal.returns-clause-collection
 returns-clause-collection c = collection_congruent

@@ -1,11 +1,8 @@
-use Rattle.net_meaning.proofs.SwitchedOutputs.{switch_outputs, switch_late_outputs, restart_outputs, freeze_outputs, freeze_members_outputs, resume_outputs, kept_numbers, late_restart_outputs, collection_outputs}
+use Rattle.net_meaning.proofs.SwitchedOutputs.{switch_outputs, restart_outputs, freeze_outputs, freeze_members_outputs, resume_outputs, kept_numbers, late_restart_outputs, collection_outputs}
 use Rattle.net_meaning.proofs.laws.switching_laws.Goals as goal
 
 pub returns-clause-switch : goal.returns-clause-switch
 returns-clause-switch c = switch_outputs
-
-pub returns-clause-switch_late : goal.returns-clause-switch_late
-returns-clause-switch_late c = switch_late_outputs
 
 pub returns-clause-restart : goal.returns-clause-restart
 returns-clause-restart c = restart_outputs

@@ -1,15 +1,12 @@
-use Rattle.net_syntax.proofs.FoundLeaves.{found_some, whole_found, whole_leaves}
+use Rattle.std.proofs.Common.{map, ap, ◌∙◌}
+use Rattle.net_tree.specs.NetworkView.{tree_of}
+use Rattle.net_syntax.specs.NeedView.{need_of}
+use Rattle.net_syntax.specs.Standing.{alone}
+use Rattle.net_syntax.specs.StandingWalk.{standing_of}
+use Rattle.net_syntax.proofs.FoundLeaves.{whole_leaves}
 use Rattle.net_syntax.proofs.needs.leaves.Goals as goal
 
-pub add_leaves-requires : goal.add_leaves-requires
-add_leaves-requires c = found_some _ _
-    (whole_found (record { path = c.new.result; params = c.new-2.result; olds = c.new-3.result; needs = c.new-4.result }) _ _ c.args.net.now
-    c.new.ensures.items c.new-2.ensures.items c.new-3.ensures.items c.net.ensures.net c.input.ensures c.net.ensures.limits.fits.typed)
-
-pub returns : goal.returns
-returns c = whole_leaves (record { path = c.new.result; params = c.new-2.result; olds = c.new-3.result; needs = c.new-4.result }) c.add_leaves.new.walk _ _
-    c.args.net.now
-    c.net.ensures.limits.fits.typed
-    (whole_found (record { path = c.new.result; params = c.new-2.result; olds = c.new-3.result; needs = c.new-4.result }) _ _ c.args.net.now
-    c.new.ensures.items c.new-2.ensures.items c.new-3.ensures.items c.net.ensures.net c.input.ensures c.net.ensures.limits.fits.typed)
-    c.new-4.ensures.items c.in_ok-output.ensures.0
+pub returns-in-Ok : goal.returns-in-Ok
+returns-in-Ok c = whole_leaves (standing_of c.in_ok-at.at) (tree_of c.net.result.now) c.new.result.items c.args.net.now (map need_of c.new-2.result.items) _
+    (c.in_ok-at.ensures ∙ ap alone c.input.ensures) c.net.ensures.net c.new.ensures.items (ap (map need_of) c.new-2.ensures.items)
+    c.net.ensures.limits.fits.typed c.in-Ok.ensures.0

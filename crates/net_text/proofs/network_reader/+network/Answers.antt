@@ -15,7 +15,7 @@ use Rattle.net_tree.specs.Network.{Network, Networks, networks_of, par, p_switch
 use Rattle.leaf_core.specs.Expression.{Expression}
 use Rattle.net_tree.specs.FormView.{fed_tree}
 use Rattle.net_tree.specs.NetworkView.{tree_of}
-use Rattle.net_text.specs.Grammar.{network_sort, members_sort, row, e, f, col}
+use Rattle.net_text.specs.Grammar.{network_sort, members_sort, net_form, e, f, col}
 use Rattle.net_text.proofs.ReadSteps.{col_named, col_unnamed, col_no_word, leaf_part, no_leaf, fed_made, members_are, read_behind, refused_behind}
 use Rattle.net_text.proofs.network_reader.+network.Goals as goal
 
@@ -101,7 +101,7 @@ col_at-returns-in-Word t c =
 pub col_form_at-returns-then-word_is : goal.col_form_at-returns-then-word_is
 col_form_at-returns-then-word_is t c =
     given _ _
-    (named (language c.args.text.now) _ _ _ members_sort _ (row (codes "col") (places network_sort) networks_of) c.in_ok-start.ensures.head
+    (named (language c.args.text.now) _ _ _ members_sort _ (net_form (codes "col") (places network_sort) networks_of) c.in_ok-start.ensures.head
     (col_named _ _ (sym c.word_is.ensures ∙ c.if-word_is.true))) c.members_at.ensures
 
 pub col_form_at-returns-else-word_is : goal.col_form_at-returns-else-word_is

@@ -1,7 +1,7 @@
 use Rattle.std.proofs.Common.{◌≡◌, ◌+◌, ◌*◌, ◌++◌, string_bytes, drop}
 use Rattle.sample_core.specs.Adding.{Extends}
 use Rattle.leaf_core.specs.ExpressionView.{expression_of}
-use Rattle.leaf_expr.specs.Sexpr.{spellings}
+use Rattle.leaf_expr.specs.Sexpr.{sexprs_spelling}
 use Rattle.net_tree.specs.Network.{network_size, networks_size, map_networks}
 use Rattle.net_tree.specs.NetworkView.{members_of}
 use Rattle.net_text.specs.Printing.{network_sexprs}
@@ -12,8 +12,8 @@ use Rattle.net_text.proofs.print.+push_net.Given as goal
 abbrev pub invariant-push_members-loop-net : goal.invariant-push_members-loop-net
 invariant-push_members-loop-net l =
     Extends (string_bytes l.initial.text) (string_bytes l.text)
-    × (string_bytes l.text ++ spellings (network_sexprs (map_networks expression_of (members_of (drop l.net-index l.net-items))))
-    ≡ string_bytes l.initial.text ++ spellings (network_sexprs (map_networks expression_of (members_of l.net-items))))
+    × (string_bytes l.text ++ sexprs_spelling (network_sexprs (map_networks expression_of (members_of (drop l.net-index l.net-items))))
+    ≡ string_bytes l.initial.text ++ sexprs_spelling (network_sexprs (map_networks expression_of (members_of l.net-items))))
 
 abbrev pub decreases-push_net : goal.decreases-push_net
 decreases-push_net l = 5 * net_size l.net.now + 1

@@ -1,7 +1,7 @@
 use Rattle.std.proofs.Common.{◌∙◌, ap, sym, subst, ◌∷◌, ◌++◌, [], string_bytes}
 use Rattle.std.specs.Prelude.{codes}
 use Rattle.sample_core.specs.Adding.{Adds}
-use Rattle.leaf_expr.specs.Sexpr.{spellings}
+use Rattle.leaf_expr.specs.Sexpr.{sexprs_spelling}
 use Rattle.net_tree.specs.Position.{position_spelling}
 use Rattle.net_tree.specs.LawStep.{step_of}
 use Rattle.net_text.specs.CertificatePrinting.{law_spelling, direction_spelling, given_sexprs}
@@ -15,6 +15,6 @@ returns c =
     (six_added c.push_word-3.result (string_bytes c.args.text.now) (string_bytes c.push_word.new.text) (string_bytes c.push_law.new.text)
     (string_bytes c.push_word-2.new.text) (string_bytes c.push_position.new.text) (string_bytes c.push_given.new.text)
     (string_bytes c.push_word-3.new.text) (codes "(step ") (law_spelling s.law) (32 ∷ direction_spelling s.direction ++ 32 ∷ [])
-    (position_spelling s.position) (spellings (given_sexprs s.given)) (codes ")\n") c.in_ok-push_word.ensures c.in_ok-push_law.ensures
+    (position_spelling s.position) (sexprs_spelling (given_sexprs s.given)) (codes ")\n") c.in_ok-push_word.ensures c.in_ok-push_law.ensures
     (c.in_ok-push_word-2.ensures ∙ ap (λ w. string_bytes c.push_law.new.text ++ w) c.direction_word.ensures) c.in_ok-push_position.ensures
     c.in_ok-push_given.ensures c.push_word-3.ensures)

@@ -1,4 +1,4 @@
-use Rattle.std.proofs.Common.{Some, arith}
+use Rattle.std.proofs.Common.{arith}
 use Rattle.std.proofs.lemmas.Result.{err_from_is_err_and}
 use Rattle.sample_core.specs.TypeView.{type_of}
 use Rattle.net_tree.specs.NetworkView.{tree_of}

@@ -1,5 +1,6 @@
-use Rattle.std.proofs.Common.{◌+◌, suc, Err, add-one, arith}
+use Rattle.std.proofs.Common.{◌+◌, ◌∙◌, suc, Err, add-one, ap, arith}
 use Rattle.std.proofs.lemmas.Result.{err_from_is_err_and}
+use Rattle.sample_core.specs.TypeTree.{list_ty}
 use Rattle.sample_core.specs.TypeView.{type_of}
 use Rattle.leaf_core.specs.ExpressionView.{expression_of}
 use Rattle.net_syntax.specs.ArrowView.{arrow_of}
@@ -13,7 +14,7 @@ walk_gathered-returns-clause-answer t c =
     let n = c.args.count in
     freezing_gives type_of c.walk_next.result c.args.path.now.items c.walk_event.new.path.items (suc n) (n + 1) (n + 2) n c.args.scope.now
     c.in_ok-inner.inner c.add_olds.new.self (type_of c.args.input.now) _ _ (arrow_of c.args.types.now) (map_network expression_of c.args.e.now)
-    (map_network expression_of c.args.t.now) c.in_ok-list.ensures (add-one n) (omega arith) c.in_ok-inner.ensures.path c.in_ok-add_olds.ensures
+    (map_network expression_of c.args.t.now) (c.in_ok-list.ensures ∙ ap (λ o. list_ty (type_of o)) c.in_ok-output.ensures) (add-one n) (omega arith) c.in_ok-inner.ensures.path c.in_ok-add_olds.ensures
     c.in_ok-inner.ensures.answer c.walk_next.ensures.answer
 
 pub walk_p_switch-returns-clause-answer : goal.walk_p_switch-returns-clause-answer

@@ -2,6 +2,7 @@ use Rattle.std.proofs.Common.{rules, ◌≡◌, ◌≤◌, ◌<◌, ◌+◌, tak
 use Rattle.std.proofs.lemmas.Grind.{common_steps}
 use Rattle.stream_text.proofs.KeptBytes.{read_part, resized_front}
 use Rattle.stream_text.proofs.kept.read_behind.Goals as goal
+use Rattle.stream_text.specs.declared.kept.TheConstants.{PIECE}
 
 pub returns-in-Ok-read-clause-piece : goal.returns-in-Ok-read-clause-piece
 returns-in-Ok-read-clause-piece g c =
@@ -12,7 +13,7 @@ returns-in-Ok-read-clause-piece g c =
     let within : c.len-old.result + c.in-Ok-read.size ≤ c.resize.new.self.len = grind
     (arith, c.in-Ok-read.ensures.bound, c.read.auto.buf, c.deref_mut.ensures.len) in
     let some : 0 < length (take c.in-Ok-read.size c.read.new.buf) = grind (arith, common_steps, size, c.in-Ok-read.size-test) in
-    let small : length (take c.in-Ok-read.size c.read.new.buf) ≤ 4096 = grind (arith, within, c.in-Ok-read.ensures.bound, c.in-Ok.ensures.len) in (
+    let small : length (take c.in-Ok-read.size c.read.new.buf) ≤ PIECE = grind (arith, within, c.in-Ok-read.ensures.bound, c.in-Ok.ensures.len) in (
       take c.in-Ok-read.size c.read.new.buf,
       c.truncate-in-Ok-read.ensures.items
           ∙ read_part _ _ _ _ _ _ _ _ n before size within,

@@ -4,6 +4,7 @@ use Rattle.std.specs.Map.{keys_of, values_of}
 use Rattle.leaf_table.proofs.KeyEquality.{key_same}
 use Rattle.leaf_table.proofs.TableLemmas.{absent_from, keyed_after, room_after, entries_after, entries_grown, keys_push, key_pushed, values_push}
 use Rattle.leaf_table.proofs.table.LeafTable.push.Goals as goal
+use Rattle.leaf_table.specs.declared.table.TheConstants.{MOST_ROWS}
 
 pub invariant_of-self-clause-keyed : goal.invariant_of-self-clause-keyed
 invariant_of-self-clause-keyed g c =
@@ -16,7 +17,7 @@ pub invariant_of-self-clause-within : goal.invariant_of-self-clause-within
 invariant_of-self-clause-within g c =
     let absent = absent_from _ key_same c.args.self.now.rows c.args.key c.requires.fresh in
     room_after _ _ _ (entries_after _ c.args.self.now.rows c.insert.new.self c.args.key c.args.leaf absent _ c.insert.ensures.entries c.insert.ensures.err)
-    (subst (λ n. n < 4096) (length-keys_of _) c.requires.room)
+    (subst (λ n. n < MOST_ROWS) (length-keys_of _) c.requires.room)
 
 pub returns-in-Ok-clause-grown : goal.returns-in-Ok-clause-grown
 returns-in-Ok-clause-grown g c =

@@ -1,7 +1,7 @@
 use Rattle.std.proofs.Common.{◌+◌, add-one, ap}
 use Rattle.net_syntax.specs.ArrowView.{arrow_of}
-use Rattle.net_types.proofs.ScopeLists.{copied_once}
-use Rattle.net_types.proofs.scope.add_copies.Goals as goal
+use Rattle.net_syntax.proofs.Copies.{copied_once}
+use Rattle.net_syntax.proofs.scope.add_copies.Goals as goal
 
 pub loop-preserved : goal.loop-preserved
 loop-preserved c =

@@ -3,24 +3,24 @@
 ghost use Rattle.std.specs.Prelude.{◌≡◌, ◌++◌, IfOk, OnOk, map};
 ghost use Rattle.sample_core.specs.TypeView.{type_of};
 ghost use Rattle.net_syntax.specs.{ArrowView.arrow_of};
-ghost use Rattle.net_meaning.specs.{Typing.arrow, Typing.copies};
-ghost use Rattle.net_types.specs.Scopes.{and_olds, and_param, empty, in_scope};
+ghost use Rattle.net_meaning.specs.Typing.{copies};
+ghost use Rattle.net_syntax.specs.Scopes.{and_olds, and_param, empty};
 
-use net_syntax::Arrow;
+use crate::arrow::Arrow;
 use sample_core::{Memory, Ty, try_copy_types};
 use std::alloc::Global;
 use std::marker::Model;
 
 /// The types of the parameters and of the frozen networks in scope, the outermost first.
 #[derive(Drop)]
-pub(crate) struct ScopeTypes {
+pub struct ScopeTypes {
     params: Vec<Ty>,
     olds: Vec<Arrow>,
 }
 
 impl Model for ScopeTypes {
     ghost use Rattle.std.specs.Prelude.{map};
-    ghost use Rattle.net_types.specs.Scopes.{InScope, in_scope_code};
+    ghost use Rattle.net_syntax.specs.Scopes.{InScope, in_scope_code};
 
     ghost Value = { InScope };
 
@@ -37,7 +37,7 @@ impl Model for ScopeTypes {
 
 impl ScopeTypes {
     /// Nothing in scope.
-    pub(crate) fn new(alloc: Global) -> ScopeTypes
+    pub fn new(alloc: Global) -> ScopeTypes
         ensures { result ≡ empty }
     {
         ScopeTypes {
@@ -46,62 +46,52 @@ impl ScopeTypes {
         }
     }
 
-    /// These in scope.
-    pub(crate) fn of(params: Vec<Ty>, olds: Vec<Arrow>) -> ScopeTypes
-        ensures { result ≡ in_scope (map type_of params.items) (map arrow_of olds.items) }
-    {
-        ScopeTypes { params, olds }
-    }
-
     /// The types of the parameters.
-    pub(crate) fn params(&self) -> &[Ty]
+    pub fn params(&self) -> &[Ty]
         ensures { map type_of result.now ≡ self.now.params }
     {
         &self.params
     }
 
     /// The types of the frozen networks.
-    pub(crate) fn olds(&self) -> &[Arrow]
+    pub fn olds(&self) -> &[Arrow]
         ensures { map arrow_of result.now ≡ self.now.olds }
     {
         &self.olds
     }
 
-    /// The scope with one more parameter, of the type. `Memory` where a growth was refused.
-    pub(crate) fn and_param(&self, alloc: Global, param: &Ty) -> Result<ScopeTypes, Memory>
-        ensures { IfOk result (λ s. s ≡ and_param self.now (type_of param.now)) }
+    /// A copy, whose parts are shared with it. `Memory` where a growth was refused.
+    pub fn try_copy(&self, alloc: Global) -> Result<ScopeTypes, Memory>
+        ensures { IfOk result (λ s. s ≡ self.now) }
     {
-        let mut params = try_copy_types(alloc, &self.params)?;
-        let param = param.try_copy(alloc)?;
-        params.push(param)?;
+        let params = try_copy_types(alloc, &self.params)?;
         let olds = copied_olds(alloc, &self.olds)?;
         Ok(ScopeTypes { params, olds })
     }
 
+    /// The scope with one more parameter, of the type. `Memory` where a growth was refused.
+    pub fn and_param(&self, alloc: Global, param: &Ty) -> Result<ScopeTypes, Memory>
+        ensures { IfOk result (λ s. s ≡ and_param self.now (type_of param.now)) }
+    {
+        let mut inner = self.try_copy(alloc)?;
+        let param = param.try_copy(alloc)?;
+        inner.push_param(param)?;
+        Ok(inner)
+    }
+
+    /// Adds a parameter of the type. `Memory` where a growth was refused.
+    pub fn push_param(&mut self, param: Ty) -> Result<(), Memory>
+        ensures { OnOk result (self.new ≡ and_param self.old (type_of param)) }
+    {
+        self.params.push(param)?;
+        Ok(())
+    }
+
     /// Adds frozen networks of the types, `count` of them. `Memory` where a growth was refused.
-    pub(crate) fn add_olds(
-        &mut self,
-        alloc: Global,
-        count: u32,
-        types: &Arrow,
-    ) -> Result<(), Memory>
+    pub fn add_olds(&mut self, alloc: Global, count: u32, types: &Arrow) -> Result<(), Memory>
         ensures { OnOk result (self.new ≡ and_olds self.old count (arrow_of types.now)) }
     {
         add_copies(alloc, &mut self.olds, count, types)
-    }
-}
-
-/// A network from the one type to the other. `Memory` where a growth was refused.
-pub(crate) fn arrow_between(alloc: Global, input: &Ty, output: &Ty) -> Result<Arrow, Memory>
-    ensures { IfOk result (λ o. arrow_of o ≡ arrow (type_of input.now) (type_of output.now)) }
-{
-    let input = input.try_copy(alloc)?;
-    match output.try_copy(alloc) {
-        Ok(output) => Ok(Arrow { input, output }),
-        Err(refused) => {
-            drop(input);
-            Err(refused)
-        }
     }
 }
 

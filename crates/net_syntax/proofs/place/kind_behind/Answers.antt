@@ -2,7 +2,7 @@ use Rattle.std.proofs.Common.{◌-◌, suc, length, ap, sym, ◌∙◌, arith}
 use Rattle.net_tree.specs.NetworkView.{trees}
 use Rattle.net_tree.specs.Place.{p_switch_child}
 use Rattle.net_syntax.proofs.ChildNumbers.{below, past}
-use Rattle.net_syntax.proofs.standing.kind_behind.Goals as goal
+use Rattle.net_syntax.proofs.place.kind_behind.Goals as goal
 
 pub returns-then-k-count : goal.returns-then-k-count
 returns-then-k-count c = ap (λ z. p_switch_child (trees z) c.args.k) (sym c.as_slice-count.ensures) ∙ below c.as_slice-count.result.now c.args.k c.if-k-count.true
