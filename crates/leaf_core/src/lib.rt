@@ -34,7 +34,9 @@ pub use evaluation::{eval, eval_over};
 pub use expr::{Expr, ExprChild, Exprs, with_one_part, with_three_parts, with_two_parts};
 pub use key::LeafKey;
 pub use laws::{part_laws, typing_laws};
-pub use limits::{expr_fits, type_fits};
+pub use limits::{
+    MOST_EXPR_HEIGHT, MOST_EXPR_NODES, MOST_TYPE_DEPTH, MOST_TYPE_NODES, expr_fits, type_fits,
+};
 pub use literal::Literal;
 pub use part_types::part_type;
 pub use parts::{part, part_at, with_part_at};

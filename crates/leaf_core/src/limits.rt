@@ -11,23 +11,23 @@ use crate::inside::{Contents, inside};
 use sample_core::Ty;
 
 /// How many types may stand in one another; `Int` has depth 1.
-const TYPE_DEPTH: u32 = 32;
+pub const MOST_TYPE_DEPTH: u32 = 32;
 
 /// How many types a type may be made of, itself counted.
-const TYPE_NODES: u32 = 256;
+pub const MOST_TYPE_NODES: u32 = 256;
 
 /// How many expressions may stand in one another.
-const EXPR_HEIGHT: u32 = 256;
+pub const MOST_EXPR_HEIGHT: u32 = 256;
 
 /// How many expressions an expression may be made of, itself counted.
-const EXPR_NODES: u32 = 100_000;
+pub const MOST_EXPR_NODES: u32 = 100_000;
 
 /// Whether the type is within the limits: depth 32 and 256 nodes, where `Int` has depth 1 and one
 /// node. It takes no memory.
 pub fn type_fits(ty: &Ty) -> bool
     ensures { result ≡ type_fits (type_of ty.now) }
 {
-    type_nodes_left(ty, TYPE_DEPTH, TYPE_NODES).is_some()
+    type_nodes_left(ty, MOST_TYPE_DEPTH, MOST_TYPE_NODES).is_some()
 }
 
 /// Whether the expression is within the limits: height 256 and 100,000 nodes, where `x` has height
@@ -35,7 +35,7 @@ pub fn type_fits(ty: &Ty) -> bool
 pub fn expr_fits(expr: &Expr) -> bool
     ensures { result ≡ expression_fits (expression_of expr.now) }
 {
-    nodes_left(expr, EXPR_HEIGHT, EXPR_NODES).is_some()
+    nodes_left(expr, MOST_EXPR_HEIGHT, MOST_EXPR_NODES).is_some()
 }
 
 /// How many of `nodes` are left after those of the type, whose depth is at most `depth`; `None`
