@@ -5,11 +5,12 @@ ghost use Rattle.leaf_core.specs.Expression.{expressions_of, list_expr};
 ghost use Rattle.leaf_core.specs.ExpressionView.{expression_of};
 ghost use Rattle.net_tree.specs.Network.{arr, networks_of, par, seq};
 ghost use Rattle.net_tree.specs.NetworkView.{tree, tree_of, trees};
+ghost use Rattle.net_tree.specs.declared.limits.TheConstants.{MOST_MEMBERS};
 ghost use Rattle.law_rules.specs.NetworkRow.{route_to};
 ghost use Rattle.law_rules.specs.Forward.{beside_none, is_eventless, kept_apart, law39, law41, law42, law46, one_to_64, routed_apart, routed_each};
 
 use leaf_core::{Expr, ExprChild, Exprs, Literal};
-use net_tree::{Members, Net, NetChild};
+use net_tree::{MOST_MEMBERS, Members, Net, NetChild};
 use sample_core::Memory;
 use std::alloc::Global;
 
@@ -57,7 +58,7 @@ fn members_behind(
 fn is_1_to_64(n: usize) -> bool
     ensures { result ≡ one_to_64 n }
 {
-    1 <= n && n <= 64
+    1 <= n && n <= MOST_MEMBERS
 }
 
 /// Each of the networks behind h.
@@ -193,7 +194,7 @@ fn members_routed(alloc: Global, r: &Expr, fs: &Members<Expr>) -> Result<Option<
 
 /// Each of the networks behind its route.
 fn each_routed(alloc: Global, r: &ExprChild, fs: &[Net<Expr>]) -> Result<Vec<Net<Expr>>, Memory>
-    requires { length fs.now ≤ 64 }
+    requires { length fs.now ≤ MOST_MEMBERS }
     ensures { IfOk result (λ all. map tree_of all.items
         ≡ routed_each r.now 0 (map tree_of fs.now)) }
 {
@@ -207,7 +208,7 @@ fn each_routed(alloc: Global, r: &ExprChild, fs: &[Net<Expr>]) -> Result<Vec<Net
 
 /// Network i behind its route.
 fn routed(alloc: Global, r: &ExprChild, i: usize, f: &Net<Expr>) -> Result<Net<Expr>, Memory>
-    requires { i ≤ 64 }
+    requires { i ≤ MOST_MEMBERS }
     ensures { IfOk result (λ n. tree_of n ≡ seq (arr (route_to r.now i)) (tree_of f.now)) }
 {
     let route = route_to(alloc, r, i)?;
@@ -219,7 +220,7 @@ fn routed(alloc: Global, r: &ExprChild, i: usize, f: &Net<Expr>) -> Result<Net<E
 
 /// What the route gives to member i.
 fn route_to(alloc: Global, r: &ExprChild, i: usize) -> Result<Expr, Memory>
-    requires { i ≤ 64 }
+    requires { i ≤ MOST_MEMBERS }
     ensures { IfOk result (λ e. expression_of e ≡ route_to r.now i) }
 {
     let input = ExprChild::new(alloc, Expr::Input)?;

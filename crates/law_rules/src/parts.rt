@@ -8,7 +8,7 @@ ghost use Rattle.net_tree.specs.NetworkView.{tree_of, trees};
 ghost use Rattle.law_rules.specs.Forward.{law20, law38, law40, member_by, place_in};
 
 use leaf_core::{Expr, Literal};
-use net_tree::{Members, Net};
+use net_tree::{MOST_MEMBERS, Members, Net};
 use sample_core::Memory;
 use std::alloc::Global;
 
@@ -123,7 +123,7 @@ fn member_at(alloc: Global, fs: &Members<Expr>, i: usize) -> Result<Option<Net<E
     ensures { IfOk result (λ o. option_map tree_of o ≡ member_by (trees fs.now) (Some i)) }
 {
     let all = fs.as_slice();
-    if all.len() > 64 {
+    if all.len() > MOST_MEMBERS {
         return Ok(None);
     }
     if i >= all.len() {

@@ -13,7 +13,6 @@ use Rattle.sample_core.specs.Answer.{◌>>=◌}
 use Rattle.leaf_core.specs.ExpressionCheck.{TypeAnswer, check_that, expect, expect_then, within_limits, first_type, second_type, carried_type, element_type, type_of_param, type_walk, elements_walk, type_answer}
 use Rattle.leaf_core.specs.declared.typing.ExprFault.{ExprFault}
 use Rattle.leaf_core.specs.declared.typing.ExprFault.TheVariants.{Mismatch, TooDeep}
-use Rattle.leaf_core.specs.declared.limits.TheConstants.{MOST_EXPR_HEIGHT, MOST_EXPR_NODES, MOST_TYPE_DEPTH, MOST_TYPE_NODES}
 
 -- tests
 false_is_not_true : {P : Type 0} → false ≡ true → P
@@ -50,11 +49,11 @@ Decides-leb a b = (leb-true a b, le-leb a b)
 
 pub Decides-type_fits : (t : TypeTree) → Decides (type_fits t) (TypeFits t)
 Decides-type_fits t = Decides-like (type_fits t) (λ h. record { shallow = h.0; small = h.1 }) (λ h. (h.shallow, h.small))
-    (Decides-and _ _ (Decides-leb (depth_of t) MOST_TYPE_DEPTH) (Decides-leb (nodes_of t) MOST_TYPE_NODES))
+    (Decides-and _ _ (Decides-leb (depth_of t) 32) (Decides-leb (nodes_of t) 256))
 
 Decides-expression_fits : (e : Expression) → Decides (expression_fits e) (ExpressionFits e)
 Decides-expression_fits e = Decides-like (expression_fits e) (λ h. record { shallow = h.0; small = h.1 }) (λ h. (h.shallow, h.small))
-    (Decides-and _ _ (Decides-leb (height_of e) MOST_EXPR_HEIGHT) (Decides-leb (nodes_in e) MOST_EXPR_NODES))
+    (Decides-and _ _ (Decides-leb (height_of e) 256) (Decides-leb (nodes_in e) 100000))
 
 Decides-number : (n : ℤ) → Decides (int_eq (int_wrap w64 n) n) (FitsSigned w64 n)
 Decides-number n = Decides-like (int_eq (int_wrap w64 n) n) (λ e. subst (FitsSigned w64) e (SFits-int_wrap w64 n)) (int_wrap_fits w64 n)

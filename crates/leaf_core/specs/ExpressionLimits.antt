@@ -2,18 +2,17 @@
 use Rattle.std.specs.Prelude.{◌≤◌, Bool, ◌&&◌, leb, List}
 use Rattle.sample_core.specs.TypeTree.{TypeTree, pair_ty}
 use Rattle.leaf_core.specs.TypeLimits.{TypeFits}
-use Rattle.leaf_core.specs.declared.limits.TheConstants.{MOST_EXPR_HEIGHT, MOST_EXPR_NODES}
 use Rattle.leaf_core.specs.Expression.{Expression, Expressions, height_of, nodes_in}
 use Rattle.leaf_core.specs.ExpressionTyping.{ExpressionTyped, ExpressionsTyped, input_typed, param_typed, unit_typed, bool_typed, int_typed, pair_typed, fst_typed, snd_typed, then_typed, neg_typed, add_typed, sub_typed, mul_typed, less_typed, equal_typed, not_typed, and_typed, or_typed, if_typed, no_event_typed, event_typed, on_typed, list_typed, nth_typed, len_typed, no_more_typed, and_then_typed}
 
 -- an expression within the limits
 pub record ExpressionFits (e : Expression) : Type 0 where
-  pub shallow : height_of e ≤ MOST_EXPR_HEIGHT
-  pub small : nodes_in e ≤ MOST_EXPR_NODES
+  pub shallow : height_of e ≤ 256
+  pub small : nodes_in e ≤ 100000
 
 -- whether an expression is within the limits
 abbrev pub expression_fits : Expression → Bool
-expression_fits e = leb (height_of e) MOST_EXPR_HEIGHT && leb (nodes_in e) MOST_EXPR_NODES
+expression_fits e = leb (height_of e) 256 && leb (nodes_in e) 100000
 
 -- every type that arises is within the limits: each node's own, the one that a list or `none` is
 -- given, and the input of the last part of `on`

@@ -1,16 +1,15 @@
 -- How deep and how large types may be, and when two types are the same.
 use Rattle.std.specs.Prelude.{◌≡◌, ℕ, ◌+◌, ◌≤◌, Bool, true, false, ◌&&◌, leb, Option, MatchOption}
 use Rattle.sample_core.specs.TypeTree.{TypeTree, depth_of, nodes_of, unit_ty, bool_ty, int_ty, pair_ty, event_ty, list_ty}
-use Rattle.leaf_core.specs.declared.limits.TheConstants.{MOST_TYPE_DEPTH, MOST_TYPE_NODES}
 
 -- a type within the limits
 pub record TypeFits (t : TypeTree) : Type 0 where
-  pub shallow : depth_of t ≤ MOST_TYPE_DEPTH
-  pub small : nodes_of t ≤ MOST_TYPE_NODES
+  pub shallow : depth_of t ≤ 32
+  pub small : nodes_of t ≤ 256
 
 -- whether a type is within the limits
 abbrev pub type_fits : TypeTree → Bool
-type_fits t = leb (depth_of t) MOST_TYPE_DEPTH && leb (nodes_of t) MOST_TYPE_NODES
+type_fits t = leb (depth_of t) 32 && leb (nodes_of t) 256
 
 -- how many of `most` are left after so many nodes, of at most this depth; none where the tree is
 -- deeper, or has more

@@ -24,4 +24,4 @@ pub use run::{
     run_affine, run_again, run_below, run_constant, run_general, run_identity, run_left, run_right,
     run_swap, run_wrap,
 };
-pub use table::{LeafId, LeafTable};
+pub use table::{LeafId, LeafTable, MOST_ROWS};

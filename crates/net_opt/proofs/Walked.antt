@@ -21,6 +21,7 @@ use Rattle.net_types.proofs.Sizes.{few_inside}
 use Rattle.cert_check.proofs.FewBound.{few_bound}
 use Rattle.net_opt.specs.Optimising.{NoneLeft, FirstTriedLaw}
 use Rattle.net_tree.specs.LawStep.{Step, step_of}
+use Rattle.leaf_core.specs.declared.limits.TheConstants.{MOST_EXPR_NODES}
 use Rattle.net_tree.specs.declared.measure.TheConstants.{MOST_SIZE}
 use Rattle.net_opt.specs.Order.{LeftOf, lower, deeper, Before, on_the_way, before_at, before_below, onward}
 use Rattle.net_opt.specs.Search.{Passed, PassedAt, PassedWithin, Settled, FirstAt, FirstWithin, Takes, FoundStep}
@@ -138,7 +139,7 @@ child_within k f (a_leaf e) l S s d = record {
   low = omega (arith, l, s);
 }
 
-part_within : (k : ℕ) (e : Expression) (o : Option Expression) (c : Tree Expression) → nodes_in e ≤ 100000 → IfSome o (PartFits (nodes_in e) k) → option_map a_leaf o ≡ Some c
+part_within : (k : ℕ) (e : Expression) (o : Option Expression) (c : Tree Expression) → nodes_in e ≤ MOST_EXPR_NODES → IfSome o (PartFits (nodes_in e) k) → option_map a_leaf o ≡ Some c
     → Within k (a_leaf e) c
 part_within k e None c l s h = absurd (none-some c h)
 part_within k e (Some x) c l s h = subst (Within k (a_leaf e)) (same_Some (a_leaf x) c h) (record {

@@ -2,6 +2,7 @@
 use Rattle.std.specs.Prelude.{◌≡◌, true, ℕ, ◌≤◌, List, Some}
 use Rattle.sample_core.specs.TypeTree.{TypeTree}
 use Rattle.leaf_core.specs.Expression.{Expression, nodes_in}
+use Rattle.leaf_core.specs.declared.limits.TheConstants.{MOST_EXPR_NODES}
 use Rattle.net_tree.specs.Network.{Network, network_size}
 use Rattle.net_meaning.specs.NetworkLimits.{NetTypedWithin, WithinLimits}
 use Rattle.net_tree.specs.Place.{Tree, a_network, a_leaf}
@@ -22,7 +23,7 @@ pub record TypedSomewhere (f : Network Expression) : Type 0 where
 -- a network with few others inside; an expression with few parts
 abbrev pub Limited : Tree Expression → Type 0
 Limited (a_network f) = (network_size f ≤ MOST_SIZE) × TypedSomewhere f
-Limited (a_leaf e) = nodes_in e ≤ 100000
+Limited (a_leaf e) = nodes_in e ≤ MOST_EXPR_NODES
 
 -- this stands at the position of the network, which is within the limits
 pub record Reached (t : TypedNetwork) (p : List ℕ) (c : Placed) : Type 0 where

@@ -14,12 +14,12 @@ use crate::place::{TreeRef, child, child_count};
 use crate::standing::{Standing, inside};
 use crate::typed_net::TypedNet;
 use leaf_core::{Expr, LeafKey};
-use net_tree::{Net, Position};
+use net_tree::{MOST_MEMBERS, Net, Position};
 use sample_core::{Memory, Ty, try_copy_types};
 use std::alloc::Global;
 
-/// How many children a typed network may have: those of a `pSwitch` of 64 members.
-const MOST_CHILDREN: usize = 67;
+/// How many children a typed network may have: a `pSwitch` has three beside its members.
+const MOST_CHILDREN: usize = MOST_MEMBERS + 3;
 
 /// A walk over a network: the path to the node where it is, and the needs that it has found.
 #[derive(Drop)]

@@ -11,7 +11,7 @@ ghost use Rattle.net_text.specs.Grammar.{cell_rows, pair_rows, other_net_rows, n
 use crate::sugar::{Made, accum_hold_by, beside, constant, edge, fan_out, second};
 use crate::text::Version;
 use leaf_expr::Expr;
-use net_tree::{FedForm, Net, NetChild};
+use net_tree::{FedForm, MOST_DELAY, MOST_WAIT, Net, NetChild};
 use sample_core::word_is;
 use std::alloc::Global;
 
@@ -143,9 +143,9 @@ impl Timer {
         ensures low { result ≤ 2 ^ 62 }
     {
         match self {
-            Timer::Delay => 4_096,
-            Timer::After => 1 << 62,
-            Timer::Repeatedly => 1 << 62,
+            Timer::Delay => MOST_DELAY,
+            Timer::After => MOST_WAIT,
+            Timer::Repeatedly => MOST_WAIT,
         }
     }
 

@@ -9,6 +9,7 @@ ghost use Rattle.net_tree.specs.NetworkView.{members_of, tree, tree_of, trees};
 ghost use Rattle.net_tree.specs.Weight.{weight as weight_of, weights as weights_of};
 ghost use Rattle.net_tree.specs.declared.measure.Stop.TheVariants as S;
 
+use crate::limits::MOST_MEMBERS;
 use crate::net::{Members, Net, NetChild};
 use leaf_core::Expr;
 use sample_core::Memory;
@@ -385,7 +386,10 @@ fn measure_collection(
     let t = measure_net(alloc, t.get(), by, fs.inside.size)?;
     by.above(Measures {
         size: t.size,
-        weight: t.weight.max(fs.heaviest).saturating_mul(64),
+        weight: t
+            .weight
+            .max(fs.heaviest)
+            .saturating_mul(MOST_MEMBERS as u32),
         height: fs.inside.height.max(t.height),
     })
 }

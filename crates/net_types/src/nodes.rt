@@ -13,15 +13,9 @@ use crate::site::{Site, event_at, in_range, same_at, wanted_at};
 use crate::types::{event_of, pair_of};
 use leaf_core::{Expr, ExprFault, type_of_expr};
 use net_syntax::{Arrow, ScopeTypes};
-use net_tree::Position;
+use net_tree::{MOST_DELAY, MOST_WAIT, Position};
 use sample_core::Ty;
 use std::alloc::Global;
-
-/// The greatest q of `delay`.
-const MOST_DELAY: u64 = 4096;
-
-/// The greatest q of `after` and `repeatedly`.
-const MOST_WAIT: u64 = 1 << 62;
 
 /// The type of the expression that is child k of the node at the path.
 pub(crate) fn leaf_type(

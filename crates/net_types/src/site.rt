@@ -3,6 +3,7 @@
 ghost use Rattle.std.specs.Prelude.{◌≡◌, ◌+◌, ◌≤◌, ℕ, List, Err, IfOk, MatchOption, Ok, length, map};
 ghost use Rattle.sample_core.specs.TypeView.{type_of};
 ghost use Rattle.net_tree.specs.{Network.map_networks, NetworkView.members_of};
+ghost use Rattle.net_tree.specs.declared.limits.TheConstants.{MOST_MEMBERS};
 ghost use Rattle.leaf_core.specs.ExpressionView.{expression_of};
 ghost use Rattle.net_types.specs.Walk.{all_same, as_choice, as_event, as_pair, expect_same, one_output, test_members, test_range};
 ghost use Rattle.net_types.specs.{Check.GivesTyped, Sites.site_of};
@@ -10,12 +11,9 @@ ghost use Rattle.net_types.specs.declared.fault.TypeFault.TheVariants as Fault;
 
 use crate::fault::TypeFault;
 use leaf_core::Expr;
-use net_tree::{Net, Position};
+use net_tree::{MOST_MEMBERS, Net, Position};
 use sample_core::{Memory, Ty, same_type};
 use std::alloc::Global;
-
-/// How many members `parB`, `pSwitch` and `rpSwitchB` may have.
-const MOST_MEMBERS: usize = 64;
 
 /// Where a test of a node puts its fault: at the node, or at one of its children.
 #[derive(Clone, Copy)]
@@ -165,7 +163,7 @@ pub(crate) fn count_members(
     members: &[Net<Expr>],
 ) -> Result<u32, TypeFault>
     ensures counted { IfOk result (λ n. n ≡ length members.now) }
-    ensures few { IfOk result (λ n. n ≤ 64) }
+    ensures few { IfOk result (λ n. n ≤ MOST_MEMBERS) }
     ensures answer { GivesTyped (λ _. tt) result
         (test_members path.now (map_networks expression_of (members_of members.now))) }
 {

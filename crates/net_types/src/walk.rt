@@ -6,6 +6,7 @@ ghost use Rattle.leaf_core.specs.ExpressionView.{expression_of};
 ghost use Rattle.net_syntax.specs.ArrowView.{arrow_of};
 ghost use Rattle.net_tree.specs.Network.{first as first_of, initial_in, initial_out, k_switch, loop_pre, map_network, map_networks, p_switch, par, r_switch, rp_switch, seq, switch, at_once};
 ghost use Rattle.net_tree.specs.{NetworkView.members_of, NetworkView.tree_of};
+ghost use Rattle.net_tree.specs.declared.limits.TheConstants.{MOST_MEMBERS};
 ghost use Rattle.net_meaning.specs.{Typing.arrow};
 ghost use Rattle.net_types.specs.{Walk.◌↓◌, Check.GivesTyped, Check.net_walk_all};
 ghost use Rattle.net_types.specs.WalkParts.{choice_walk, freezing_walk, loop_output, loop_walk, members_walk, next_walk, routed_walk, started_walk, switched_walk, under_choice, under_event, walk_in, watch_walk};
@@ -437,7 +438,7 @@ fn walk_routed(
     r: &Expr,
     members: &[Net<Expr>],
 ) -> Result<Arrow, TypeFault>
-    requires { length members.now ≤ 64 }
+    requires { length members.now ≤ MOST_MEMBERS }
     ensures answer { GivesTyped arrow_of result
         (routed_walk path.old.items scope.now (type_of input.now) (expression_of r.now)
         (map_networks expression_of (members_of members.now))) }
@@ -463,7 +464,7 @@ fn walk_gathered(
     e: &NetChild<Expr>,
     t: &NetChild<Expr>,
 ) -> Result<Ty, TypeFault>
-    requires { count ≤ 64 }
+    requires { count ≤ MOST_MEMBERS }
     ensures answer { GivesTyped type_of result
         (freezing_walk path.old.items (suc count) scope.now (type_of input.now)
         (list_ty (type_of types.now.output)) count (arrow_of types.now)
@@ -582,7 +583,7 @@ fn members_type(
     input: &Ty,
     members: &[Net<Expr>],
 ) -> Result<Ty, TypeFault>
-    requires { first + length members.now ≤ 65 }
+    requires { first + length members.now ≤ suc MOST_MEMBERS }
     ensures answer { GivesTyped type_of result
         (members_walk path.old.items first scope.now (type_of input.now)
         (map_networks expression_of (members_of members.now))) }
@@ -605,7 +606,7 @@ fn walk_members(
     members: &[Net<Expr>],
     outputs: &mut Vec<Ty>,
 ) -> Result<(), TypeFault>
-    requires { first + length members.now ≤ 65 }
+    requires { first + length members.now ≤ suc MOST_MEMBERS }
     ensures answer { GivesTyped (λ _. map type_of outputs.new.items) result
         (on_ok (net_walk_all path.old.items first scope.now.params scope.now.olds
         (type_of input.now) (map_networks expression_of (members_of members.now)))

@@ -7,11 +7,9 @@ ghost use Rattle.state_core.specs.State.{selected};
 ghost use Rattle.state_core.specs.StateView.{frozen_of};
 
 use crate::env::Frozen;
+use net_tree::MOST_MEMBERS;
 use sample_core::{Memory, Sample};
 use std::alloc::Global;
-
-/// As many members of a collection run at most.
-pub const MOST_RUNNING: usize = 64;
 
 /// The frozen networks of those numbers, in the order of the numbers: none for a number outside, a
 /// further copy for a repeated one; the first 64 of them. `Memory` where a growth was refused.
@@ -25,7 +23,7 @@ pub fn select<'n>(
 {
     let mut chosen = Vec::new(alloc);
     for number in elements(numbers) {
-        if chosen.len() == MOST_RUNNING {
+        if chosen.len() == MOST_MEMBERS {
             return Ok(chosen);
         }
         if let Some(frozen) = named(all, number) {

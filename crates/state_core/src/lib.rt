@@ -19,7 +19,7 @@ mod part;
 mod state;
 
 pub use cells::Cells;
-pub use choosing::{MOST_RUNNING, select};
+pub use choosing::select;
 pub use env::{Env, Frozen, OldList, Olds, freeze, pause, push_old, push_olds, push_param};
 pub use params::Params;
 pub use part::{gather, route};

@@ -3,6 +3,7 @@
 ghost use Rattle.std.specs.Prelude.{◌≡◌, ◌++◌, ◌-◌, IfOk, length, map, take};
 ghost use Rattle.sample_core.specs.ValueView.{datum_of};
 ghost use Rattle.net_tree.specs.{Network.map_networks, NetworkView.members_of};
+ghost use Rattle.net_tree.specs.declared.limits.TheConstants.{MOST_MEMBERS};
 ghost use Rattle.state_core.specs.RowsView.{rows_in, row_number};
 ghost use Rattle.state_core.specs.State.{chosen_frozen, each_started, first_frozen, paused};
 ghost use Rattle.state_core.specs.StateView.{frozen_of, scope_of, state_of};
@@ -13,9 +14,9 @@ use crate::on::On;
 use crate::part::{elements, first, second};
 use crate::rows::Rows;
 use leaf_table::LeafId;
-use net_tree::Net;
+use net_tree::{MOST_MEMBERS, Net};
 use sample_core::{Memory, Sample};
-use state_core::{Frozen, MOST_RUNNING, State, freeze, pause, push_param, select};
+use state_core::{Frozen, State, freeze, pause, push_param, select};
 use std::alloc::Global;
 
 /// The row that chooses at an event, and what starts under each value that it gives.
@@ -92,10 +93,10 @@ fn add_started<'n, R: Rows>(
     chosen: &mut Vec<Frozen<'n>>,
 ) -> Result<(), Memory>
     ensures { IfOk result (λ _. map frozen_of chosen.new.items ≡ map frozen_of chosen.old.items
-        ++ take (64 - length chosen.old.items) (each_started (rows_in net.entry.now)
+        ++ take (MOST_MEMBERS - length chosen.old.items) (each_started (rows_in net.entry.now)
         (scope_of on.now.env.now) (map datum_of values.now))) }
 {
-    let room = MOST_RUNNING.saturating_sub(chosen.len()).min(values.len());
+    let room = MOST_MEMBERS.saturating_sub(chosen.len()).min(values.len());
     let started = &values[..room];
     for value in started {
         let env = push_param(on.alloc, on.env, value)?;
@@ -145,7 +146,7 @@ pub(crate) fn first_members<'n, R: Rows>(
         ≡ first_frozen (map_networks row_number (members_of members.entry.now))
         (scope_of on.now.env.now)) }
 {
-    let first = &members[..MOST_RUNNING.min(members.len())];
+    let first = &members[..MOST_MEMBERS.min(members.len())];
     let mut all = Vec::with_capacity(on.alloc, first.len())?;
     for net in first {
         let one = freeze(on.alloc, net, on.env, None, on.dt)?;

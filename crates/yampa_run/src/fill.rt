@@ -7,6 +7,7 @@
 ghost use Rattle.std.specs.Prelude.{◌≡◌, [], ◌∷◌, ◌++◌, Contains, IfErr, IfSome, Ok, OnErr, OnOk, length, map};
 ghost use Rattle.sample_core.specs.ValueView.{datum_of};
 ghost use Rattle.leaf_table.specs.{Computes.Computes, Rows.leaves_of, Rows.rows_of};
+ghost use Rattle.leaf_table.specs.declared.table.TheConstants.{MOST_ROWS};
 ghost use Rattle.yampa_run.specs.Preparation.{RefusesTable};
 
 use crate::preparation::Refusal;
@@ -58,7 +59,7 @@ pub fn add_row(
         × (leaf.key ≡ need.now.key) × (leaf.output ≡ need.now.output)) }
     ensures no_other { OnErr result (leaves_of table.new ≡ leaves_of table.old) }
     ensures full { IfErr result (λ fault. fault ≡ TableFault.Full
-        → (length (rows_of table.old) ≡ 4096)
+        → (length (rows_of table.old) ≡ MOST_ROWS)
         × (Contains (rows_of table.old) need.now.key → ⊥)) }
 {
     // What is let go here is dropped by calls: where a scope ends, its drop is written out in
