@@ -26,4 +26,4 @@ pub use law_step::{Direction, Law, LawStep, Tree};
 pub use limits::{MOST_DELAY, MOST_MEMBERS, MOST_WAIT};
 pub use measure::{MOST_HEIGHT, MOST_SIZE, MOST_WEIGHT, Measures, height, measured, weight};
 pub use net::{Members, Net, NetChild};
-pub use position::{Position, print_position, push_position};
+pub use position::{Position, push_position};

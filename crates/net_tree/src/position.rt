@@ -84,18 +84,9 @@ impl Eq for Position {
     ghost laws = { nat_list_eq_equiv };
 }
 
-/// The position as it is printed, as a new text: `(at 0 1)`, and `(at)` for the root. `Memory`
-/// where a growth was refused.
-pub fn print_position(alloc: Global, position: &Position) -> Result<String, Memory>
-    ensures { IfOk result (λ text. string_bytes text ≡ position_spelling position.now) }
-{
-    let mut text = String::new(alloc);
-    push_position(&mut text, position)?;
-    Ok(text)
-}
-
-/// Adds the position, as it is printed, to the end of the text. `Memory` where a growth was
-/// refused; the text may then end with a part of it, and still begins as it did.
+/// Adds the position, as it is printed, `(at 0 1)`, and `(at)` for the root, to the end of the text.
+/// `Memory` where a growth was refused; the text may then end with a part of it, and still begins as
+/// it did.
 pub fn push_position(text: &mut String, position: &Position) -> Result<(), Memory>
     ensures { Adds result (string_bytes text.old) (string_bytes text.new)
         (position_spelling position.now) }

@@ -2,13 +2,13 @@
 
 use crate::found::{Probe, all_are_found};
 use crate::network_types::{arrow_told, checked_told};
-use crate::networks::{printed_told, text_fault_told};
+use crate::networks::text_fault_told;
 use crate::texts::{numbered, parted, say, say_at};
 use leaf_expr::{Expr, Literal};
 use net_syntax::Arrow;
 use net_text::read_net;
 use net_tree::{
-    MOST_SIZE, Measures, Members, Net, NetChild, Position, height, measured, print_position, weight,
+    MOST_SIZE, Measures, Members, Net, NetChild, Position, height, measured, push_position, weight,
 };
 use net_types::check_types;
 use sample_core::{Memory, Ty};
@@ -146,7 +146,7 @@ pub fn part_told(alloc: Global, given: &str, out: &mut String) {
         _ => Position::of_node(alloc, &[0, 1, 10, 4_294_967_295]),
     };
     if let Ok(position) = made {
-        printed_told(print_position(alloc, &position), out);
+        drop(push_position(out, &position));
     }
 }
 
