@@ -1,7 +1,9 @@
 // Memory that is taken first, so that what is tested is refused it.
 
-use crate::texts::{say, written};
-use net_text::read_net;
+use crate::texts::say;
+use leaf_core::Expr;
+use net_tree::{Net, NetChild};
+use sample_core::Memory;
 use std::alloc::{AllocError, Global};
 
 /// Blocks that hold all the memory that this process may have, but for some that is kept free.
@@ -33,17 +35,17 @@ pub fn take_all(alloc: Global, spare: usize) -> Result<Ballast, AllocError> {
     Ok(Ballast { blocks })
 }
 
-/// Lets the stack grow by some hundred kilobytes, as reading deep parentheses does. Once all memory is
-/// taken it can't grow, and a call that needs more of it is killed.
+/// Lets the stack grow by half a megabyte or more, as letting go of so deep a network does. Once all
+/// memory is taken it can't grow, and a call that needs more of it is killed.
 fn grow_stack(alloc: Global) {
-    let text = written(alloc, "yampa 1 input Int {600*(>>> }");
-    match read_net(alloc, text.as_bytes()) {
-        Ok((input, net)) => {
-            drop(input);
-            drop(net);
+    let mut net: Net<Expr> = Net::Time;
+    for _ in 0..10_000u32 {
+        match NetChild::new(alloc, net) {
+            Ok(inner) => net = Net::First(inner),
+            Err(Memory) => return,
         }
-        Err(_fault) => (),
     }
+    drop(net);
 }
 
 /// The bytes of a block that `malloc` doesn't set aside, once it is let go, for growths of its own
