@@ -5,7 +5,7 @@ ghost use Rattle.net_tree.specs.NetworkView.{tree_of};
 ghost use Rattle.net_types.specs.Check.{check, GivesTyped};
 
 use crate::fault::TypeFault;
-use crate::walk::walk;
+use crate::walk::output_type;
 use leaf_core::{Expr, type_fits};
 use net_syntax::{ScopeTypes, TypedNet};
 use net_tree::{MOST_HEIGHT, MOST_SIZE, MOST_WEIGHT, Measures, Net, measured};
@@ -50,9 +50,7 @@ pub fn check_types(alloc: Global, input: Ty, net: Net<Expr>) -> Result<TypedNet,
     let Some(found) = measured(alloc, &net, &most)? else {
         return Err(TypeFault::TooHeavy);
     };
-    let mut path = Vec::new(alloc);
-    let scope = ScopeTypes::new(alloc);
-    let output = walk(alloc, &mut path, &scope, &input, &net)?;
+    let output = output_type(alloc, ScopeTypes::new(alloc), &input, &net)?;
     if found.height > MOST_HEIGHT {
         return Err(TypeFault::TooDeep);
     }

@@ -11,7 +11,7 @@ ghost use Rattle.net_types.specs.Answered.{AnswersRewritten, NoRewriting};
 ghost use Rattle.net_types.specs.KeptTypes.{checked_output, kept_in_leaf, same_type, type_kept};
 
 use crate::fault::TypeFault;
-use crate::walk::walk;
+use crate::walk::output_type;
 use leaf_core::{Expr, expr_fits, part_type, with_part_at};
 use net_syntax::{Standing, TreeRef, TypedNet, child, child_standing, replace};
 use net_tree::{MOST_HEIGHT, MOST_SIZE, MOST_WEIGHT, Measures, Net, Position, Tree, measured};
@@ -168,8 +168,8 @@ fn output_of(alloc: Global, at: &Standing, net: &Net<Expr>) -> Result<Option<Ty>
     ensures { IfOk result (λ found. option_map type_of found
         ≡ checked_output (standing_of at.now) (tree_of net.now)) }
 {
-    let mut path = Vec::new(alloc);
-    match walk(alloc, &mut path, &at.scope, &at.input, net) {
+    let scope = at.scope.try_copy(alloc)?;
+    match output_type(alloc, scope, &at.input, net) {
         Ok(found) => Ok(Some(found)),
         Err(TypeFault::Memory) => Err(Memory),
         Err(_) => Ok(None),
