@@ -93,8 +93,8 @@ impl Walk {
             (seq (map_network expression_of f.now) (map_network expression_of g.now))) }
         ensures kept { OnOk result (SamePlace self.old self.new) }
     {
-        let between = self.child(0, input, f)?;
-        let output = self.child(1, &between, g);
+        let between = self.child(0, input, f.get())?;
+        let output = self.child(1, &between, g.get());
         drop(between);
         output
     }
@@ -108,7 +108,7 @@ impl Walk {
         ensures kept { OnOk result (SamePlace self.old self.new) }
     {
         let (left, right) = self.pair_at(Site::Node, input)?;
-        let output = self.child(0, left, f)?;
+        let output = self.child(0, left, f.get())?;
         let pair = pair_of(self.alloc, &output, right);
         drop(output);
         pair
@@ -153,7 +153,7 @@ impl Walk {
         ensures kept { OnOk result (SamePlace self.old self.new) }
     {
         let pair = pair_of(self.alloc, input, back)?;
-        let found = self.child(1, &pair, f);
+        let found = self.child(1, &pair, f.get());
         drop(pair);
         let found = found?;
         let output = self.loop_output(back, &found);
@@ -182,7 +182,7 @@ impl Walk {
         ensures kept { OnOk result (SamePlace self.old self.new) }
     {
         let first = self.leaf_type(0, &Ty::Unit, c)?;
-        match self.child(1, input, f) {
+        match self.child(1, input, f.get()) {
             Ok(found) => {
                 let output = self.wanted_at(Site::Node, &found, first);
                 drop(found);
@@ -207,7 +207,7 @@ impl Walk {
         let tested = self.same_at(Site::Node, input, &first);
         drop(first);
         tested?;
-        self.child(1, input, f)
+        self.child(1, input, f.get())
     }
 
     /// The output type of a network up to its first event, and then of the continuation; it is the
@@ -224,7 +224,7 @@ impl Walk {
             (switch at_once (map_network expression_of f.now) (map_network expression_of t.now))) }
         ensures kept { OnOk result (SamePlace self.old self.new) }
     {
-        let found = self.child(0, input, f)?;
+        let found = self.child(0, input, f.get())?;
         let output = self.switched(input, &found, t);
         drop(found);
         output
@@ -262,7 +262,7 @@ impl Walk {
         let (sample, event) = self.pair_at(Site::Node, input)?;
         let carried = self.event_at(Site::Node, event)?;
         let inner = self.scope.and_param(self.alloc, carried)?;
-        let output = self.child(0, sample, f)?;
+        let output = self.child(0, sample, f.get())?;
         let next = self.next(inner, 1, sample, &output, t);
         drop(output);
         next
@@ -284,7 +284,7 @@ impl Walk {
             (map_network expression_of t.now))) }
         ensures kept { OnOk result (SamePlace self.old self.new) }
     {
-        let output = self.child(0, input, f)?;
+        let output = self.child(0, input, f.get())?;
         let next = self.frozen(input, &output, e, t);
         drop(output);
         next
@@ -330,7 +330,7 @@ impl Walk {
         ensures kept { OnOk result (SamePlace self.old self.new) }
     {
         let pair = pair_of(self.alloc, input, output)?;
-        let event = self.child(k, &pair, e);
+        let event = self.child(k, &pair, e.get());
         drop(pair);
         let event = event?;
         let inner = self.under_event(k, &event);
@@ -535,7 +535,7 @@ impl Walk {
         let Some((f, others)) = members.split_first() else {
             return Ok(());
         };
-        let output = self.part(first, input, f)?;
+        let output = self.child(first, input, f)?;
         outputs.push(output)?;
         self.members(first + 1, input, others, outputs)
     }
@@ -557,25 +557,14 @@ impl Walk {
         ensures kept { OnOk result (SamePlace self.old self.new) }
     {
         let outer = replace(&mut self.scope, inner);
-        let output = self.child(k, input, t);
+        let output = self.child(k, input, t.get());
         drop(replace(&mut self.scope, outer));
         self.wanted_at(Site::Child(k), wanted, output?)
     }
 
-    /// The output type of the network inside that is child k of the node.
-    #[cycle(walk)]
-    fn child(&mut self, k: u32, input: &Ty, child: &NetChild<Expr>) -> Result<Ty, TypeFault>
-        ensures answer { GivesTyped type_of result
-            (walk_in (self.old.path.items ↓ k) self.old.scope (type_of input.now)
-            (map_network expression_of child.now)) }
-        ensures kept { OnOk result (SamePlace self.old self.new) }
-    {
-        self.part(k, input, child.get())
-    }
-
     /// The output type of the network that is child k of the node.
     #[cycle(walk)]
-    fn part(&mut self, k: u32, input: &Ty, net: &Net<Expr>) -> Result<Ty, TypeFault>
+    fn child(&mut self, k: u32, input: &Ty, net: &Net<Expr>) -> Result<Ty, TypeFault>
         ensures answer { GivesTyped type_of result
             (walk_in (self.old.path.items ↓ k) self.old.scope (type_of input.now)
             (tree_of net.now)) }

@@ -58,10 +58,7 @@ abbrev pub decreases-next : goal.decreases-next
 decreases-next l = 10 * network_size l.t.now + 4
 
 abbrev pub decreases-child : goal.decreases-child
-decreases-child l = 10 * network_size l.child.now + 3
-
-abbrev pub decreases-part : goal.decreases-part
-decreases-part l = 10 * net_size l.net.now + 2
+decreases-child l = 10 * net_size l.net.now + 2
 
 abbrev pub decreases-initial_out : goal.decreases-initial_out
 decreases-initial_out l = 10 * network_size l.f.now + 5
