@@ -14,7 +14,6 @@ pub struct Ballast {
 
 /// Takes all memory but `spare` bytes, which serve growths of any size.
 pub fn take_all(alloc: Global, spare: usize) -> Result<Ballast, AllocError> {
-    grow_stack(alloc);
     let kept: Vec<u8> = Vec::with_capacity(alloc, spare.saturating_add(LARGE))?;
     let mut blocks = Vec::with_capacity(alloc, 60_000)?;
     let mut size = 1usize << 46;
@@ -35,9 +34,9 @@ pub fn take_all(alloc: Global, spare: usize) -> Result<Ballast, AllocError> {
     Ok(Ballast { blocks })
 }
 
-/// Lets the stack grow by half a megabyte or more, as letting go of so deep a network does. Once all
-/// memory is taken it can't grow, and a call that needs more of it is killed.
-fn grow_stack(alloc: Global) {
+/// Lets the stack grow by a megabyte or more, as letting go of so deep a network does. Once all memory
+/// was taken it can't grow, and a call that needs more of it is killed. So a test begins with this.
+pub fn grow_stack(alloc: Global) {
     let mut net: Net<Expr> = Net::Time;
     for _ in 0..10_000u32 {
         match NetChild::new(alloc, net) {

@@ -1,5 +1,6 @@
 // Worked rows, and the one way to ask of each whether it goes as it was worked out.
 
+use crate::ballast::grow_stack;
 use crate::beginnings::beginnings_told;
 use crate::built::{built_told, doubled_told, measured_told, part_told};
 use crate::certificates::certificate_told;
@@ -248,6 +249,7 @@ fn law_told(alloc: Global, probe: LawProbe, given: &str, out: &mut String) {
 /// ` | ` between its parts, ` => `, and what is to be found; both in short forms, see `write_short`.
 /// `§` begins the name of the rows behind it.
 pub fn all_are_found(rt: &impl Abort, alloc: Global, probe: Probe, rows: &str) {
+    grow_stack(alloc);
     for group in rows.split('§') {
         let (name, named) = group.split_once('\n').unwrap_or((group, ""));
         group_is_found(rt, alloc, probe, name, named);
