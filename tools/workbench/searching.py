@@ -4,7 +4,8 @@ import sys
 import time
 
 from model.trees import GREATEST, is_form, shown
-from workbench.ending import REFUSED, Refused, Words, ended, missing, read, write
+from workbench.comparing import first_difference, said
+from workbench.ending import REFUSED, Refused, Words, ended, missing, write
 from workbench.program import again, call
 from workbench.recording import lines_of, types_of
 
@@ -19,9 +20,6 @@ in the time, the status is 0: that is no proof. The same seed tries the same str
 DIFFER = """Looks for a stream on which two networks of the same types write other bytes, and prints it, made as
 short and simple as can be; on standard error stands the line at which they differ, with both outputs.
 The status is then 1, and 0 where none is found in the time: that is no proof, and a certificate is one."""
-
-COMPARE = """Tells the first sample of the stream on standard input at which two networks differ, with both
-outputs, and whether one of them stops there. The status is 1 where they differ, else 0."""
 
 LIMITS = [0, 1, -1, GREATEST, -GREATEST - 1, GREATEST - 1, 2**32, 2**31, 2**62, 100, 1000]
 STEPS = [10, 60, 100, 1000, 4096, 2**31, 2**62, GREATEST]
@@ -107,20 +105,6 @@ def run(net, stream):
     return call(["run", net], stream).output
 
 
-def first_difference(first, second):
-    """The number of the first line at which two outputs differ, with both lines, None where there is none; or None."""
-    ours, theirs = lines_of(first), lines_of(second)
-    for number in range(max(len(ours), len(theirs))):
-        mine, other = (lines[number] if number < len(lines) else None for lines in (ours, theirs))
-        if mine != other:
-            return number + 1, mine, other
-    return None
-
-
-def said(line):
-    return "nothing" if line is None else line.decode(errors="replace")
-
-
 def searched(name, words, given, type_, breaks, tell):
     stream, tried = found(type_, breaks, given.seed, given.seconds)
     if stream is None:
@@ -180,26 +164,3 @@ def differ_main():
         searched("differ", words, given, types[0], difference, tell)
 
     ended("differ", work)
-
-
-def compare_main():
-    words = Words("compare", COMPARE)
-    words.add_argument("source", metavar="SRC")
-    words.add_argument("target", metavar="TGT")
-    given = words.parse_args()
-
-    def work():
-        stream = read("-")
-        source, target = (call(["run", again(net)], stream) for net in (given.source, given.target))
-        for name, told in ((given.source, source), (given.target, target)):
-            if told.status and not told.fault().startswith("stream: line"):
-                raise Refused(f"{name}: {told.fault()}", told.status if told.status in (1, 2, 3) else 3)
-        difference = first_difference(source.output, target.output)
-        if difference is None:
-            print(f"the same on {len(lines_of(source.output))} samples")
-            return
-        number, mine, other = difference
-        print(f"line {number}: {said(mine)} and {said(other)}")
-        sys.exit(REFUSED)
-
-    ended("compare", work)

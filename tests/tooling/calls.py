@@ -1,0 +1,84 @@
+"""How tools are called: wrong words and files, missing packages, and the page docs/TOOLS.md."""
+import os
+import re
+import subprocess
+
+from tooling.common import NUMBERS, TOP, in_files, own_folder, tool, want
+
+NEEDS = ["dot", "matplotlib", "hypothesis"]
+
+SHIM = """#!/bin/bash
+tool={top}/tools/yampa-$1
+if [ -x "$tool" ]; then shift; exec "$tool" "$@"; fi
+exec "$YAMPA" "$@"
+"""
+
+
+def page_is_right(folder):
+    """What docs/TOOLS.md shows is what its commands print, in a folder with the examples."""
+    (folder / "examples").symlink_to(TOP / "examples")
+    (folder / "yampa").write_text(SHIM.replace("{top}", str(TOP)))
+    (folder / "yampa").chmod(0o755)
+    for block in re.findall(r"```console\n(.*?)```", (TOP / "docs/TOOLS.md").read_text(), re.S):
+        for command, wanted in re.findall(r"^\$ (.*)\n((?:(?!\$ ).*\n)*)", block, re.M):
+            ran = subprocess.run(["bash", "-c", command], cwd=folder, stdin=subprocess.DEVNULL, capture_output=True, timeout=60)
+            found = (ran.stdout + ran.stderr).decode(errors="replace")
+            want(f"docs/TOOLS.md: {command}", re.sub(r" +$", "", found, flags=re.M) == re.sub(r" +$", "", wanted, flags=re.M), found)
+
+
+# What each tool is called with, where the files are not what it takes.
+CALLS = {
+    "explain": ["net"],
+    "draw": ["net", "-o", "out"],
+    "watch": ["net", "-o", "out"],
+    "plot": ["net", "-o", "out"],
+    "csv": ["net", "-o", "out"],
+    "timed": ["net"],
+    "expand": ["net", "-o", "out"],
+    "fmt": ["--write", "net"],
+    "falsify": ["net", "-o", "out"],
+    "differ": ["net", "net", "-o", "out"],
+    "compare": ["net", "net"],
+    "report": ["net", "stream", "-o", "out"],
+}
+
+
+def bad_words_and_files(folder):
+    names = [path.name.removeprefix("yampa-") for path in (TOP / "tools").glob("yampa-*")]
+    want("each tool has its call", {*names} == {*CALLS, "tidy"}, names)
+    for name in names:
+        want(f"{name} --help", tool(name, "--help")[0] == 0)
+        want(f"{name} with wrong words", tool(name, "--no-such-flag")[0] == 2)
+    for name, words in CALLS.items():
+        own = folder / name
+        own.mkdir()
+        status, output, error = tool(name, *words, folder=own)
+        want(f"{name} without its file", status == 3 and (error or output).count("\n") == 1 and not os.listdir(own), error)
+        text = NUMBERS + ("(hold 0" if name in ("expand", "fmt") else "(hold 0)")
+        in_files(own, net=text, stream="5\n", out="before")
+        status, output, error = tool(name, *words, folder=own)
+        told, line = (output, "net:3:1: hold takes events") if name == "explain" else (error, "net:3:1: " if name in ("expand", "fmt") else "network: no event at (at)")
+        want(f"{name} of a faulty network", status == 1 and line in told and (name == "explain" or told.count("\n") == 1), output + error)
+        kept = [(own / file).read_text() for file in ("net", "stream", "out")]
+        want(f"{name} leaves nothing half written", kept == [text, "5\n", "before"] and len(os.listdir(own)) == 3, kept)
+    want("no such folder", tool("draw", TOP / "examples/increment/net", "-o", "/no/such/folder/a.svg")[0] == 3)
+
+
+def missing_packages_are_told(folder):
+    """In one line, with the package's name."""
+    for library in ("matplotlib", "hypothesis"):
+        in_files(folder, **{f"{library}.py": f"raise ImportError(name='{library}')"})
+    (net,) = in_files(folder, net=NUMBERS + "(arr (equal x x))")
+    calls = {
+        "graphviz": tool("draw", net, PATH=""),
+        "python3-matplotlib": tool("plot", net, stream="5\n", PYTHONPATH=str(folder)),
+        "python3-hypothesis": tool("falsify", net, PYTHONPATH=str(folder)),
+    }
+    for package, (status, output, error) in calls.items():
+        want(f"without {package}", status == 3 and not output and f"install {package}" in error and error.count("\n") == 1, error)
+
+
+def try_all() -> None:
+    for check in (bad_words_and_files, missing_packages_are_told, page_is_right):
+        with own_folder() as folder:
+            check(folder)
