@@ -3,7 +3,7 @@ import re
 from dataclasses import dataclass
 
 from model.trees import child_places, children, is_form, part_at
-from workbench.names import TreeReader
+from workbench.definitions import Text, TreeReader
 from workbench.program import TOP
 from workbench.source import plain
 
@@ -44,7 +44,7 @@ def unlike(law, tree):
     pattern = LAWS[law].pattern
     if ".." in pattern or re.search(r"\bO\b", pattern):
         return None
-    return unlike_form(plain(TreeReader(pattern.encode()).tree()), tree, {}, ())
+    return unlike_form(plain(TreeReader(Text(law, pattern.encode())).tree()), tree, {}, ())
 
 
 def unlike_form(pattern, tree, letters, position):

@@ -1,72 +1,38 @@
-"""Lays out files of networks and of definitions, with their comments, in lines of at most 100 columns."""
+"""Lays out trees in lines of at most 100 columns, with their comments, in time linear in what is printed.
 
-import textwrap
+A form stands in one line where there is room for it; else its parts stand below one another, behind its word where each of them
+has room there, else two columns from its parenthesis. How wide a part must be is known from its own parts, so one walk up and one
+walk down lay out all.
+"""
+from dataclasses import dataclass
 
 WIDTH = 100
-SIDE_BY_SIDE = ("delay", "after", "repeatedly", "loopPre", "list", "none", "-->", ">--", "add", "sub", "mul", "less", "equal", "def")
+# A form that is no longer than this isn't broken where that can be helped.
+SHORT = 40
+SIDE_BY_SIDE = ("delay", "after", "repeatedly", "loopPre", "list", "none", "-->", ">--", "add", "sub", "mul", "less", "equal")
+NEVER = float("inf")
 
 
 def is_form(node):
     return bool(node.parts) or node.word in ("parB", "col")
 
 
-def flat(node):
+def flat(node) -> str:
     """The text of a node in one line."""
-    return "(" + " ".join([str(node.word), *map(flat, node.parts)]) + ")" if is_form(node) else str(node.word)
+    pieces = []
+    write_flat(node, pieces)
+    return "".join(pieces)
 
 
-def has_comments(node):
-    return bool(node.comments or node.trailing) or any(map(has_comments, node.parts))
-
-
-def add(lines, text, indent):
-    """Puts the text behind the last line, or in a new one where that ends in a comment."""
-    if lines and ";" not in lines[-1]:
-        lines[-1] += text
-    else:
-        lines.append(" " * indent + text.lstrip(" "))
-
-
-def laid_out(node, indent=0, behind=0):
-    """The lines of a node whose first word stands at that column; so many characters follow its last one. The first line has no
-    indentation."""
-    if not any(map(has_comments, node.parts)) and (not is_form(node) or indent + len(flat(node)) + behind <= WIDTH):
-        lines = [flat(node)]
-    else:
-        lines = parts_laid_out(node, indent, behind)
-    for comment in node.trailing:
-        if ";" in lines[-1] or len(lines[-1]) + len(comment) + 2 + indent * (len(lines) == 1) > WIDTH:
-            lines += folded([comment], indent)
-        else:
-            lines[-1] += "  " + comment
-    return lines
-
-
-def parts_laid_out(node, indent, behind):
-    """A form's parts below one another, behind its word where there is room for that, else below it."""
-    lines = below_one_another(node, indent, behind, len(str(node.word)) + 2, True)
-    if max(map(len, lines[1:]), default=0) + behind <= WIDTH and indent + len(lines[0]) <= WIDTH:
-        return lines
-    return below_one_another(node, indent, behind, 2, False)
-
-
-def below_one_another(node, indent, behind, deeper, goes_on):
-    word = str(node.word)
-    inner = indent + deeper
-    lines = [f"({word}"]
-    for number, part in enumerate(node.parts):
-        last = number == len(node.parts) - 1
-        lines += folded(part.comments, inner)
-        goes_on = goes_on and not part.comments
-        found = laid_out(part, inner, behind + 1 if last else 0)
-        if goes_on and ";" not in lines[-1]:
-            lines[-1] += " " + found[0]
-        else:
-            lines.append(" " * inner + found[0])
-        lines += found[1:]
-        goes_on = number == 0 and not is_form(part) and word in SIDE_BY_SIDE and len(lines[-1]) < WIDTH - 40
-    add(lines, ")", indent)
-    return lines
+def write_flat(node, pieces: list) -> None:
+    if not is_form(node):
+        pieces.append(str(node.word))
+        return
+    pieces.append(f"({node.word}")
+    for part in node.parts:
+        pieces.append(" ")
+        write_flat(part, pieces)
+    pieces.append(")")
 
 
 def all_nodes(node):
@@ -75,27 +41,153 @@ def all_nodes(node):
         yield from all_nodes(part)
 
 
-def folded(comments, indent=0):
-    """Comments as lines of their own, in several where one is too long."""
-    width = max(WIDTH - indent, 40)
-    return [" " * indent + line for comment in comments for line in textwrap.wrap(comment, width, subsequent_indent="; ")]
+# ---- how wide
 
 
-def attach(data, nodes, comments):
-    """Gives each comment to a node: one that stands behind a node in its line to that, each other to the node that begins behind
-    it. Those behind all nodes are answered."""
-    every = [node for top in nodes for node in all_nodes(top)]
-    left = []
-    for at, text in comments:
-        line_start = data.rfind(b"\n", 0, at) + 1
-        before = data[line_start:at].rstrip()
-        ended = max((node for node in every if node.end <= at), key=lambda node: (node.end, -node.start), default=None)
-        if before and ended and ended.end >= line_start and not data[ended.end : at].strip():
-            ended.trailing.append(text)
-            continue
-        begun = min((node for node in every if node.start > at), key=lambda node: (node.start, -node.end), default=None)
-        if begun is None:
-            left.append(text)
+@dataclass
+class Box:
+    """A tree that is to be laid out: what stands before its parts and behind them; how many characters follow its last one; and
+    how wide it is in one line, with its parts behind its word, and at least."""
+
+    node: object
+    opening: str
+    parts: list
+    closing: str
+    behind: int
+    flat: float
+    hanging: float
+    least: float
+
+
+def box_of(node, behind: int = 0) -> Box:
+    """The box of a node behind whose last character so many others stand."""
+    if not is_form(node):
+        width = len(str(node.word))
+        return Box(node, str(node.word), [], "", behind, width, NEVER, width + behind)
+    if node.word == "let" and len(node.parts) % 2:
+        return form_box(node, "(let", [*bindings(node.parts[:-1]), box_of(node.parts[-1], behind + 1)], behind)
+    opening, rest = f"({node.word}", node.parts
+    if opening[1:] in SIDE_BY_SIDE and len(rest) > 1 and stands_alone(rest[0]) and not node.opened:
+        opening, rest = f"{opening} {rest[0].word}", rest[1:]
+    last = len(rest) - 1
+    return form_box(node, opening, [box_of(part, behind + 1 if number == last else 0) for number, part in enumerate(rest)], behind)
+
+
+def stands_alone(node) -> bool:
+    """Whether a node is a word with no comment."""
+    return not is_form(node) and not node.comments and not node.trailing
+
+
+def form_box(node, opening: str, parts: list, behind: int) -> Box:
+    whole = len(opening) + 1 + sum(1 + part.flat for part in parts)
+    if node.opened or node.closing or any(part.node.comments or part.node.trailing for part in parts):
+        whole = NEVER
+    widest = max((part.least for part in parts), default=0)
+    hanging = len(opening) + 1 + widest if parts else NEVER
+    low = max(len(opening), 2 + widest)
+    least = whole + behind if whole <= SHORT else min(whole + behind, hanging, low)
+    return Box(node, opening, parts, ")", behind, whole, hanging, least)
+
+
+def bindings(parts: list) -> list:
+    """The names of a `let` with their trees, each pair a box without parentheses."""
+    found = []
+    for name, tree in zip(parts[::2], parts[1::2]):
+        opening, body = flat(name), box_of(tree)
+        whole = len(opening) + 1 + body.flat
+        if name.trailing or tree.comments or tree.trailing:
+            whole = NEVER
+        width = len(opening) + 1 + body.least
+        found.append(Box(name, opening, [body], "", 0, whole, width, min(whole, width)))
+    return found
+
+
+# ---- lines
+
+
+class Lines:
+    """Lines as they are written, one behind the other."""
+
+    def __init__(self):
+        self.done, self.pieces, self.commented = [], [], False
+
+    def put(self, text: str, indent: int) -> None:
+        """Puts text behind the last, or in a new line where that one ends in a comment."""
+        if self.commented:
+            self.end()
+            self.pieces.append(" " * indent)
+        self.pieces.append(text)
+
+    def end(self) -> None:
+        if self.pieces:
+            self.done.append("".join(self.pieces))
+        self.pieces, self.commented = [], False
+
+    def start(self, indent: int) -> None:
+        """Begins a new line."""
+        self.end()
+        self.pieces.append(" " * indent)
+
+    def comment_behind(self, text: str, indent: int) -> None:
+        self.put(("" if self.commented else "  ") + text, indent)
+        self.commented = True
+
+    def comments_of_their_own(self, texts: list, indent: int) -> None:
+        """Comments in lines of their own, before a line that is begun behind them."""
+        self.end()
+        self.done += [" " * indent + text for text in texts if text]
+
+
+def laid_out(node, indent: int = 0, behind: int = 0) -> list:
+    """The lines of a node whose first word stands at that column; so many characters follow its last one. The first line has no
+    indentation."""
+    lines = Lines()
+    lay(box_of(node, behind), indent, lines)
+    lines.end()
+    return lines.done
+
+
+def lay(box: Box, indent: int, lines: Lines) -> None:
+    """Writes a box whose first character stands at that column of the last line."""
+    if indent + box.flat + box.behind <= WIDTH or not box.parts and not box.node.closing and not box.node.opened:
+        lay_flat(box, lines, indent)
+    else:
+        lay_parts(box, indent, lines)
+    for comment in box.node.trailing if box.closing or not box.parts else []:
+        lines.comment_behind(comment, indent)
+
+
+def lay_flat(box: Box, lines: Lines, indent: int) -> None:
+    pieces = []
+    write_box(box, pieces)
+    lines.put("".join(pieces), indent)
+
+
+def write_box(box: Box, pieces: list) -> None:
+    pieces.append(box.opening)
+    for part in box.parts:
+        pieces.append(" ")
+        write_box(part, pieces)
+    pieces.append(box.closing)
+
+
+def lay_parts(box: Box, indent: int, lines: Lines) -> None:
+    """A form's parts below one another, behind its word where there is room for that, else below it."""
+    hangs = indent + box.hanging <= WIDTH or not box.closing
+    inner = indent + (len(box.opening) + 1 if hangs else 2)
+    lines.put(box.opening, indent)
+    opened = box.node.opened if box.closing else box.node.trailing
+    for comment in opened:
+        lines.comment_behind(comment, indent)
+    for number, part in enumerate(box.parts):
+        if part.node.comments:
+            lines.comments_of_their_own(part.node.comments, inner)
+        if number == 0 and hangs and not part.node.comments and not opened:
+            lines.put(" ", indent)
         else:
-            begun.comments.append(text)
-    return left
+            lines.start(inner)
+        lay(part, inner, lines)
+    if box.node.closing and box.closing:
+        lines.comments_of_their_own(box.node.closing, inner)
+        lines.start(indent)
+    lines.put(box.closing, indent)

@@ -1,4 +1,8 @@
-"""Networks with names: files that begin `yampa source 1`, what they mean, and how files are laid out."""
+"""What a file with names means: the trees that names stand for are put in the names' places, as they are written.
+
+Names are looked up where a tree is written, so what a definition names inside can't be meant for another; `x` and `(p 0)` are
+those of the place in which the tree is put. A part that a definition doesn't use is never put anywhere.
+"""
 import re
 from dataclasses import dataclass
 
@@ -11,358 +15,325 @@ from model.trees import (
     NETWORK_SUGAR,
     NETWORK_SUGAR_WORDS,
     NETWORK_WORDS,
-    NEW_FORMS,
     TYPE_FORMS,
     TYPE_WORDS,
 )
-from workbench.ending import Refused, Words, ended, read, write
-from workbench.layout import all_nodes, attach, flat, folded, is_form, laid_out
-from workbench.source import Node, SyntaxFault, near, place, read_file, tokens_of
+from workbench.definitions import Definition, Fault, Record, Written
+from workbench.source import near
 
-TAKEN = {*EXPRESSION_FORMS, *EXPRESSION_SUGAR, *EXPRESSION_WORDS, *NETWORK_FORMS, *NETWORK_SUGAR, *NETWORK_SUGAR_WORDS}
-TAKEN |= {*NETWORK_WORDS, *TYPE_FORMS, *TYPE_WORDS, "col", "def", "input"}
-
-
-@dataclass
-class Definition:
-    """A name, its parameters, and the tree that it stands for."""
-
-    name: Node
-    params: list
-    body: Node
+FORMS = {*EXPRESSION_FORMS, *EXPRESSION_SUGAR, *NETWORK_FORMS, *NETWORK_SUGAR, *TYPE_FORMS, "col"}
+WORDS = {*EXPRESSION_WORDS, *NETWORK_WORDS, *NETWORK_SUGAR_WORDS, *TYPE_WORDS}
+TAKEN = FORMS | WORDS | {"let", "def", "record", "include", "input", "output"}
+MOST_STEPS = 500_000
+MOST_LEVELS = 3_000
 
 
-class Fault(Exception):
-    """What is wrong, where, and in which definition."""
+class Meant:
+    """A tree with no names in it, and where it is written: where a name stood for it, that place, the name and its parts. Where it
+    is a record's type, or a value that is built by its name, it has the record."""
 
-    def __init__(self, node, why, inside=None):
-        super().__init__(why)
-        self.at, self.inside = node if isinstance(node, int) else node.start, inside
+    __slots__ = ("word", "parts", "text", "start", "end", "size", "depth", "name", "given", "record")
+    comments = trailing = opened = closing = ()
 
-
-class TreeReader:
-    """Reads trees of any words."""
-
-    def __init__(self, data):
-        self.data = data
-        self.tokens, comments = tokens_of(data)
-        self.comments = [(comment.at, comment.text.rstrip()) for comment in comments]
-        self.read = 0
-
-    def ended(self):
-        return self.read == len(self.tokens)
-
-    def peek(self):
-        return None if self.ended() else self.tokens[self.read].text
-
-    def take(self, why):
-        if self.ended():
-            raise Fault(len(self.data), f"the file ends; {why} is wanted")
-        self.read += 1
-        return self.tokens[self.read - 1]
-
-    def word(self, why):
-        token = self.take(why)
-        if token.text in "()":
-            raise Fault(token.at, f"{why} is wanted here")
-        return Node(token.text, [], token.at, token.end(), "word")
-
-    def tree(self, depth=0):
-        token = self.take("a tree")
-        if token.text == ")":
-            raise Fault(token.at, "one ) too many, or a tree is missing before it")
-        if token.text != "(":
-            return Node(token.text, [], token.at, token.end(), "word")
-        if depth == OPEN:
-            raise Fault(token.at, f"this is the {OPEN + 1}st parenthesis that is open at once")
-        head = self.word("the word of a form")
-        parts = []
-        while self.peek() != ")":
-            if self.ended():
-                raise Fault(token.at, "this parenthesis is never closed")
-            parts.append(self.tree(depth + 1))
-        end = self.take("")
-        return Node(head.word, parts, token.at, end.end(), "form" if parts or head.word in ("parB", "col") else "call")
+    def __init__(self, word: str, parts: list, node, size: int, depth: int):
+        self.word, self.parts, self.size, self.depth = word, parts, size, depth
+        self.text, self.start, self.end = node.text, node.start, node.end
+        self.name, self.given, self.record = None, (), None
 
 
 @dataclass
-class Source:
-    """A file's definitions, its input type and its network."""
+class Named:
+    """What a definition's name stands for, and where its words are looked up."""
 
-    version: str
-    definitions: list
-    input: Node
-    net: Node
-    reader: TreeReader
-    header: list
+    definition: Definition
+    scope: object
+    meant: Meant = None
 
 
-def read_source(data):
-    """The file: one with names, or a network's file, which has no definitions."""
-    reader = TreeReader(data)
-    header = [reader.word("the word yampa"), reader.word("the version")]
-    if header[0].word != "yampa":
-        raise Fault(header[0], "a file begins with `yampa source 1`, or a network's with `yampa 1`")
-    if header[1].word == "source":
-        header.append(reader.word("the version"))
-        if header[2].word != "1":
-            raise Fault(header[2], "the version behind `yampa source` is 1")
-    elif header[1].word not in ("1", "2"):
-        raise Fault(header[1], "behind yampa stands `source 1`, or the version 1 or 2")
-    definitions = []
-    while header[1].word == "source" and reader.peek() == "def":
-        definitions.append(definition(reader))
-    word = reader.word("the word input")
-    if word.word != "input":
-        known = "def or input is wanted" if header[1].word == "source" else "the word input is missing"
-        raise Fault(word, known)
-    given, net = reader.tree(), reader.tree()
-    if not reader.ended():
-        raise Fault(reader.tokens[reader.read].at, "the network is whole before this")
-    return Source(" ".join(node.word for node in header[1:]), definitions, given, net, reader, [*header, word])
+@dataclass
+class Given:
+    """A tree that is handed to a definition in the place of a parameter."""
+
+    node: Written
+    scope: object
+    meant: Meant = None
 
 
-def definition(reader):
-    reader.take("def")
-    if reader.peek() != "(":
-        return Definition(reader.word("a name"), [], reader.tree())
-    opened = reader.take("")
-    name, params = reader.word("a name"), []
-    while reader.peek() != ")":
-        if reader.ended():
-            raise Fault(opened.at, "this parenthesis is never closed")
-        params.append(reader.word("the name of a parameter"))
-    reader.take("")
-    return Definition(name, params, reader.tree())
+@dataclass
+class Field:
+    """The name of a part of records."""
+
+    name: str
+    records: list
 
 
-# ---- what it means
+@dataclass
+class Parameter:
+    """A parameter of a definition that is looked through before it is used."""
+
+    name: str
+
+
+class Scope:
+    """Names and what they stand for, inside of others; and the definition in which they are looked up."""
+
+    def __init__(self, outer=None, inside: str = ""):
+        self.names, self.outer, self.inside = {}, outer, inside
+
+    def find(self, word: str):
+        scope = self
+        while scope is not None:
+            if word in scope.names:
+                return scope.names[word]
+            scope = scope.outer
+        return None
 
 
 class Expansion:
     """Puts trees in the place of names."""
 
-    def __init__(self, source):
-        self.source, self.known, self.meant = source, {}, {}
-        self.names = [one.name.word for one in source.definitions]
+    def __init__(self, items: list):
+        self.top, self.records, self.steps, self.level = Scope(), {}, 0, 0
+        self.later = {item.name.word for item in items}
+        for item in items:
+            self.define(item) if isinstance(item, Definition) else self.describe(item)
 
-    def whole(self):
-        for one in self.source.definitions:
-            self.check(one)
-            self.known[one.name.word] = one
-        return self.tree(self.source.input, {}, None), self.tree(self.source.net, {}, None)
+    # ---- definitions and records
 
-    def check(self, one):
-        for node in [one.name, *one.params]:
-            if node.word in TAKEN or re.fullmatch(r"-?[0-9]+", node.word):
-                raise Fault(node, f"{node.word} is a word of the language: take another name", one)
-        if one.name.word in self.known:
-            raise Fault(one.name, f"{one.name.word} is defined already", one)
-        words = [param.word for param in one.params]
-        for number, param in enumerate(one.params):
-            if param.word in words[:number]:
-                raise Fault(param, f"{param.word} is a parameter twice", one)
-            if param.word in self.known or param.word == one.name.word:
-                raise Fault(param, f"{param.word} is the name of a definition: take another name", one)
-        self.tree(one.body, {param.word: sized(Node("x", [], param.start, param.end, "word"), one) for param in one.params}, one)
+    def define(self, one: Definition) -> None:
+        self.free(one.name, self.top, one.name.word)
+        scope = Scope(self.top, one.name.word)
+        for param in one.params:
+            self.bind(param, scope, Parameter(param.word), one.name.word)
+        self.check(one.body, scope)
+        self.top.names[one.name.word] = Named(one, self.top)
 
-    def tree(self, node, params, inside):
-        """The tree with no names in it; what stands there was written in that definition."""
-        if node.sort == "call":
-            return self.call(node, [], params, inside)
-        if not node.parts and node.sort == "word":
-            return self.leaf(node, params, inside)
-        if node.word in params:
-            raise Fault(node, f"{node.word} is a parameter, and has no parts", inside)
-        parts = [self.tree(part, params, inside) for part in node.parts]
-        if node.word in self.known:
-            return self.call(node, parts, params, inside)
-        self.may_be(node, inside)
-        return sized(Node(node.word, parts, node.start, node.end, "form"), inside)
+    def describe(self, record: Record) -> None:
+        name = record.name.word
+        self.free(record.name, self.top, name)
+        for number, (part, type_) in enumerate(record.fields):
+            if part.word in [other.word for other, _ in record.fields[:number]]:
+                raise Fault(part, f"{part.word} is a field of {name} twice")
+            if not isinstance(self.top.find(part.word), Field):
+                self.free(part, self.top, name)
+            self.check(type_, Scope(self.top, name))
+        self.top.names[name] = self.records[name] = record
+        for part, _ in record.fields:
+            others = self.top.names.get(part.word, Field(part.word, [])).records
+            self.top.names[part.word] = Field(part.word, [*others, record])
+            self.top.names[f"{name}.{part.word}"] = Field(part.word, [record])
 
-    def leaf(self, node, params, inside):
-        if node.word in params:
-            return params[node.word]
-        if node.word in self.known:
-            return self.call(node, None, params, inside)
-        self.may_be(node, inside)
-        return sized(Node(node.word, [], node.start, node.end, "word"), inside)
+    def free(self, node: Written, scope: Scope, inside: str) -> None:
+        """That a name may be given."""
+        word = node.word
+        if word in TAKEN or is_number(word):
+            raise Fault(node, f"{word} is a word of the language: take another name", inside)
+        known = scope.find(word)
+        if isinstance(known, Field):
+            raise Fault(node, f"{word} is the name of a field: take another name", inside)
+        if known is not None and scope is self.top:
+            raise Fault(node, f"{word} is defined already", inside)
 
-    def call(self, node, parts, params, inside):
-        one = self.known.get(node.word)
-        if one is None:
-            raise Fault(node, f"({node.word}) has no parts, and {node.word} is no definition", inside)
-        wanted, has = len(one.params), len(parts or [])
-        if wanted != has or (parts is not None and not wanted):
-            how = f"({node.word} {' '.join(param.word for param in one.params)})" if wanted else node.word
-            raise Fault(node, f"{node.word} takes {wanted or 'no'} part{'s' * (wanted != 1)}: write {how}", inside)
-        if not wanted and node.word not in self.meant:
-            self.meant[node.word] = self.tree(one.body, {}, one)
-        return self.meant.get(node.word) or self.tree(one.body, dict(zip([param.word for param in one.params], parts)), one)
+    def bind(self, node: Written, scope: Scope, what, inside: str) -> None:
+        """Gives a name inside of a definition."""
+        self.free(node, scope, inside)
+        if node.word in scope.names:
+            raise Fault(node, f"{node.word} is a parameter twice", inside)
+        known = scope.find(node.word)
+        if known is not None or node.word == inside:
+            what = "a name here already" if isinstance(known, Parameter) else "the name of a definition"
+            raise Fault(node, f"{node.word} is {what}: take another name", inside)
+        scope.names[node.word] = what
 
-    def may_be(self, node, inside):
-        """That a word may be one of the language: of these the reader of networks tells more."""
-        if node.word in TAKEN or re.fullmatch(r"[-+]?[0-9].*", node.word):
+    # ---- that each word is known
+
+    def check(self, node: Written, scope: Scope) -> None:
+        """That each word of a tree stands for something, with as many parts as it takes."""
+        known = scope.find(node.word)
+        if node.word == "let" and known is None and node.sort == "form":
+            self.check(node.parts[-1], self.let(node, scope, self.checked_local))
             return
-        if node.word in self.names:
-            later = "itself" if inside and node.word == inside.name.word else "a later one"
-            raise Fault(node, f"a definition may use those before it, and not {later}", inside)
-        meant = near(node.word, [*self.known, *TAKEN])
-        raise Fault(node, f"unknown word {node.word}" + (f"; did you mean {meant}?" if meant else ""), inside)
+        if known is None:
+            self.language(node, scope)
+        elif not isinstance(known, Parameter) and node.sort != "word":
+            self.fits(node, known, scope)
+        for part in node.parts:
+            self.check(part, scope)
+
+    def language(self, node: Written, scope: Scope) -> None:
+        """That a word may be one of the language: of these the reader of networks tells more."""
+        word = node.word
+        if node.sort == "call":
+            raise Fault(node, f"({word}) has no parts, and {word} is no definition", scope.inside)
+        if word in FORMS | WORDS or re.fullmatch(r"[-+]?[0-9].*", word):
+            return
+        if word == "let":
+            raise Fault(node, "let gives names: write (let NAME TREE BODY)", scope.inside)
+        if word in self.later:
+            later = "itself" if word == scope.inside else "a later one"
+            raise Fault(node, f"a definition may use those before it, and not {later}", scope.inside)
+        meant = near(word, [*names_in(scope), *FORMS, *WORDS])
+        raise Fault(node, f"unknown word {word}" + (f"; did you mean {meant}?" if meant else ""), scope.inside)
+
+    def fits(self, node: Written, known, scope: Scope) -> None:
+        """That a name has as many parts as it takes."""
+        params, has = parameters_of(known), len(node.parts)
+        if isinstance(known, Field) and len(known.records) > 1:
+            ways = " or ".join(f"{record.name.word}.{known.name}" for record in known.records)
+            owners = " and of ".join(record.name.word for record in known.records)
+            raise Fault(node, f"{known.name} is a field of {owners}: write {ways}", scope.inside)
+        if len(params) != has or (node.sort != "word" and not params):
+            how = f"({node.word} {' '.join(params)})" if params else node.word
+            count = len(params) or "no"
+            raise Fault(node, f"{node.word} takes {count} part{'s' * (len(params) != 1)}: write {how}", scope.inside)
+
+    def let(self, node: Written, scope: Scope, local) -> Scope:
+        """The scope of a `let`'s body; each of its names may use those before it."""
+        if len(node.parts) < 3 or not len(node.parts) % 2:
+            raise Fault(node, "let gives names: write (let NAME TREE BODY), or more names, each with its tree", scope.inside)
+        for head, tree in zip(node.parts[:-1:2], node.parts[1::2]):
+            name = Written(head.word, [], head.start, head.end, "word", text=head.text)
+            one = Definition(name, head.parts, tree, [])
+            scope, outer = Scope(scope, scope.inside), scope
+            local(one, scope, outer)
+        return scope
+
+    def checked_local(self, one: Definition, scope: Scope, outer: Scope) -> None:
+        inside = Scope(outer, outer.inside)
+        for param in one.params:
+            if param.sort != "word":
+                raise Fault(param, "the name of a parameter is wanted here", outer.inside)
+            self.bind(param, inside, Parameter(param.word), one.name.word)
+        self.check(one.body, inside)
+        self.bind(one.name, scope, Named(one, outer), outer.inside)
+
+    def local(self, one: Definition, scope: Scope, outer: Scope) -> None:
+        scope.names[one.name.word] = Named(one, outer)
+
+    # ---- what a tree means
+
+    def tree(self, node: Written) -> Meant:
+        self.check(node, self.top)
+        return self.value(node, self.top)
+
+    def value(self, node: Written, scope: Scope) -> Meant:
+        """The tree with no names in it."""
+        self.steps += 1
+        self.level += 1
+        if self.steps > MOST_STEPS:
+            raise Fault(node, f"over {MOST_STEPS:,} names and words stand in what this network means", scope.inside)
+        if self.level > MOST_LEVELS:
+            raise Fault(node, f"names stand for names over {MOST_LEVELS:,} times in one another", scope.inside)
+        found = self.looked_up(node, scope)
+        self.level -= 1
+        return found
+
+    def looked_up(self, node: Written, scope: Scope) -> Meant:
+        known = scope.find(node.word)
+        if isinstance(known, Given):
+            return self.given(node, known, scope)
+        if known is not None:
+            return self.applied(node, known, node.parts, scope)
+        if node.word == "let" and node.sort == "form":
+            return self.value(node.parts[-1], self.let(node, scope, self.local))
+        return sized(node, node.word, [self.value(part, scope) for part in node.parts], scope)
+
+    def given(self, node: Written, known: Given, scope: Scope) -> Meant:
+        """What stands in the place of a parameter; where that has parts, what is given there is the name of what they are put in."""
+        if node.sort == "word":
+            if known.meant is None:
+                known.meant = self.value(known.node, known.scope)
+            return known.meant
+        head, meant = known.node, known
+        while isinstance(meant, Given):
+            head = meant.node
+            if head.sort != "word":
+                raise Fault(head, f"{head.word} has its parts, and the name of what takes {len(node.parts)} is wanted for {node.word}", scope.inside)
+            meant = meant.scope.find(head.word)
+        if meant is not None:
+            called = Written(head.word, node.parts, node.start, node.end, node.sort, text=node.text)
+            self.fits(called, meant, scope)
+            return self.applied(called, meant, node.parts, scope)
+        if head.word not in FORMS:
+            raise Fault(head, f"{head.word} takes no parts, and is given for {node.word}, which has some", scope.inside)
+        return sized(node, head.word, [self.value(part, scope) for part in node.parts], scope)
+
+    def applied(self, node: Written, known, parts: list, scope: Scope) -> Meant:
+        """What a name with its parts means, as that stands in the name's place."""
+        if node.sort == "word" and not isinstance(known, Record):
+            self.fits(node, known, scope)
+        if isinstance(known, Named):
+            return called(*self.body(known, parts, scope), node)
+        parts = [self.value(part, scope) for part in parts]
+        if isinstance(known, Record):
+            return called(self.built(node, known, parts, scope), parts, node)
+        return called(self.projected(node, known, parts[0], scope), parts, node)
+
+    def body(self, known: Named, parts: list, scope: Scope) -> tuple:
+        """What a definition's tree means with these parts, and the parts."""
+        inner = Scope(known.scope, known.definition.name.word)
+        given = [Given(part, scope) for part in parts]
+        for param, part in zip(known.definition.params, given):
+            inner.names[param.word] = part
+        if given:
+            return self.value(known.definition.body, inner), given
+        if known.meant is None:
+            known.meant = self.value(known.definition.body, inner)
+        return known.meant, []
+
+    def built(self, node: Written, record: Record, parts: list, scope: Scope) -> Meant:
+        """Nested pairs: of the values of a record's parts, or where there are none of their types."""
+        word = "pair" if parts else "Pair"
+        parts = parts or [self.value(type_, self.top) for _, type_ in record.fields]
+        made = parts[-1]
+        for part in reversed(parts[:-1]):
+            made = sized(node, word, [part, made], scope)
+        made.record = record if len(parts) > 1 else None
+        return made
+
+    def projected(self, node: Written, known: Field, part: Meant, scope: Scope) -> Meant:
+        """The part of nested pairs that a field names."""
+        names = [name.word for name, _ in known.records[0].fields]
+        number = names.index(known.name)
+        for _ in range(number):
+            part = sized(node, "snd", [part], scope)
+        return part if number == len(names) - 1 else sized(node, "fst", [part], scope)
 
 
-def sized(node, inside):
-    node.size = len(str(node.word)) + 3 + sum(part.size + 1 for part in node.parts)
-    node.inside = inside
-    if node.size > FILE_BYTES:
-        raise Fault(node, f"the network gets over {FILE_BYTES:,} bytes", inside)
-    return node
+def parameters_of(known) -> list:
+    if isinstance(known, Named):
+        return [param.word for param in known.definition.params]
+    if isinstance(known, Record):
+        return [name.word for name, _ in known.fields]
+    return ["e"]
 
 
-def expanded(name, data):
-    """The network's file that a file with names means."""
-    source = read_source(data)
-    given, net = Expansion(source).whole()
-    version = 2 if any(node.word in NEW_FORMS for node in all_nodes(net)) else 1
-    text = f"yampa {version}\ninput {flat(given)}\n{flat(net)}\n"
-    try:
-        read_file(name, text.encode())
-    except SyntaxFault as fault:
-        raise at_source(fault, version, given, net) from None
-    lines = [f"yampa {version}", *laid_out(sorted_node("input", given)), *laid_out(net)]
-    return "\n".join(lines) + "\n"
+def is_number(word: str) -> bool:
+    return re.fullmatch(r"[-+]?[0-9]+", word) is not None
 
 
-def sorted_node(word, given):
-    """`input TYPE` as one line."""
-    return Node(f"{word} {flat(given)}", [], given.start, given.end, "word")
+def names_in(scope: Scope):
+    """All names that are known there."""
+    while scope is not None:
+        yield from scope.names
+        scope = scope.outer
 
 
-def at_source(fault, version, given, net):
-    """The fault of the expanded text at the word that was written."""
-    tokens = [(None, f"yampa {version}\ninput ")]
-    for top, end in ((given, "\n"), (net, "\n")):
-        tokens += written(top)
-        tokens.append((None, end))
-    at, owner = 0, net
-    for node, text in tokens:
-        if node is not None and at <= fault.at:
-            owner = node
-        at += len(text)
-    return Fault(owner, str(fault) + (f": {fault.mend}" if fault.mend else ""), getattr(owner, "inside", None))
+def called(meant: Meant, given: list, node: Written) -> Meant:
+    """What a name stands for, at the place of the name."""
+    found = Meant(meant.word, meant.parts, node, meant.size, meant.depth)
+    found.name, found.given, found.record = node.word, given, meant.record
+    return found
 
 
-def written(node):
-    """The words of a node in one line, each with the node that it comes from."""
-    if not is_form(node):
-        return [(node, str(node.word))]
-    found = [(node, f"({node.word}")]
-    for part in node.parts:
-        found += [(node, " "), *written(part)]
-    return [*found, (node, ")")]
-
-
-# ---- layout
-
-
-def formatted(data):
-    """The file laid out, with its comments."""
-    source = read_source(data)
-    tops = [*source.header]
-    for one in source.definitions:
-        tops += [one.name, *one.params, one.body]
-    tops += [source.input, source.net]
-    left = attach(data, tops, source.reader.comments)
-    lines = header_lines(source)
-    for one in source.definitions:
-        lines += definition_lines(one)
-    lines += input_lines(source)
-    lines += with_comments(source.net, laid_out(source.net))
-    return "\n".join([line.rstrip() for line in lines + folded(left)]) + "\n"
-
-
-def with_comments(node, lines):
-    return [*folded(node.comments), *lines]
-
-
-def header_lines(source):
-    comments = [comment for node in source.header[:-1] for comment in [*node.comments, *node.trailing]]
-    return [*folded(comments), f"yampa {source.version}"]
-
-
-def definition_lines(one):
-    head = " ".join(node.word for node in [one.name, *one.params])
-    head = f"def ({head})" if one.params else f"def {head}"
-    comments = [comment for node in [one.name, *one.params] for comment in [*node.comments, *node.trailing]]
-    body = laid_out(one.body, 4)
-    one_line = f"{head} {body[0]}"
-    if len(body) == 1 and len(one_line) <= 100 and not one.body.comments:
-        return ["", *folded(comments), one_line]
-    return ["", *folded(comments), head, *folded(one.body.comments, 4), "    " + body[0], *body[1:]]
-
-
-def input_lines(source):
-    word, given = source.header[-1], source.input
-    comments = [*word.comments, *word.trailing, *given.comments, *given.trailing]
-    return [*([""] if source.definitions else []), *folded(comments), f"input {flat(given)}"]
-
-
-# ---- the tools
-
-
-EXPAND = """Prints the network that a file with names means, as a network's file.
-
-Such a file begins `yampa source 1`. Definitions follow, and then `input TYPE NETWORK`:
-
-  yampa source 1
-  def step 5
-  def (scale f) (arr (mul x f))
-  def (both f g) (&&& f g)
-  input Int
-  (both (scale step) time)
-
-`def NAME TREE` names a network, an expression, a number or a type; `def (NAME A B ..) TREE` has
-parameters, in the place of which the parts of (NAME a b ..) are put as they are written. A
-definition may use those before it. What the program tells of the network is told of what is
-printed here; `yampa run <(yampa expand FILE)` runs it."""
-
-FMT = """Lays out a network's file, or one with names, in lines of at most 100 columns, and keeps its comments.
-
-  yampa fmt FILE            prints it
-  yampa fmt --write FILE    puts it in the file's place"""
-
-
-def told(name, data, work):
-    """What the work makes of the file; a fault names file, line, column and definition."""
-    try:
-        return work()
-    except Fault as fault:
-        line, column = place(data, min(fault.at, len(data)))
-        inside = f" (in the definition of {fault.inside.name.word})" if fault.inside else ""
-        raise Refused(f"{name}:{line}:{column}: {fault}{inside}") from None
-
-
-def expand_main():
-    words = Words("expand", EXPAND)
-    words.add_argument("file", metavar="FILE")
-    words.add_argument("-o", metavar="FILE", dest="to", help="writes the network there")
-    given = words.parse_args()
-
-    def work():
-        data = read(given.file)
-        write(given.to, told(given.file, data, lambda: expanded(given.file, data)))
-
-    ended("expand", work)
-
-
-def fmt_main():
-    words = Words("fmt", FMT)
-    words.add_argument("file", metavar="FILE")
-    words.add_argument("--write", action="store_true", help="puts it in the file's place")
-    given = words.parse_args()
-
-    def work():
-        data = read(given.file)
-        write(given.file if given.write else None, told(given.file, data, lambda: formatted(data)))
-
-    ended("fmt", work)
+def sized(node: Written, word: str, parts: list, scope: Scope) -> Meant:
+    """A tree that is written there, if it isn't too large for a file."""
+    size, depth = len(word) + 2 * bool(parts), 0
+    for part in parts:
+        size += part.size + 1
+        depth = max(depth, part.depth)
+    if size > FILE_BYTES:
+        raise Fault(node, f"the network gets over {FILE_BYTES:,} bytes", scope.inside)
+    if depth > OPEN:
+        raise Fault(node, f"over {OPEN} parentheses are open at once in what this means", scope.inside)
+    return Meant(word, parts, node, size, depth + 1)

@@ -4,9 +4,10 @@ from dataclasses import dataclass
 from functools import lru_cache
 
 from model.trees import at, children, head
-from workbench.ending import Refused, read
+from workbench.ending import Refused
+from workbench.origin import Program, program_of
 from workbench.program import again, answered
-from workbench.source import SyntaxFault, place, read_file, tree_of
+from workbench.source import SyntaxFault, tree_of
 
 
 @dataclass(frozen=True)
@@ -35,11 +36,18 @@ def rows_of(output):
 
 @dataclass
 class Network:
-    """A network that the program accepts: what its file has, and the rows of its outline."""
+    """A network that the program accepts: what is written in its file, and the rows of its outline."""
 
-    input: object
-    tree: object
+    program: Program
     rows: dict
+
+    @property
+    def input(self):
+        return self.program.file.input
+
+    @property
+    def tree(self):
+        return self.program.file.tree
 
     def at(self, position):
         return at(self.tree, position)
@@ -69,15 +77,13 @@ class Network:
 
 def network_of(name):
     """The network of a file that the program accepts."""
-    name = again(name)
-    data = read(name)
-    rows = rows_of(answered(["outline", name]))
+    path = again(name)
+    rows, program = rows_of(answered(["outline", path])), program_of(path)
     try:
-        file = read_file(name, data)
+        program.file
     except SyntaxFault as fault:
-        line, column = place(data, fault.at)
-        raise Refused(f"{name}:{line}:{column}: {fault}") from None
-    return Network(file.input, file.tree, rows)
+        raise Refused(fault.line(name, program.data)) from None
+    return Network(program, rows)
 
 
 # ---- switches

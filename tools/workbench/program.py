@@ -7,6 +7,7 @@ import tempfile
 from pathlib import Path
 
 from workbench.ending import UNREADABLE, Refused, read
+from workbench.origin import network_path
 
 TOP = Path(__file__).resolve().parents[2]
 SECONDS = 600
@@ -59,9 +60,9 @@ def kept(text):
 
 
 def again(name):
-    """A name under which the file can be read more than once: of a pipe that of a copy."""
+    """A name under which the file can be read more than once: of a pipe that of a copy, of a network with names that of what it means."""
     if os.path.isfile(name):
-        return name
+        return network_path(name, name)
     stack = contextlib.ExitStack()
     atexit.register(stack.close)
-    return stack.enter_context(kept(read(name)))
+    return network_path(stack.enter_context(kept(read(name))), name)

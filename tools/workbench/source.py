@@ -61,7 +61,8 @@ NO_DIVISION = ("div", "/", "mod", "rem", "%", "quot")
 
 @dataclass
 class Node:
-    """A tree as it is written: its word or number, its parts, and the bytes that it takes."""
+    """A tree as it is written: its word or number, its parts, and the bytes that it takes; the comments before it and behind it,
+    behind its word and before the parenthesis that closes it."""
 
     word: object
     parts: list
@@ -70,16 +71,20 @@ class Node:
     sort: str
     comments: list = field(default_factory=list)
     trailing: list = field(default_factory=list)
-    size: int = 0
-    inside: object = None
+    opened: list = field(default_factory=list)
+    closing: list = field(default_factory=list)
 
 
 class SyntaxFault(Exception):
     """The first word that doesn't fit: its byte, what is wrong, and how to mend it."""
 
     def __init__(self, at, why, mend="", kind="syntax", length=None, also=()):
-        super().__init__(why)
-        self.at, self.why, self.mend, self.kind, self.length, self.also = at, why, mend, kind, length, list(also)
+        super().__init__(readable(why))
+        self.at, self.why, self.mend, self.kind, self.length, self.also = at, readable(why), readable(mend), kind, length, list(also)
+
+    def line(self, name: str, data: bytes) -> str:
+        line, column = place(data, min(self.at, len(data)))
+        return f"{name}:{line}:{column}: {self.why}"
 
 
 @dataclass(frozen=True)
@@ -98,6 +103,14 @@ def tokens_of(data):
         token = Token(found.group().decode("latin-1"), found.start())
         (comments if token.text.startswith(";") else tokens).append(token)
     return tokens, comments
+
+
+def readable(text: str) -> str:
+    """A text that has words of a file, each byte of which is a character, with these words in UTF-8."""
+    try:
+        return text.encode("latin-1").decode()
+    except UnicodeError:
+        return text
 
 
 def place(data, at):
@@ -512,7 +525,7 @@ class File:
     node: Node
     tree: object
     origins: dict
-    comments: list
+    version: str
 
 
 def read_file(name, data):
@@ -520,12 +533,12 @@ def read_file(name, data):
     if len(data) > FILE_BYTES:
         raise SyntaxFault(FILE_BYTES, f"the file has over {FILE_BYTES:,} bytes", kind="too long")
     reader = Reader(data)
-    reader.header()
+    version = reader.header()
     input_type = reader.tree("T")
     node = reader.tree("N")
     reader.end()
     tree, origins = core(node)
-    return File(name, data, plain(input_type), node, tree, origins, reader.comments)
+    return File(name, data, plain(input_type), node, tree, origins, version)
 
 
 def tree_of(text, sort):

@@ -1,5 +1,6 @@
 """Files with names are expanded, and files are laid out."""
 import re
+from pathlib import Path
 
 from model.texts import read_network
 from workbench.outline import network_of
@@ -35,17 +36,22 @@ def names_are_expanded():
         want(f"bad source {wanted}", status == 1 and not output and wanted in error and error.count("\n") == 1, error)
 
 
-def files_are_laid_out():
-    def laid_out(path):
+def comments_in(data: bytes) -> list[bytes]:
+    return sorted(comment.rstrip() for comment in re.findall(rb";[^\n]*", data))
+
+
+def files_are_laid_out() -> None:
+    def laid_out(path: Path) -> tuple:
         told = tool("fmt", path)
         return told, in_folder(("fmt", "again"), again=told[1])
 
     paths = [path for name in ("net", "fast", "source") for path in TOP.glob(f"examples/*/{name}")]
     for path, ((status, output, error), again) in each(laid_out, paths):
         name = f"fmt {path.parent.name}/{path.name}"
-        want(name, not status and max(map(len, output.splitlines())) <= 100, error)
+        lines = [line.partition(";")[0].rstrip() for line in output.splitlines()]
+        want(name, not status and max(map(len, lines)) <= 100, error)
         want(name + " again", again[1] == output)
-        comments = [re.sub(r"[; \n]+", "", "".join(re.findall(r";[^\n]*", text))) for text in (path.read_text(), output)]
+        comments = [comments_in(text) for text in (path.read_bytes(), output.encode())]
         want(name + " keeps comments", comments[0] == comments[1], comments)
         if path.name != "source":
             want(name + " keeps the network", read_network(output.encode()) == read_network(path.read_bytes()))

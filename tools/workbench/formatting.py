@@ -1,0 +1,126 @@
+"""Files laid out: networks' files, and those with names, whose comments are kept as they are."""
+from workbench.definitions import Fault, Include, Record, Source, Written, read_text
+from workbench.ending import Refused, Words, ended, read, write
+from workbench.layout import WIDTH, flat, laid_out
+
+FMT = """Lays out a network's file, or one with names, in lines of at most 100 columns, and keeps its comments.
+
+  yampa fmt FILE            prints it
+  yampa fmt --write FILE    puts it in the file's place
+
+A blank line stays between definitions where there is one, and stands where one of them takes more
+than a line; a table of one-line definitions stays together."""
+
+
+def formatted(name: str, data: bytes) -> bytes:
+    """The file laid out, with its comments."""
+    source = read_text(name, data)
+    blocks = [header_lines(source), *map(item_lines, source.items)]
+    blank = [False, *[bool(item.comments) and item.comments[0] == "" for item in source.items]]
+    if source.net is not None:
+        blocks.append(network_lines(source))
+        blank.append(bool(source.comments) and source.comments[0] == "")
+    lines = []
+    for number, block in enumerate(blocks):
+        apart = number > 0 and (blank[number] or number == 1 and bool(source.items) or is_long(blocks[number - 1 : number + 1]))
+        lines += [""] * (apart and bool(source.items)) + block
+    left = [*source.left]
+    return ("\n".join(line.rstrip(" ") for line in [*lines, *left]) + "\n").encode("latin-1")
+
+
+def is_long(blocks: list) -> bool:
+    """Whether one of the blocks takes several lines without its comments."""
+    return any(len([line for line in block if line and not line.startswith(";")]) > 1 for block in blocks)
+
+
+def top_comments(comments: list) -> list:
+    """Comments in lines of their own, with their blank lines but the first."""
+    return comments[1:] if comments and comments[0] == "" else comments
+
+
+def of_nodes(nodes: list) -> list:
+    return [comment for node in nodes for comment in [*node.comments, *node.trailing]]
+
+
+def header_lines(source: Source) -> list:
+    first = source.header[0]
+    return [*first.comments, *of_nodes([Written("", [], 0, 0, "", trailing=first.trailing), *source.header[1:]]), f"yampa {source.version}"]
+
+
+def item_lines(item) -> list:
+    if isinstance(item, Include):
+        return [*top_comments(item.comments), *item.file.comments, behind([f"include {item.file.word}"], item.file.trailing)[0]]
+    return record_lines(item) if isinstance(item, Record) else definition_lines(item)
+
+
+def behind(lines: list, comments: list) -> list:
+    """The lines with comments behind the last one."""
+    return [*lines[:-1], "  ".join([lines[-1], *comments])]
+
+
+def definition_lines(one) -> list:
+    heads = [one.name, *one.params]
+    head = " ".join(node.word for node in heads)
+    head = f"def ({head})" if one.params else f"def {head}"
+    comments = [*top_comments(one.comments), *of_nodes(heads)]
+    return [*comments, *headed(head, one.body)]
+
+
+def headed(head: str, tree: Written) -> list:
+    """The tree behind its head, where it fits into that line, else below it."""
+    beside = laid_out(tree, len(head) + 1)
+    if len(beside) == 1 and not tree.comments and fits(f"{head} {beside[0]}", tree):
+        return [f"{head} {beside[0]}"]
+    below = laid_out(tree, 4)
+    return [head, *["    " + comment for comment in tree.comments], "    " + below[0], *below[1:]]
+
+
+def fits(line: str, tree: Written) -> bool:
+    """Whether a line is short enough without the comment behind it."""
+    return len(line) - sum(2 + len(comment) for comment in tree.trailing) <= WIDTH
+
+
+def record_lines(record: Record) -> list:
+    comments = [*top_comments(record.comments), *of_nodes([record.name])]
+    written = [f"{name.word}:{flat(type_)}" for name, type_ in record.fields]
+    line = " ".join([f"record {record.name.word}", *written])
+    nodes = [node for field in record.fields for node in field]
+    last = record.fields[-1][1]
+    if len(line) <= WIDTH and not of_nodes([node for node in nodes if node is not last]) and not last.comments and not within(nodes):
+        return [*comments, *behind([line], last.trailing)]
+    lines = [*comments, f"record {record.name.word}"]
+    for name, type_ in record.fields:
+        first, *rest = laid_out(type_, len(name.word) + 5)
+        lines += ["    " + comment for comment in [*of_nodes([name]), *type_.comments]] + [f"    {name.word}:{first}", *rest]
+    return lines
+
+
+def within(nodes: list) -> bool:
+    """Whether comments stand inside of the nodes."""
+    return any(of_nodes(node.parts) or node.opened or node.closing or within(node.parts) for node in nodes)
+
+
+def network_lines(source: Source) -> list:
+    lines = [*top_comments(source.comments), *source.input.comments]
+    first, *rest = laid_out(source.input, 6)
+    lines += [f"input {first}", *rest]
+    if source.output is not None:
+        first, *rest = laid_out(source.output, 7)
+        lines += [*source.output.comments, f"output {first}", *rest]
+    return [*lines, *source.net.comments, *laid_out(source.net)]
+
+
+def main() -> None:
+    words = Words("fmt", FMT)
+    words.add_argument("file", metavar="FILE")
+    words.add_argument("--write", action="store_true", help="puts it in the file's place")
+    given = words.parse_args()
+
+    def work():
+        try:
+            text = formatted(given.file, read(given.file))
+        except Fault as fault:
+            raise Refused(fault.line()) from None
+        write(given.file if given.write else None, text)
+
+    ended("fmt", work)
