@@ -1,0 +1,10 @@
+pub mod Plain
+pub mod Cells
+pub mod Switches
+pub mod Restarts
+pub mod Members
+pub mod Collections
+pub mod Machines
+pub mod Typed
+pub mod Computed
+pub mod Codes
