@@ -1,3 +1,4 @@
+-- That machines output what networks mean, a file a line.
 pub mod Plain
 pub mod Cells
 pub mod Switches
@@ -7,4 +8,3 @@ pub mod Collections
 pub mod Machines
 pub mod Typed
 pub mod Computed
-pub mod Codes

@@ -3,4 +3,3 @@ pub mod Store
 pub mod Stepper
 pub mod Machine
 pub mod Examples
-pub mod Code
