@@ -1,13 +1,15 @@
 """Explains each fault: the place in the file, what is wanted and what is found, and how to mend it."""
 import sys
 
-from workbench.ending import REFUSED, Refused, Words, ended, read
-from workbench.faults import explained, unread
+from workbench.ending import REFUSED, UNREADABLE, Refused, Words, ended, read
+from workbench.faults import Files, explained, unread
+from workbench.origin import InNames
 from workbench.program import again, call
+from workbench.telling import Told, told_of
 
 ABOUT = """Runs the program on the files and explains the fault that it tells, if it tells one.
 
-  yampa explain NET                 a network's file
+  yampa explain NET                 a network's file, or one with names
   yampa explain NET STREAM          a run of it on a recorded stream
   yampa explain SRC TGT CERT        a certificate
   yampa explain --line LINE FILE .. a fault line that was told before, of these files
@@ -17,20 +19,20 @@ takes minutes where it isn't built yet. Where nothing is refused the tool says s
 else 1, or 3 where a file can't be read."""
 
 
-def roles_of(names):
+def roles_of(names: list) -> tuple:
     """The files by role, and the stream, as their number says."""
     if len(names) == 3:
         return dict(zip(("source", "target", "certificate"), names)), None
     return {"network": names[0]}, names[1] if len(names) == 2 else None
 
 
-def fault_of(roles, stream):
+def fault_of(files: Files, stream) -> str:
     """The fault line that the program tells of the files, or an empty one."""
-    if len(roles) == 3:
-        return call(["check", *roles.values()]).fault()
+    if len(files.paths) == 3:
+        return call(["check", *files.paths.values()]).fault()
     if stream is None:
-        return call(["types", roles["network"]]).fault()
-    return call(["run", roles["network"]], stream[1]).fault()
+        return call(["types", files.paths["network"]]).fault()
+    return call(["run", files.paths["network"]], stream[1]).fault()
 
 
 def main():
@@ -43,26 +45,30 @@ def main():
     ended("explain", lambda: explain(given))
 
 
-def explain(given):
-    roles, stream_name = roles_of(given.files)
-    taken = {role: path_and_bytes(name) for role, name in roles.items()}
-    paths = {role: path for role, (path, _) in taken.items()}
-    files = {role: (roles[role], data) for role, (_, data) in taken.items()}
-    stream = (stream_name, path_and_bytes(stream_name)[1]) if stream_name else None
-    line = given.line or fault_of(paths, stream)
+def explain(given) -> None:
+    names, stream_name = roles_of(given.files)
+    files = Files(names, {role: path_of(name) for role, name in names.items()})
+    stream = (stream_name, read(path_of(stream_name))) if stream_name else None
+    line = given.line or fault_of(files, stream)
     if not line:
         print("nothing is refused")
         return
     print(line)
-    print(explained(line, files, paths, stream).text(), end="")
-    sys.exit(REFUSED)
+    tell(explained(line, files, stream))
 
 
-def path_and_bytes(name):
-    """A name under which the file can be read more than once, and what it holds; why it can't be read is told."""
+def tell(told: Told, status: int = REFUSED) -> None:
+    print(told.text(), end="")
+    sys.exit(status)
+
+
+def path_of(name: str) -> str:
+    """A name under which the file can be read more than once; why it can't be read, or what is wrong with its names, is told."""
     try:
         path = again(name)
-        return path, read(path)
-    except Refused as refused:
-        print(unread(name).text(), end="")
-        sys.exit(refused.status)
+        with open(path, "rb"):
+            return path
+    except InNames as refused:
+        tell(told_of(refused.fault))
+    except (Refused, OSError) as refused:
+        tell(unread(name), getattr(refused, "status", UNREADABLE))

@@ -1,31 +1,57 @@
 """What a fault line of the program means, where it stands in the files, and how to mend it."""
 import re
+from dataclasses import dataclass
 
 from model.trees import at
+from workbench.definitions import Fault
+from workbench.ending import read
 from workbench.missteps import nothing_there, of_steps
 from workbench.misread import of_stream
 from workbench.mistyped import of_types
-from workbench.source import SyntaxFault, read_file, read_steps
-from workbench.telling import Told
+from workbench.origin import program_of
+from workbench.program import again
+from workbench.source import SyntaxFault, read_steps
+from workbench.telling import Told, told_of
 
-def explained(line, files, paths, stream):
-    """What is told of a fault line; `files` are the names and bytes by role, `paths` where the program reads them, `stream` the name
-    and the bytes of the stream, where there is one."""
+
+@dataclass
+class Files:
+    """The files of a call: their names by role, and the paths at which the program reads them."""
+
+    names: dict
+    paths: dict
+
+    def program(self, role: str):
+        """The network of a role."""
+        return program_of(self.paths[role])
+
+    def certificate(self) -> tuple:
+        """The certificate's name and bytes."""
+        return self.names["certificate"], read(self.paths["certificate"])
+
+
+def files_of(names: dict) -> Files:
+    """The files with these names by role, each where it can be read more than once."""
+    return Files(names, {role: again(name) for role, name in names.items()})
+
+
+def explained(line: str, files: Files, stream) -> Told:
+    """What is told of a fault line; the stream is given by its name and its bytes, where there is one."""
     role, _, fault = line.partition(": ")
     if line in OTHERS:
         return Told(OTHERS[line])
     if role == "stream":
         return of_stream(fault, files, stream)
-    if role not in files:
+    if role not in files.names:
         return Told(line)
-    name, data = files[role]
+    name = files.names[role]
     if fault == "cannot be read":
         return unread(name)
-    told = of_text(role, name, data)
+    told = of_text(role, files)
     if told is None and role == "certificate":
-        return of_steps(fault, files, paths)
+        return of_steps(fault, files)
     if told is None:
-        told = of_network(read_file(name, data), fault)
+        told = of_network(files.program(role), fault)
     return told or Told(line, name, notes=["the file is right as it stands here: is this the line of another file?"])
 
 
@@ -56,19 +82,25 @@ def unread(name):
     return Told("cannot be read", name)
 
 
-def of_text(role, name, data):
+def of_text(role: str, files: Files):
     """The first word of the file that doesn't fit, or None."""
+    name, data = files.names[role], b""
     try:
-        read_steps(data) if role == "certificate" else read_file(name, data)
-    except SyntaxFault as fault:
-        return Told(fault.why, name, data, min(fault.at, len(data)), fault.length or 1, [fault.mend], fault.also)
+        if role == "certificate":
+            name, data = files.certificate()
+            read_steps(data)
+        else:
+            data = files.program(role).data
+            files.program(role).file
+    except (Fault, SyntaxFault) as fault:
+        return told_of(fault, name, data)
     return None
 
 
-def of_network(file, fault):
+def of_network(program, fault: str):
     """What is told of a network whose text is right."""
     found = re.fullmatch(r"no position \(at([ 0-9]*)\)", fault)
     if not found:
-        return of_types(file, fault)
+        return of_types(program, fault)
     position = tuple(map(int, found.group(1).split()))
-    return Told(nothing_there(file.tree, position), file.name) if at(file.tree, position) is None else None
+    return Told(nothing_there(program.file.tree, position), program.name) if at(program.file.tree, position) is None else None

@@ -2,12 +2,13 @@
 import re
 
 from model.texts import LINE_BYTES, ValueFault, ValueReader
-from model.trees import shown
-from workbench.source import read_file
-from workbench.telling import Told
+from model.trees import is_form
+from workbench.records import RecordType
+from workbench.source import near
+from workbench.telling import Told, article
 
 
-def of_stream(fault, files, stream):
+def of_stream(fault: str, files, stream) -> Told:
     """What is told of a fault of a stream."""
     found = re.match(r"line (\d+): (.*)", fault)
     if stream is None or not found:
@@ -17,9 +18,8 @@ def of_stream(fault, files, stream):
     lines = data.split(b"\n")
     start = sum(len(line) + 1 for line in lines[: number - 1])
     line = lines[number - 1] if number <= len(lines) else b""
-    role = next(role for role in ("network", "target") if role in files)
-    given = read_file(*files[role]).input
-    at, reason, notes = stream_reason(line, number, why, given)
+    role = next(role for role in ("network", "target") if role in files.names)
+    at, reason, notes = stream_reason(line, number, why, files.program(role).input)
     return Told(reason, name, data, min(start + at, len(data)), 1, notes)
 
 
@@ -64,15 +64,17 @@ def step_reason(line, number, tidy):
 
 def value_reason(line, lead, why, given, tidy):
     text = line[lead:]
-    reader = ValueReader(text)
     at = int(re.search(r"(\d+)$", why).group(1))
-    part, wanted = text[at:].decode(errors="replace"), f"a value of type {shown(given)} is wanted"
+    reader = PlaceReader(text)
     try:
         reader.value(given)
         whole = True
-    except (ValueFault, AttributeError, IndexError):
+    except ValueFault:
         whole = False
+    part, wanted = text[at:].decode(errors="replace"), reader.told()
     word = re.match(r"\(?[^ ()]*", part).group()
+    meant = near(word, ["true", "false", "none", "unit", "(pair", "(event", "(list"])
+    meant = f"; did you mean {meant}?" if meant else ""
     if whole and part[:1] in (" ", "\t"):
         rest = part.strip()
         if rest.startswith((";", "#", "//")):
@@ -94,4 +96,53 @@ def value_reason(line, lead, why, given, tidy):
         return lead + at, "the value ends too early", [wanted]
     if part.startswith(")"):
         return lead + at, "a space and a further part are missing before this parenthesis", [wanted]
-    return lead + at, f"{word or part[:1]!r} is no value here", [wanted]
+    return lead + at, f"{word or part[:1]!r} is no value here{meant}", [wanted]
+
+
+class PlaceReader(ValueReader):
+    """Reads one value, and knows which type is wanted where it stops, and of a record's field its name."""
+
+    def __init__(self, text: bytes):
+        super().__init__(text)
+        self.type, self.field = None, ""
+
+    def value(self, type_):
+        self.type = type_
+        return super().value(type_)
+
+    def form(self, word, type_):
+        if word == "(list":
+            self.type, self.field = type_[1], ""
+            return super().form(word, type_)
+        for name, part in halves_of(type_):
+            self.type, self.field = part, name
+            self.want(b" ")
+            self.value(part)
+        self.want(b")")
+        return (word[1:],)
+
+    def told(self) -> str:
+        """What is wanted, and how it is written."""
+        wants = f"{self.field} wants {article(self.type)}" if self.field else f"{article(self.type)} is wanted"
+        return f"{wants}: write {written(self.type)}"
+
+
+def halves_of(type_) -> list:
+    """The parts of a type of one value, each with the name of the field that it is, where it is one."""
+    if not isinstance(type_, RecordType):
+        return [("", part) for part in type_[1:]]
+    rest = type_.fields[1:]
+    return [type_.fields[0], rest[0] if len(rest) == 1 else ("", RecordType("", rest))]
+
+
+def written(type_) -> str:
+    """How a value of a type is written, for instance."""
+    if is_form("Event", type_):
+        return f"none or {example(type_)}"
+    return "true or false" if type_ == "Bool" else "unit" if type_ == "Unit" else f"for instance {example(type_)}"
+
+
+def example(type_) -> str:
+    if isinstance(type_, tuple):
+        return "(" + " ".join([type_[0].lower(), *map(example, type_[1:])]) + ")"
+    return {"Int": "5", "Bool": "true", "Unit": "unit"}[type_]

@@ -4,26 +4,33 @@ import re
 from model.trees import at, at_text, children, difference, is_network, shown
 from workbench.laws import LAWS, unlike
 from workbench.program import answered
+from workbench.records import shown_type
 from workbench.source import core, read_file, read_steps
-from workbench.telling import Told, short
+from workbench.telling import Told, short, shortened
 from workbench.tracing import steps_shown
 
 
-def of_steps(fault, files, paths):
-    """What is told of a fault of a certificate's steps; `files` are the names and bytes by role, `paths` where the program reads
-    them. None where the steps have no such fault."""
-    name, _ = files["certificate"]
+def of_steps(fault, files):
+    """What is told of a fault of a certificate's steps; None where the steps have no such fault."""
+    name, _ = files.certificate()
     if fault == "inputs differ":
-        source, target = (read_file(*files[role]) for role in ("source", "target"))
-        return Told(f"the inputs differ: {shown(source.input)} and {shown(target.input)}", name)
+        source, target = (files.program(role) for role in ("source", "target"))
+        return Told(f"the inputs differ: {shown_type(source.input)} and {shown_type(target.input)}", name)
     if fault == "ends elsewhere":
-        found = difference(network_made(paths), read_file(*files["target"]).tree)
-        if found is None:
-            return None
-        where, made, wanted = found
-        return Told(f"the steps end elsewhere: at {at_text(where)} they make {short(made)}, and the target has {short(wanted)}", name)
+        return of_end(files)
     found = re.fullmatch(r"(no position|no match|ill typed) at step (\d+)", fault)
-    return of_step(found.group(1), int(found.group(2)), files, paths) if found else Told(fault, name)
+    return of_step(found.group(1), int(found.group(2)), files) if found else Told(fault, name)
+
+
+def of_end(files):
+    """Where the steps of a certificate end, in the place of its target; None where that is it."""
+    target = files.program("target")
+    found = difference(network_made(files.paths), target.file.tree)
+    if found is None:
+        return None
+    where, made, wanted = found
+    made, wanted = shortened(files.program("source").folded(shown(made))), shortened(target.folded(shown(wanted)))
+    return Told(f"the steps end elsewhere: at {at_text(where)} they make {made}, and the target has {wanted}", files.names["certificate"])
 
 
 def network_made(paths, first=10_000):
@@ -32,9 +39,10 @@ def network_made(paths, first=10_000):
     return read_file("", text).tree
 
 
-def of_step(fault, number, files, paths):
+def of_step(fault, number, files):
     """What is told of the step that is refused; None where that one isn't."""
-    name, data = files["certificate"]
+    name, data = files.certificate()
+    paths = files.paths
     steps = steps_shown(paths["source"], paths["certificate"])
     if number != len(steps) or steps[-1].after is not None:
         return None
@@ -49,7 +57,7 @@ def of_step(fault, number, files, paths):
     else:
         why, note = no_match(law, direction, where, given, step)
     told.why = f"step {number}: {why}"
-    told.notes = [f"at {where} stands {short(step.before)}", f"{law}: {LAWS[law].left} = {LAWS[law].right}", note]
+    told.notes = [f"at {where} stands {shortened(files.program('source').folded(shown(step.before)))}", f"{law}: {LAWS[law].left} = {LAWS[law].right}", note]
     return told
 
 

@@ -5,20 +5,21 @@ from dataclasses import dataclass
 from model.trees import at, at_text, children, head, is_network, shown
 from workbench.asking import asked, asked_by_name
 from workbench.outline import scope_of
-from workbench.telling import article, short, told_at
+from workbench.records import shown_type
+from workbench.telling import article, spelt_at, told_at
 
 
-def of_types(file, fault):
+def of_types(program, fault):
     """What is told of a fault of a network's types; None where it has no such fault."""
     found = re.fullmatch(r"(.*) (at|in) \(at([ 0-9]*)\)", fault)
     if not found:
-        return told_at(file, (), TOO_LARGE[fault], ["the page of the language has its limits"]) if fault in TOO_LARGE else None
+        return told_at(program, (), TOO_LARGE[fault], ["the page of the language has its limits"]) if fault in TOO_LARGE else None
     position = tuple(map(int, found.group(3).split()))
-    if at(file.tree, position) is None:
+    if at(program.file.tree, position) is None:
         return None
     if found.group(2) == "in":
-        return expression_fault(file, found.group(1), position)
-    return network_fault(file, found.group(1), position)
+        return expression_fault(program, found.group(1), position)
+    return network_fault(program, found.group(1), position)
 
 
 TOO_LARGE = {
@@ -43,22 +44,24 @@ class Surroundings:
         if self.given is None:
             return []
         notes = [f"(p {number}) is {article(type_)}" for number, type_ in enumerate(self.params)]
-        return notes + [f"(old {number}) is from {shown(given)} to {shown(output)}" for number, (given, output) in enumerate(self.frozen)]
+        return notes + [f"(old {number}) is from {shown_type(given)} to {shown_type(output)}" for number, (given, output) in enumerate(self.frozen)]
 
     def notes(self, what):
         return [] if self.given is None else [f"{what} {article(self.given)}", *self.scope()]
 
 
-def surroundings(file, position):
+def surroundings(program, position):
     """What the program tells of the surroundings of a part."""
-    count, frozen = scope_of(file.tree, position)
-    lifted = (lambda e: ("arr", e)) if is_network(at(file.tree, position)) else (lambda e: e)
+    tree = program.file.tree
+    count, frozen = scope_of(tree, position)
+    lifted = (lambda e: ("arr", e)) if is_network(at(tree, position)) else (lambda e: e)
     questions = [(position, lifted("x")), *[(position, lifted(("p", number))) for number in range(count)]]
     for where in frozen:
-        questions += [(where, ("arr", "x")), (where, at(file.tree, where))]
-    types = asked(file, questions)
+        questions += [(where, ("arr", "x")), (where, at(tree, where))]
+    types = asked(program.file, questions)
     if types is None or len(types) < len(questions):
         return Surroundings(None, [None] * count, [None] * len(frozen))
+    types = [program.named_type(type_) for type_ in types]
     olds = types[count + 1 :]
     return Surroundings(types[0], types[1 : count + 1], list(zip(olds[::2], olds[1::2])))
 
@@ -85,39 +88,40 @@ SUGAR_WANTS = {
 }
 
 
-def of_shorter_way(file, position, owner):
+def of_shorter_way(program, position, owner):
     """What is told of a part of what a shorter way means."""
-    around = surroundings(file, outermost(file, position))
+    around = surroundings(program, outermost(program.file, position))
     gets = f", but gets {article(around.given)}" if around.given else ""
-    return told_at(file, position, f"{owner.word} {SUGAR_NETWORKS[owner.word]}{gets}", around.scope())
+    return told_at(program, position, f"{owner.word} {SUGAR_NETWORKS[owner.word]}{gets}", around.scope())
 
 
 # ---- expressions
 
 
-def expression_fault(file, fault, position):
+def expression_fault(program, fault, position):
     """Why an expression has no type."""
-    found = misfit(file, position)
+    found = misfit(program.file, position)
     if found is None:
         return None
     where, number, types = found
-    tree, owner = at(file.tree, where), file.origins[where]
+    owner = program.file.origins[where]
     if owner.word in SUGAR_NETWORKS:
-        return of_shorter_way(file, where, owner)
-    around = surroundings(file, where)
+        return of_shorter_way(program, where, owner)
+    around = surroundings(program, where)
     sees = around.notes("x here is")
     if owner.word in SUGAR_WANTS:
-        return told_at(file, where, f"{owner.word} {SUGAR_WANTS[owner.word]}", sees)
+        return told_at(program, where, f"{owner.word} {SUGAR_WANTS[owner.word]}", sees)
     if fault == "no parameter":
         count = len(around.params)
         there = f"there are (p 0) to (p {count - 1}) here" if count else "there are none here"
         note = "a parameter is the value of the event of a switch around it, in its last part"
-        return told_at(file, where, f"{short(tree)}: {there}", [note, *around.scope()])
+        return told_at(program, where, f"{spelt_at(program, where)}: {there}", [note, *around.scope()])
     if "deep" in fault:
-        return told_at(file, where, "this expression is over the limits of expressions, or makes a type over those of types", sees)
+        return told_at(program, where, "this expression is over the limits of expressions, or makes a type over those of types", sees)
     if not types:
-        return told_at(file, where, f"{short(tree)} doesn't fit here", sees)
-    return told_at(file, (*where, number), mismatch(tree, types), sees)
+        return told_at(program, where, f"{spelt_at(program, where)} doesn't fit here", sees)
+    types = [program.named_type(type_) for type_ in types]
+    return told_at(program, (*where, number), mismatch(program, where, types), sees)
 
 
 def misfit(file, position):
@@ -162,18 +166,19 @@ def up_to(tree, number, part):
     return part
 
 
-def mismatch(tree, types):
+def mismatch(program, where, types):
     """What the last one of an expression's parts that have these types should have been."""
-    word, number = head(tree), len(types) - 1
-    found = f"{short(children(tree)[number])} is {article(types[number])}"
+    tree, number = at(program.file.tree, where), len(types) - 1
+    word = head(tree)
+    found = f"{spelt_at(program, (*where, number))} is {article(types[number])}"
     wanted = WANTED.get(word, {}).get(number)
     if wanted:
         return f"{word} wants {wanted}, but {found}"
     if word in ("equal", "if", "on"):
         other = number - 1
-        return f"the parts of {word} have one type; {short(children(tree)[other])} is {article(types[other])}, but {found}"
+        return f"the parts of {word} have one type; {spelt_at(program, (*where, other))} is {article(types[other])}, but {found}"
     if word == "list":
-        return f"each element of this list is {article(tree[1])}, but {found}"
+        return f"each element of this list is {article(program.named_type(tree[1]))}, but {found}"
     return f"the last part of nth is what it gives outside of the list, {article(types[0][1])}, but {found}"
 
 
@@ -193,21 +198,22 @@ WANTED |= {
 # ---- networks
 
 
-def network_fault(file, fault, position):
+def network_fault(program, fault, position):
     """Why a network has no type: it refuses what goes into it or its parts, or what it is a part of refuses what it outputs."""
+    file = program.file
     places = [*walked_before(file.tree, position), position, *[position[:-1]][: len(position)]]
     types = asked_by_name(file, {where: (where, at(file.tree, where)) for where in places}, position[:-1])
     if types is None:
-        return told_at(file, position, f"{short(at(file.tree, position))} doesn't fit here: {fault}")
+        return told_at(program, position, f"{spelt_at(program, position)} doesn't fit here: {fault}")
     if len(types) == len(places):
         return None
     where = position[:-1] if position in types else position
     owner = file.origins[where]
     if owner.word in SUGAR_NETWORKS:
-        return of_shorter_way(file, where, owner)
-    around, tree = surroundings(file, where), at(file.tree, where)
-    outputs = {place[-1]: type_ for place, type_ in types.items() if place and place[:-1] == where}
-    return told_at(file, position, Refusal(tree, around, outputs).reason(fault), around.notes("it gets"))
+        return of_shorter_way(program, where, owner)
+    around, tree = surroundings(program, where), at(file.tree, where)
+    outputs = {place[-1]: program.named_type(type_) for place, type_ in types.items() if place and place[:-1] == where}
+    return told_at(program, position, Refusal(tree, around, outputs).reason(fault), around.notes("it gets"))
 
 
 def walked_before(tree, position):
@@ -240,20 +246,20 @@ class Refusal:
 
     def differing(self, word):
         """Which two types differ."""
-        given, outs = self.around.given, [shown(self.outputs.get(number)) for number in range(3)]
+        given, outs = self.around.given, [shown_type(self.outputs.get(number)) for number in range(3)]
         if given is None:
             return f"the types of {word}'s parts, or of what goes into it, don't fit"
         last = max(self.outputs, default=0)
         if word == "rpSwitchB" and last == len(self.tree[1]) - 1:
             return f"the expression behind the members of rpSwitchB has the type (Pair (List Int) (List V)); this one is {article(self.outputs[last])}"
         if word in OTHER_PARTS:
-            seen = ", ".join(f"{shown(self.outputs[number])} at child {number}" for number in sorted(self.outputs) if word != "pSwitch" or number)
+            seen = ", ".join(f"{shown_type(self.outputs[number])} at child {number}" for number in sorted(self.outputs) if word != "pSwitch" or number)
             return f"all members of {word} output one type, and what it starts or goes on with fits them; they output {seen}"
         if word == "old":
             return f"{shown(self.tree)} takes {article(self.around.frozen[self.tree[1]][0])}, but gets {article(given)}"
         if word in ("switch", "dSwitch"):
-            outs[0] = shown(self.outputs[0][1])
-        return DIFFERING[word].format(*outs, word=word, gets=article(given), given=shown(given[1] if word == "hold" else given))
+            outs[0] = shown_type(self.outputs[0][1])
+        return DIFFERING[word].format(*outs, word=word, gets=article(given), given=shown_type(given[1] if word == "hold" else given))
 
 
 # What stands beside the members among the parts of these.

@@ -211,6 +211,15 @@ class Program:
 
 # ---- the programs of files
 
+
+class InNames(Refused):
+    """What is wrong in a file with names."""
+
+    def __init__(self, fault: Fault):
+        super().__init__(fault.line())
+        self.fault = fault
+
+
 PROGRAMS = {}
 HEAD_BYTES = 65_536
 
@@ -224,7 +233,7 @@ def program_from(name: str, data: bytes) -> Program:
     try:
         return Program(name, data)
     except Fault as fault:
-        raise Refused(fault.line()) from None
+        raise InNames(fault) from None
 
 
 def program_of(path: str) -> Program:
@@ -244,7 +253,7 @@ def network_path(path: str, name: str) -> str:
     except OSError as error:
         raise unreadable(name, error) from None
     except Fault as fault:
-        raise Refused(fault.line()) from None
+        raise InNames(fault) from None
 
 
 # ---- the cache

@@ -32,6 +32,6 @@ def columns(type_, name: str = "x") -> list:
 
 def shown_type(type_) -> str:
     """A type as it is printed, with records by their names."""
-    if isinstance(type_, RecordType):
+    if isinstance(type_, RecordType) and type_.name:
         return type_.name
     return "(" + " ".join([type_[0], *map(shown_type, type_[1:])]) + ")" if isinstance(type_, tuple) else shown(type_)

@@ -2,7 +2,10 @@
 from dataclasses import dataclass, field
 
 from model.trees import shown
-from workbench.source import excerpt, place
+from workbench.definitions import Fault
+from workbench.origin import Program
+from workbench.records import shown_type
+from workbench.source import excerpt, place, readable
 
 
 @dataclass
@@ -34,21 +37,35 @@ class Told:
         return f"{self.name}:{line}:{column}: "
 
 
-def told_at(file, position, why, notes=()):
-    """What is told of the part at a position: in the file it is the word, or the form, that was written for it."""
-    while position not in file.origins:
-        position = position[:-1]
-    node = file.origins[position]
-    return Told(why, file.name, file.data, node.start, node.end - node.start, list(notes))
+def told_at(program: Program, position: tuple, why: str, notes=()) -> Told:
+    """What is told of the part at a position: where it is written the word, or the form."""
+    place_of = program.place_of(position)
+    return Told(why, place_of.text.name, place_of.text.data, place_of.start, place_of.end - place_of.start, list(notes))
 
 
-def article(type_):
+def told_of(fault, name: str = "", data: bytes = b"") -> Told:
+    """What is told of a fault in a text: of one with names where that says, else in the file of that name."""
+    if isinstance(fault, Fault):
+        inside = [f"in the definition of {readable(fault.inside)}"] if fault.inside else []
+        return Told(str(fault), fault.text.name, fault.text.data, min(fault.at, len(fault.text.data)), fault.length, inside)
+    return Told(fault.why, name, data, min(fault.at, len(data)), fault.length or 1, [fault.mend], fault.also)
+
+
+def article(type_) -> str:
     """A type behind its article."""
-    text = shown(type_)
-    return f"{'an' if text.lstrip('(')[:1] in 'EI' else 'a'} {text}"
+    text = shown_type(type_)
+    return f"{'an' if text.lstrip('(')[:1] in 'AEIO' else 'a'} {text}"
 
 
-def short(tree):
+def short(tree) -> str:
     """The tree's text, or where that is long its beginning."""
-    text = shown(tree)
+    return shortened(shown(tree))
+
+
+def shortened(text: str) -> str:
     return text if len(text) <= 60 else text[:56] + " ..)"
+
+
+def spelt_at(program: Program, position: tuple) -> str:
+    """The same of what is written for the part at a position."""
+    return shortened(program.spelt(position))
