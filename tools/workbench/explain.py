@@ -29,10 +29,10 @@ def roles_of(names: list) -> tuple:
 def fault_of(files: Files, stream) -> str:
     """The fault line that the program tells of the files, or an empty one."""
     if len(files.paths) == 3:
-        return call(["check", *files.paths.values()]).fault()
+        return call(["check", *files.paths.values()]).line()
     if stream is None:
-        return call(["types", files.paths["network"]]).fault()
-    return call(["run", files.paths["network"]], stream[1]).fault()
+        return call(["types", files.paths["network"]]).line()
+    return call(["run", files.paths["network"]], stream[1]).line()
 
 
 def main():

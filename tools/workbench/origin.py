@@ -14,8 +14,10 @@
 Of a network's file the places are its own, and there are no names. `program_of(path)` answers the program of a path that
 `network_path` has answered, so that a tool which is handed a path needs no more than that.
 """
+import atexit
 import hashlib
 import os
+import tempfile
 from dataclasses import dataclass
 from functools import cached_property
 from pathlib import Path
@@ -103,10 +105,13 @@ class Program:
     def path(self) -> str:
         """A file that holds what the program reads, and can be read more than once."""
         known = self.kept_path()
-        if not known.is_file():
-            keep(known, self.text)
-        PROGRAMS[str(known)] = self
-        return str(known)
+        try:
+            known.touch() if known.is_file() else keep(known, self.text)
+            path = str(known)
+        except (OSError, Refused):
+            path = kept_beside(self.text)
+        PROGRAMS[path] = self
+        return path
 
     def kept_path(self) -> Path:
         told = [text.data for text in self.texts] if self.has_names else [self.data]
@@ -271,6 +276,15 @@ def keep(path: Path, data: bytes) -> None:
     kept = sorted(path.parent.iterdir(), key=lambda one: one.stat().st_mtime)
     for one in kept[:-MOST_KEPT]:
         one.unlink(missing_ok=True)
+
+
+def kept_beside(data: bytes) -> str:
+    """A file that holds what was made until this program ends, where there is no cache."""
+    file = tempfile.NamedTemporaryFile(prefix="yampa-")
+    atexit.register(file.close)
+    file.write(data)
+    file.flush()
+    return file.name
 
 
 # ---- trees

@@ -20,13 +20,19 @@ def path():
 
 
 class Told:
-    """What a call of the program printed, and its status."""
+    """What a call of the program with these words printed, and its status."""
 
-    def __init__(self, status, output, error):
-        self.status, self.output, self.error = status, output, error
+    def __init__(self, words, status, output, error):
+        self.words, self.status, self.output, self.error = words, status, output, error
 
     def fault(self):
-        """The one line of a refusal; what the wrapper says besides is left out."""
+        """The one line of a refusal; of a network with names in its words and lines."""
+        from workbench.speaking import spoken  # pylint: disable=import-outside-toplevel  # it calls the program itself
+
+        return spoken(self.words, self.line())
+
+    def line(self):
+        """The one line of a refusal as the program tells it; what the wrapper says besides is left out."""
         lines = [line for line in self.error.splitlines() if line and not line.startswith("yampa: ")]
         return lines[-1] if lines else ""
 
@@ -39,7 +45,7 @@ def call(words, stream=b""):
         raise Refused(f"{path()}: {error.strerror}".lower(), UNREADABLE) from None
     except subprocess.TimeoutExpired:
         raise Refused(f"the program took over {SECONDS} seconds", UNREADABLE) from None
-    return Told(ran.returncode, ran.stdout, ran.stderr.decode(errors="replace"))
+    return Told(words, ran.returncode, ran.stdout, ran.stderr.decode(errors="replace"))
 
 
 def answered(words, stream=b""):

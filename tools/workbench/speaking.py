@@ -1,0 +1,141 @@
+"""What the program tells of networks with names, in the words and the lines of their files."""
+import os
+import re
+import subprocess
+import sys
+import tempfile
+
+from workbench.definitions import Fault
+from workbench.ending import ended, write
+from workbench.faults import Files, explained
+from workbench.origin import PROGRAMS, InNames, Program, program_of
+from workbench.outline import read_type
+from workbench.program import again, answered
+from workbench.records import shown_type
+
+# The files of each command by their roles, and the options behind which a value stands.
+ONE, TWO, THREE = ["network"], ["source", "target"], ["source", "target", "certificate"]
+ROLES = dict.fromkeys(["types", "run", "outline", "laws", "optimise", "improve"], ONE)
+ROLES |= {"certify": TWO, "apply": ["source", "certificate"], "check": THREE, "run-checked": THREE}
+VALUED = ["--at", "--first"]
+
+
+def places_of_files(words: list) -> list:
+    """The places of the words that name files."""
+    return [i for i in range(1, len(words)) if not words[i].startswith("-") and words[i - 1] not in VALUED]
+
+
+def files_in(words: list) -> Files:
+    """The files of a call by their roles."""
+    roles = ROLES.get(words[0], []) if words else []
+    paths = dict(zip(roles, [words[place] for place in places_of_files(words)]))
+    return Files({role: PROGRAMS[path].name if path in PROGRAMS else path for role, path in paths.items()}, paths)
+
+
+def with_names(files: Files) -> dict:
+    """The networks with names among the files, by their roles."""
+    found = {role: PROGRAMS[path] for role, path in files.paths.items() if path in PROGRAMS}
+    return {role: program for role, program in found.items() if program.has_names}
+
+
+def spoken(words: list, line: str) -> str:
+    """A fault line of the program; of a network with names where it is in its file, and why."""
+    files = files_in(words)
+    role = line.partition(": ")[0]
+    if role not in with_names(files):
+        return line
+    told = explained(line, files, None)
+    return told.where() + told.why
+
+
+# ---- what is printed
+
+
+def spoken_types(program: Program, output: str) -> str:
+    """The lines of `types`, with records."""
+    line, *rest = output.splitlines(keepends=True)
+    made = read_type(line.rstrip("\n").split(" -> ")[1])
+    return "".join([f"{shown_type(program.input)} -> {shown_type(program.output_type(made))}\n", *rest])
+
+
+def spoken_outline(program: Program, output: str) -> str:
+    """The rows of `outline`, with records and with the place of each part."""
+    lines = []
+    for line in output.splitlines():
+        position, word, type_, *weight = line.split("\t")
+        named = shown_type(program.named_type(read_type(type_)))
+        lines.append("\t".join([position, word, named, *weight, f"; {program.place_of(position_in(position))}"]) + "\n")
+    return "".join(lines)
+
+
+def spoken_laws(program: Program, output: str) -> str:
+    """The steps of `laws`, with the place of each, and names in what then stands there."""
+    return "".join(
+        f"{line} ; {program.place_of(position_in(line))}\n" if line.startswith("(step ") else f"{program.folded(line)}\n" for line in output.splitlines()
+    )
+
+
+def spoken_steps(program: Program, output: str) -> str:
+    """The lines of `apply --steps`, with names in what stands there before and then."""
+    return "".join(line if line.startswith("(step ") else program.folded(line) for line in output.splitlines(keepends=True))
+
+
+def position_in(text: str) -> tuple:
+    return tuple(map(int, re.search(r"\(at([ \d]*)\)", text).group(1).split()))
+
+
+SPOKEN = {"types": spoken_types, "outline": spoken_outline, "laws": spoken_laws, "apply": spoken_steps}
+
+
+# ---- the call
+
+
+def main() -> None:
+    """Runs the program, the first word, with the others, of which some name files with names."""
+    program, *words = sys.argv[1:]
+
+    def work():
+        try:
+            sys.exit(answer(program, words))
+        except InNames as refused:
+            print(refused, file=sys.stderr)
+            sys.exit(refused.status)
+
+    ended(words[0], work)
+
+
+def answer(program: str, words: list) -> int:
+    """What the program answers, told in the words of the files with names; its status."""
+    os.environ["YAMPA"] = program
+    words = list(words)
+    for place in places_of_files(words):
+        words[place] = again(words[place])
+    networks = with_names(files_in(words))
+    for path in dict.fromkeys(words):
+        if path in PROGRAMS and PROGRAMS[path].has_names and PROGRAMS[path].source.output is not None:
+            named_types(path)
+    speak = SPOKEN.get(words[0]) if words[0] != "apply" or "--steps" in words else None
+    with tempfile.TemporaryFile() as output:
+        run = subprocess.Popen([program, *words], stdout=output if speak else None, stderr=subprocess.PIPE, text=True, errors="replace")
+        for line in run.stderr:
+            tell(words, line)
+        status = run.wait()
+        output.seek(0)
+        told = output.read().decode()
+    write(None, speak(next(iter(networks.values())), told) if speak and not status and networks else told)
+    return status if status >= 0 else 128 - status
+
+
+def tell(words: list, line: str) -> None:
+    """Tells a line of standard error; one of the wrapper as it is."""
+    print(line.rstrip("\n") if line.startswith("yampa: ") else spoken(words, line.rstrip("\n")), file=sys.stderr, flush=True)
+
+
+def named_types(path: str) -> tuple:
+    """The input type and the output type of a network that the program reads at that path, with records."""
+    line = answered(["types", path]).decode().splitlines()[0]
+    program = program_of(path)
+    try:
+        return program.input, program.output_type(read_type(line.split(" -> ")[1]))
+    except Fault as fault:
+        raise InNames(fault) from None
