@@ -8,8 +8,9 @@ from decimal import Decimal, InvalidOperation
 from model.texts import ValueFault, read_value, step_of
 from model.trees import GREATEST, is_form, shown
 from workbench.ending import Refused, Words, ended, read, write
-from workbench.outline import read_type
-from workbench.program import again, answered, call
+from workbench.program import again, call
+from workbench.records import columns
+from workbench.speaking import named_types
 
 CSV = """Makes a stream of NET's input from a table, or a table from a stream.
 
@@ -18,7 +19,8 @@ CSV = """Makes a stream of NET's input from a table, or a table from a stream.
   yampa csv --back --input NET < STREAM > TABLE
 
 The table's first row names its columns: `time`, and one for each part of the type. Of an Int that is
-`x`; of (Pair Int Bool) they are `x.fst` and `x.snd`, and so on inside. A cell holds the value as a
+`x`; of (Pair Int Bool) they are `x.fst` and `x.snd`, and so on inside; of a record the names of its
+fields, and of a record in it as `place.along`. A cell holds the value as a
 stream has it: 5, true, unit, (list 1 2); of an event nothing where there is none, else its value.
 Times are decimal and rise; a step is the time since the row before in ticks, which are 1 of the
 time's unit, or as many as --ticks says: `--ticks 1000` for times in seconds and steps in
@@ -36,17 +38,8 @@ blanks at the ends and comments (from ; or # on), and tells on standard error wh
 
 
 def types_of(net):
-    """The input type and the output type of a network's file, as the program tells them."""
-    line = answered(["types", net]).decode().splitlines()[0]
-    given, output = (read_type(part) for part in line.split(" -> "))
-    return given, output
-
-
-def columns(type_, name="x"):
-    """The names of the parts that have a column each, with their types."""
-    if is_form("Pair", type_):
-        return columns(type_[1], f"{name}.fst") + columns(type_[2], f"{name}.snd")
-    return [(name, type_)]
+    """The input type and the output type of a network's file, as the program tells them, with the records of one with names."""
+    return named_types(net)
 
 
 def cells(value, type_):
