@@ -113,7 +113,8 @@ UnreadLaw = (A : TypeTree) (has has' has'' : Option (List ℕ)) (s s' : ReaderSt
     (p : List (ℕ × Datum)) → Heard A has has' s p → GivesAnswer A s has' (Err S.Read) s' has''
     → HeardFront A has has'' p s'.reads
 
--- and so they are where a call might read no more: then 2^40 reads were made
+-- and so they are where a call might read no more: then 2^40 reads are claimed, failed ones among
+-- them
 abbrev pub TurnsLaw : Type 0
 TurnsLaw = (A : TypeTree) (has has' has'' : Option (List ℕ)) (s s' : ReaderState)
     (p : List (ℕ × Datum)) → Heard A has has' s p → GivesAnswer A s has' (Err S.ReadTurns) s' has''

@@ -65,8 +65,8 @@ pub record StopsUnread (A : TypeTree) (net : Network Expression)
   pub faultless : (front_output_of A net read).fault ≡ None
   pub counted : lines ≡ length (front A read).taken
 
--- a run that stops unread after 2^40 reads: these gave the bytes that were read, and none met the
--- end
+-- a run that stops unread after so many claimed reads, failed ones among them: these gave the bytes
+-- that were read, and none met the end
 abbrev pub StopsAfterTurns : TypeTree → Network Expression → Option (List ℕ) → Option (List ℕ)
     → Option (List ℕ) → Option (List ℕ) → ℕ → Type 0
 StopsAfterTurns A net has has' holds holds' lines =
