@@ -1,7 +1,7 @@
 """Each fault is explained, at its place, and the tool's reader stops where the program's does."""
 import re
 
-from workbench.laws import LAWS
+from workbench.laws import MEANINGS
 from workbench.program import call
 from workbench.source import SyntaxFault, read_file
 
@@ -182,6 +182,23 @@ def told_as(name, told, wanted, ends=1):
     want(name, status == ends and not error and all(part in output for part in wanted.split("\n|")), output + error)
 
 
+def laws_are_the_pages() -> None:
+    """The tools' table of laws has the sides that the page has, and what it says of the letters and words in them."""
+    page = (TOP / "docs/LAWS.md").read_text(encoding="utf-8")
+    told = {}
+    for names, left, right in re.findall(r"^\| ([EL][0-9, EL]*) \| (.*?) \| (.*?) \|", page, re.M):
+        for name, switch in zip(names.split(", "), ("switch", "dSwitch")):
+            told[name] = [re.sub(r"\bS\b", switch, side.replace("`", "")) for side in (left, right)]
+    remarks = dict(re.findall(r"\bIn (E\d+), (.*?)\.", page.replace("`", "")))
+    table = [line.split("\t") for line in (TOP / "tools/workbench/laws.tsv").read_text(encoding="utf-8").splitlines()]
+    want("the laws of the page", len(told) == 64 and [name for name, *_ in table] == list(told), len(told))
+    for name, left, right, *note in table:
+        said = [f"{left}, {note[0].replace(' is ', ' ', 1)}" if note and name not in remarks else left, right]
+        want(f"{name} of the page", told[name] == said and (name not in remarks or note == [remarks[name]]), (told[name], said))
+    meanings = re.findall(r"\b([A-Z]{2,}(?:\(g\))?)(?: is)? `([^`]+)`", re.search(r"^SWAP is .*$", page, re.M).group())
+    want("the words of the page", dict(meanings) == MEANINGS, meanings)
+
+
 def faults_are_explained():
     cases = [(("explain", "net"), {"net": text}, wanted) for text, wanted in NETWORK_MISTAKES]
     for type_, stream, wanted in STREAM_MISTAKES:
@@ -193,7 +210,7 @@ def faults_are_explained():
         told_as(f"{' '.join(words)} {wanted}", told, wanted)
     told_as("no such file", in_folder(("explain", "nofile")), "nofile: no such file", 3)
     told_as("a folder", in_folder(("explain", ".")), "this is a folder", 3)
-    want("the laws of the page", len(LAWS) == 64, len(LAWS))
+    laws_are_the_pages()
     each_fault_is_explained()
     for example, told in each(lambda example: tool("explain", "net", "stream", folder=example), EXAMPLES):
         wanted = "nothing is refused\n" if example in WHOLE else (example / "error").read_text()

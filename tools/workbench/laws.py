@@ -1,41 +1,50 @@
-"""The laws as docs/LAWS.md has them in its tables, and where a tree first differs from a law's left side."""
+"""The laws, and where a tree first differs from a law's left side. Each law is a line of laws.tsv: its name, its two sides, and words on
+the letters in them, if there are any; docs/LAWS.md tells the same."""
 import re
 from dataclasses import dataclass
+from pathlib import Path
 
 from model.trees import child_places, children, is_form, part_at
 from workbench.definitions import Text, TreeReader
-from workbench.program import TOP
 from workbench.source import plain
+
+# What words in capitals stand for, in sides of laws.
+MEANINGS = {
+    "SWAP": "(pair (snd x) (fst x))",
+    "UNASSOC": "(pair (pair (fst x) (fst (snd x))) (snd (snd x)))",
+    "ASSOC": "(pair (fst (fst x)) (pair (snd (fst x)) (snd x)))",
+    "LEFT(g)": "(pair (then (fst x) g) (snd x))",
+    "RIGHT(g)": "(pair (fst x) (then (snd x) g))",
+    "MAP(g)": "(on x (none T) (event (then (snd x) g)))",
+}
 
 
 @dataclass
 class Law:
-    """A law's sides as they are read, with what the page says of the words in them; and its left side with these words written out."""
+    """A law's sides as they are told, with what the words in them mean; and its left side with these words written out."""
 
     left: str
     right: str
     pattern: str
 
 
-def read_laws(page):
+def law_of(left: str, right: str, note: str = "") -> Law:
+    """The law of a line."""
+    pattern, words = left, []
+    for word, meaning in MEANINGS.items():
+        if re.search(rf"\b{word.partition('(')[0]}\b", left + right):
+            words.append(f"{word} being {meaning}")
+        pattern = pattern.replace(word, meaning)
+    return Law(left, ", ".join([right, *words, *[f"where {note}"] * bool(note)]), pattern)
+
+
+def read_laws(text: str) -> dict:
     """The laws by name."""
-    meanings = re.findall(r"\b([A-Z]+)(\(g\))?(?: is)? `([^`]+)`", re.search(r"^SWAP is .*$", page, re.M).group())
-    remarks = dict(re.findall(r"\bIn (E\d+), (.*?)\.", page))
-    laws = {}
-    for names, left, right in re.findall(r"^\| ([EL][0-9, EL]*) \| (.*?) \| (.*?) \|", page, re.M):
-        for name, switch in zip(names.split(", "), ("switch", "dSwitch")):
-            first, last = (re.sub(r"\bS\b", switch, side.replace("`", "")) for side in (left, right))
-            used = [meaning for meaning in meanings if re.search(rf"\b{meaning[0]}\b", first + last)]
-            said = [f"{word}{given} being {meaning}" for word, given, meaning in used]
-            said += [f"where {remarks[name].replace('`', '')}"] if name in remarks else []
-            pattern = re.sub(r"\bS\b", switch, re.match("`(.*?)`", left).group(1))
-            for word, given, meaning in used:
-                pattern = pattern.replace(word + given, meaning)
-            laws[name] = Law(first, ", ".join([last, *said]), pattern)
-    return laws
+    rows = [line.split("\t") for line in text.splitlines()]
+    return {name: law_of(*rest) for name, *rest in rows}
 
 
-LAWS = read_laws((TOP / "docs/LAWS.md").read_text())
+LAWS = read_laws((Path(__file__).parent / "laws.tsv").read_text(encoding="utf-8"))
 
 
 def unlike(law, tree):
