@@ -3,13 +3,12 @@ import os
 import re
 import subprocess
 
-from tooling.common import NUMBERS, TOP, in_files, own_folder, tool, want
+from tooling.common import NUMBERS, TOOLS, TOP, in_files, own_folder, tool, want
 
 NEEDS = ["dot", "matplotlib", "hypothesis"]
 
 SHIM = """#!/bin/bash
-tool={top}/tools/yampa-$1
-if [ -x "$tool" ]; then shift; exec "$tool" "$@"; fi
+if grep -q "^$1 " {top}/tools/list; then exec {top}/tools/tool "$@"; fi
 exec "$YAMPA" "$@"
 """
 
@@ -44,9 +43,8 @@ CALLS = {
 
 
 def bad_words_and_files(folder):
-    names = [path.name.removeprefix("yampa-") for path in (TOP / "tools").glob("yampa-*")]
-    want("each tool has its call", {*names} == {*CALLS, "tidy"}, names)
-    for name in names:
+    want("each tool has its call", {*TOOLS} == {*CALLS, "tidy"}, TOOLS)
+    for name in TOOLS:
         want(f"{name} --help", tool(name, "--help")[0] == 0)
         want(f"{name} with wrong words", tool(name, "--no-such-flag")[0] == 2)
     for name, words in CALLS.items():

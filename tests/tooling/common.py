@@ -25,6 +25,7 @@ from model.trees import is_network  # noqa: E402
 # What is tried with more than Python, and the Debian packages that bring it.
 PACKAGES = {"dot": "graphviz", "matplotlib": "python3-matplotlib", "hypothesis": "python3-hypothesis", "chromium": "chromium"}
 PROGRAMS = ["dot", "chromium"]
+TOOLS = [line.split()[0] for line in (TOP / "tools/list").read_text().splitlines() if not line.startswith("#")]
 EXAMPLES = sorted(path.parent for path in (TOP / "examples").glob("*/net"))
 WHOLE = [example for example in EXAMPLES if not (example / "error").exists()]
 NUMBERS = "yampa 1\ninput Int\n"
@@ -64,7 +65,7 @@ def there(name: str) -> bool:
 def tool(name: str, *words: object, stream: str | bytes = b"", folder: Path | None = None, **settings: str) -> tuple[int, str, str]:
     """A tool's status, and what it prints."""
     data = stream.encode() if isinstance(stream, str) else stream
-    command, env = [TOP / "tools" / f"yampa-{name}", *map(str, words)], {**os.environ, **settings}
+    command, env = [TOP / "tools/tool", name, *map(str, words)], {**os.environ, **settings}
     ran = subprocess.run(command, input=data, capture_output=True, cwd=folder, env=env, timeout=SECONDS, check=False)
     return ran.returncode, ran.stdout.decode(errors="replace"), ran.stderr.decode(errors="replace")
 

@@ -1,7 +1,7 @@
 """The first sample at which two networks differ on a stream."""
 import sys
 
-from workbench.ending import REFUSED, Refused, Words, ended, read
+from workbench.ending import REFUSED, Refused, Words, ended, stream_bytes
 from workbench.program import again, call
 from workbench.recording import lines_of
 
@@ -30,7 +30,7 @@ def compare_main():
     given = words.parse_args()
 
     def work():
-        stream = read("-")
+        stream = stream_bytes("-")
         source, target = (call(["run", again(net)], stream) for net in (given.source, given.target))
         for name, told in ((given.source, source), (given.target, target)):
             if told.status and not told.fault().startswith("stream: line"):

@@ -1,7 +1,8 @@
 """Explains each fault: the place in the file, what is wanted and what is found, and how to mend it."""
 import sys
+from collections.abc import Callable
 
-from workbench.ending import REFUSED, UNREADABLE, Refused, Words, ended, read
+from workbench.ending import REFUSED, UNREADABLE, Refused, Words, ended, read, stream_bytes
 from workbench.faults import Files, explained, unread
 from workbench.origin import InNames
 from workbench.program import again, call
@@ -48,7 +49,7 @@ def main():
 def explain(given) -> None:
     names, stream_name = roles_of(given.files)
     files = Files(names, {role: path_of(name) for role, name in names.items()})
-    stream = (stream_name, read(path_of(stream_name))) if stream_name else None
+    stream = (stream_name, stream_bytes(path_of(stream_name, stream_bytes))) if stream_name else None
     line = given.line or fault_of(files, stream)
     if not line:
         print("nothing is refused")
@@ -62,10 +63,10 @@ def tell(told: Told, status: int = REFUSED) -> None:
     sys.exit(status)
 
 
-def path_of(name: str) -> str:
+def path_of(name: str, reading: Callable[[str], bytes] = read) -> str:
     """A name under which the file can be read more than once; why it can't be read, or what is wrong with its names, is told."""
     try:
-        path = again(name)
+        path = again(name, reading)
         with open(path, "rb"):
             return path
     except InNames as refused:

@@ -3,7 +3,7 @@ import io
 
 from model.texts import read_stream, read_value
 from model.trees import at_text, is_form, shown
-from workbench.ending import Refused, Words, ended, missing, read, write
+from workbench.ending import Refused, Words, ended, missing, stream_bytes, write
 from workbench.outline import network_of
 from workbench.recording import columns, lines_of, types_of
 from workbench.program import again, call, kept
@@ -170,7 +170,7 @@ def main():
         words.error("a position is made of numbers: --at 0 1")
 
     def work():
-        net, stream = again(given.net), read("-")
+        net, stream = again(given.net), stream_bytes("-")
         positions = [tuple(map(int, position)) for position in given.at]
         times, found, fault = run_of(net, stream, positions)
         if len(times) > MOST_POINTS:

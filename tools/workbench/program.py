@@ -65,10 +65,10 @@ def kept(text):
         yield file.name
 
 
-def again(name):
+def again(name, reading=read):
     """A name under which the file can be read more than once: of a pipe that of a copy, of a network with names that of what it means."""
     if os.path.isfile(name):
         return network_path(name, name)
     stack = contextlib.ExitStack()
     atexit.register(stack.close)
-    return network_path(stack.enter_context(kept(read(name))), name)
+    return network_path(stack.enter_context(kept(reading(name))), name)

@@ -4,7 +4,7 @@ import re
 
 from model.trees import at_text, is_network, shown
 from workbench.drawing import svg_of as drawing_of
-from workbench.ending import Refused, Words, ended, read, write
+from workbench.ending import Refused, Words, ended, stream_bytes, write
 from workbench.laws import LAWS
 from workbench.layout import laid_out
 from workbench.outline import network_of
@@ -82,7 +82,7 @@ def steps_of(source, certificate):
 
 def page(net, stream_name, certificate):
     whole = network_of(net)
-    stream = read(stream_name)
+    stream = stream_bytes(stream_name)
     times, found, fault = run_of(net, stream, [])
     if len(times) > MOST_POINTS:
         raise Refused(f"the run has {len(times):,} samples, and a page takes {MOST_POINTS:,}: cut the recording")
