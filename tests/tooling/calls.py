@@ -35,6 +35,7 @@ CALLS = {
     "timed": ["net"],
     "expand": ["net", "-o", "out"],
     "fmt": ["--write", "net"],
+    "haskell": ["net", "-o", "out"],
     "falsify": ["net", "-o", "out"],
     "differ": ["net", "net", "-o", "out"],
     "compare": ["net", "net"],
