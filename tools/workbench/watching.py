@@ -1,12 +1,17 @@
-"""Networks that output what a part of another one outputs, made by wiring alone."""
+"""Networks that output what a part of another one outputs."""
+from __future__ import annotations
+
 import re
+from typing import Any, NamedTuple
 
 from model.texts import network_text
-from model.trees import at, at_text, child_places, children, expanded, head, is_network, part_at, with_part
+from model.trees import at_text, children, head, is_network
 from workbench.ending import Refused, Words, ended, write
+from workbench.instrument import Instrument, absent, arr, fst, seq, snd
 from workbench.layout import laid_out
-from workbench.outline import network_of, scope_of
+from workbench.outline import Network, network_of
 from workbench.shorter import shortened
+from workbench.signals import Both, Collection, Leaf, Members, Pack, Position, Sometimes
 from workbench.source import Node
 
 ABOUT = """Prints the network whose output is what a part of NET outputs, so that `yampa run` and `yampa plot` show
@@ -17,171 +22,123 @@ the first child.
   yampa run PART < STREAM
 
 Where the part doesn't run at each sample (it stands in a switch), the output is an event of what it
-outputs while it runs, where it was started several times of what was started last; not of what a
-kSwitch has frozen and resumed. Parts of a pSwitch, of an rpSwitchB, of what watches a kSwitch, and
-expressions can't be watched."""
+outputs while it runs, also where it is resumed; where it was started several times, of what was started
+last. Of a part of an rpSwitchB it is a list, with an element for each member that runs. What watches a
+kSwitch or a pSwitch and expressions can't be watched. All signals at once: `yampa step`, `yampa waves`."""
+
+Tree = Any
 
 
-def arr(e):
-    return ("arr", e)
+def refusal(whole: Network, position: Position) -> str:
+    """Why the part at a position can't be watched; nothing where it can."""
+    for depth, number in enumerate(position):
+        here, tree = position[:depth], whole.at(position[:depth])
+        parts = children(tree)
+        if number >= len(parts):
+            return f"{at_text(position)}: nothing stands there: {at_text(here)} has {len(parts)} parts"
+        if not is_network(parts[number]):
+            return f"{at_text((*here, number))}: an expression stands there, and only networks can be watched"
+        if head(tree) in ("kSwitch", "pSwitch") and number == len(parts) - 2:
+            return f"{at_text((*here, number))}: what watches a {head(tree)} can't be watched itself"
+    return ""
 
 
-def seq(f, g):
-    return (">>>", f, g)
+def told_by(whole: Network, position: Position) -> Position:
+    """The part within one that outputs what it outputs."""
+    tree = whole.at(position)
+    while head(tree) in (">>>", ">--"):
+        position, tree = (*position, 1), tree[2]
+    return position
 
 
-def fan(f, g):
-    """Both outputs side by side."""
-    return expanded(("&&&", f, g))
+class Watch(NamedTuple):
+    """A network with the input of the whole, and the type of its output."""
+
+    net: Tree
+    type: Tree
 
 
-class Watch:
-    """What a part outputs: a network with the input of the whole, whether it outputs events of it, and the type."""
-
-    def __init__(self, net, type_, sometimes=False):
-        self.net, self.type, self.sometimes = net, type_, sometimes
-
-    def as_events(self):
-        """The same as events, also where the part always runs."""
-        return self if self.sometimes else Watch(seq(self.net, arr(("event", "x"))), self.type, True)
-
-
-def watched(whole, position, here=()):
-    """What the part at a position below `here` outputs, as a network with the input of what stands there."""
-    tree = whole.at(here)
+def watched(whole: Network, position: Position) -> Watch:
+    """The network that outputs what the part at a position outputs."""
+    why = refusal(whole, position)
+    if why:
+        raise Refused(why)
     if not position:
-        return Watch(tree, whole.output(here))
-    number, rest = position[0], position[1:]
-    if number >= len(children(tree)):
-        raise Refused(f"{at_text(here + position)}: nothing stands there: {at_text(here)} has {len(children(tree))} parts")
-    if not is_network(at(tree, (number,))):
-        raise Refused(f"{at_text((*here, number))}: an expression stands there, and only networks can be watched")
-    word = head(tree)
-    if word not in WAYS or (word, number) in REFUSED:
-        raise Refused(f"{at_text((*here, number))}: this part of a {word} can't be watched")
-    inner = watched(whole, rest, (*here, number))
-    return WAYS[word](whole, here, number, inner)
+        return Watch(whole.tree, whole.output(()))
+    made = Instrument(whole, {told_by(whole, position)}).made()
+    value, type_ = alone(made.signals, "x")
+    return Watch(seq(made.net, arr(value)), type_)
 
 
-REFUSED = {("kSwitch", 1)}
+def alone(pack: Pack, value: Tree) -> tuple:
+    """The only signal of a pack, from the pack's value, and its type."""
+    match pack:
+        case Leaf() | Members() | Sometimes(inner=Leaf()):
+            return value, pack.type
+        case Both():
+            left, type_ = alone(pack.left, fst(value))
+            right, _ = alone(pack.right, snd(value))
+            return merged(left, right), type_
+        case Sometimes():
+            inner, type_ = alone(pack.inner, snd("x"))
+            nothing = ("list", type_[1]) if type_[0] == "List" else ("none", type_[1])
+            return ("on", value, nothing, inner), type_
+    return from_collection(pack, value)
 
 
-def in_seq(whole, here, number, inner):
-    _, f, _ = whole.at(here)
-    return Watch(inner.net if number == 0 else seq(f, inner.net), inner.type, inner.sometimes)
+def from_collection(pack: Collection, value: Tree) -> tuple:
+    element = ("pair", ("list", pack.output), absent(pack.inner))
+    found = [alone(pack.inner, snd(("nth", value, number, element))) for number in range(pack.count)]
+    type_ = found[0][1]
+    signal = found[0][0]
+    for other, _ in found[1:]:
+        signal = merged(signal, other)
+    return signal, type_
 
 
-def in_first(_whole, _here, _number, inner):
-    return Watch(seq(arr(("fst", "x")), inner.net), inner.type, inner.sometimes)
+def merged(left: Tree, right: Tree) -> Tree:
+    """The left event, where there is one, else the right one."""
+    return ("on", left, right, ("event", ("snd", "x")))
 
 
-def in_member(_whole, _here, _number, inner):
-    return inner
-
-
-def in_loop(whole, here, _number, inner):
-    """The part and the loop's network run side by side, and the second one is fed back."""
-    _, c, f = whole.at(here)
-    both = seq(fan(inner.net, f), arr(("pair", ("fst", "x"), ("snd", ("snd", "x")))))
-    return Watch(("loopPre", c, both), inner.type, inner.sometimes)
-
-
-def in_first_output(_whole, _here, _number, inner):
-    return inner
-
-
-def in_first_input(whole, here, _number, inner):
-    return Watch((">--", whole.at(here)[1], inner.net), inner.type, inner.sometimes)
-
-
-def in_switch(whole, here, number, inner):
-    """Up to the event the first network runs, at its sample too; from there on the second one."""
-    word, f, _ = whole.at(here)
-    inner = inner.as_events()
-    if number == 0:
-        both = seq(fan(inner.net, f), arr(("pair", ("fst", "x"), ("snd", ("snd", "x")))))
-        return Watch(("dSwitch", both, never(inner.type)), inner.type, True)
-    before = seq(f, arr(("pair", ("none", inner.type), ("snd", "x"))))
-    return Watch(("switch", before, inner.net), inner.type, True)
-
-
-def never(type_):
-    return arr(("none", type_))
-
-
-def in_restart(whole, here, number, inner):
-    """Up to the first event the first network runs, in a `drSwitch` at its sample too; then the one that was started last."""
-    word, _, _ = whole.at(here)
-    inner = inner.as_events()
-    net = (word, inner.net, never(inner.type)) if number == 0 else ("rSwitch", never(inner.type), inner.net)
-    return Watch(net, inner.type, True)
-
-
-def in_freezing(whole, here, number, inner):
-    """What is frozen outputs a pair of what is watched and of its own output; what resumes it takes the second."""
-    tree = whole.at(here)
-    _, f, e, t = tree
-    level = len(scope_of(whole.tree, here)[1])
-    inner = inner.as_events()
-    mine = inner.net if number == 0 else never(inner.type)
-    theirs = with_second(inner.net, level) if number == 2 else never(inner.type)
-    seen = seq(arr(("pair", ("fst", "x"), ("snd", ("snd", "x")))), e)
-    net = ("kSwitch", fan(mine, f), seen, fan(theirs, with_second(t, level)))
-    return Watch(seq(net, arr(("fst", "x"))), inner.type, True)
-
-
-def with_second(tree, level):
-    """The network with only the second part of what that frozen network outputs."""
-    if tree == ("old", level):
-        return seq(tree, arr(("snd", "x")))
-    for place_of in child_places(tree):
-        part = part_at(tree, place_of)
-        if is_network(part):
-            tree = with_part(tree, place_of, with_second(part, level))
-    return tree
-
-
-WAYS = {
-    ">>>": in_seq,
-    "first": in_first,
-    "parB": in_member,
-    "loopPre": in_loop,
-    "-->": in_first_output,
-    ">--": in_first_input,
-    "switch": in_switch,
-    "dSwitch": in_switch,
-    "rSwitch": in_restart,
-    "drSwitch": in_restart,
-    "kSwitch": in_freezing,
-}
-
-
-def node_of(tree):
+def node_of(tree: Tree) -> Node:
     """The tree as a node to be laid out."""
     if isinstance(tree, tuple):
         return Node(tree[0], [node_of(part) for part in tree[1:]], 0, 0, "form")
     return Node(tree, [], 0, 0, "word")
 
 
-def file_text(given, tree):
+def file_text(given: Tree, tree: Tree) -> str:
     """A network's file, laid out, with shorter ways."""
     head_lines = network_text(given, tree).split("\n")[:2]
     return "\n".join([*head_lines, *laid_out(node_of(shortened(tree)))]) + "\n"
 
 
-def main():
+def position_of(words: list) -> Position:
+    """The position that the words of `--at` name; ValueError where they name none."""
+    numbers = [number for part in words for number in re.findall(r"[^ ()]+", part) if number != "at"]
+    if not all(re.fullmatch(r"[0-9]{1,5}", number) for number in numbers):
+        raise ValueError("a position is made of numbers: --at 0 1")
+    return tuple(map(int, numbers))
+
+
+def add_position(words: Words, **how: Any) -> None:
+    words.add_argument("--at", nargs="*", metavar="N", help="a part's position, child by child", **how)
+
+
+def main() -> None:
     words = Words("watch", ABOUT)
     words.add_argument("net", metavar="NET")
-    words.add_argument("--at", nargs="*", default=[], metavar="N", help="the position, child by child")
+    add_position(words, default=[])
     words.add_argument("-o", metavar="FILE", dest="to", help="writes the network there")
     given = words.parse_args()
-    position = [number for part in given.at for number in re.findall(r"[^ ()]+", part) if number != "at"]
-    if not all(re.fullmatch(r"[0-9]+", number) for number in position):
-        words.error("a position is made of numbers: --at 0 1")
+    try:
+        position = position_of(given.at)
+    except ValueError as error:
+        words.error(str(error))
 
-    def work():
+    def work() -> None:
         whole = network_of(given.net)
-        found = watched(whole, tuple(map(int, position)))
-        write(given.to, file_text(whole.input, found.net))
+        write(given.to, file_text(whole.input, watched(whole, position).net))
 
     ended("watch", work)
