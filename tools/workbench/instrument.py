@@ -164,6 +164,7 @@ class Instrument:
     whole: Network
     wanted: set
     above: set = field(default_factory=set)
+    olds: dict = field(default_factory=dict)
 
     def __post_init__(self) -> None:
         self.above = {position[:depth] for position in self.wanted for depth in range(len(position) + 1)}
@@ -282,7 +283,14 @@ class Instrument:
         """Whether something may be watched in a part: in it, or in a frozen network that it resumes."""
         if scope.quiet:
             return False
-        return here in self.above or any(is_old(number, tree) for number, one in enumerate(scope.frozen) if one.pack)
+        return here in self.above or any(one.pack for number, one in enumerate(scope.frozen) if number in self.resumed(here, tree))
+
+    def resumed(self, here: Position, tree: Tree) -> frozenset:
+        """The numbers of the frozen networks that are resumed in a part."""
+        if here not in self.olds:
+            inner = [self.resumed((*here, number), part) for number, part in enumerate(children(tree)) if is_network(part)]
+            self.olds[here] = frozenset([tree[1]] if head(tree) == "old" else []).union(*inner)
+        return self.olds[here]
 
     def switch(self, here: Position, tree: Tree, scope: Scope, needs: bool) -> Optional[Seen]:
         """What the first network's signals are at the event's sample, and of a `dSwitch` its output too, goes to the template with
@@ -487,11 +495,6 @@ def joined(values: list) -> Tree:
         return values[0]
     middle = len(values) // 2
     return ("pair", joined(values[:middle]), joined(values[middle:]))
-
-
-def is_old(number: int, tree: Tree) -> bool:
-    """Whether that frozen network is resumed in the tree."""
-    return tree == ("old", number) or any(is_old(number, part) for part in children(tree) if is_network(part))
 
 
 def substituted(tree: Tree, scope: Scope) -> Tree:

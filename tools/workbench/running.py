@@ -7,27 +7,29 @@ from dataclasses import dataclass, field
 from typing import Any, Iterable, Iterator
 
 from model.texts import network_text
-from model.trees import at_text, children, head, is_network
+from model.trees import children, head, is_network
 from workbench.ending import UNREADABLE, Refused
 from workbench.instrument import Instrument
 from workbench.outline import Network
 from workbench.program import Told, call, kept
 from workbench.recording import lines_of
-from workbench.signals import ABSENT, Pack, Position, in_members, taken_out, values_of
+from workbench.signals import ABSENT, Pack, Position, Several, in_members, taken_out, values_of
 from workbench.watching import told_by
 
 Tree = Any
 
 # How many types a pack is made of, at most: a network's type has at most 256, of which its wiring needs some.
 PACKED = 180
+# How often signals are put apart because of the limits, before it is left.
+PATIENCE = 60
 # What a network is refused by that outputs too many signals at once.
 OVER_LIMITS = re.compile(r"network: too |network: nesting|network: expression too deep|table full")
 
 
 @dataclass
 class Signal:
-    """The values of a part at the samples, ABSENT where it doesn't run; of a part of members each is a list, with an element a
-    member that runs."""
+    """The values of a part at the samples, ABSENT where it doesn't run; of a part of members each is Several, one a member that
+    runs."""
 
     position: Position
     type: Tree
@@ -104,7 +106,8 @@ def groups(whole: Network, positions: Iterable) -> list:
 
 @dataclass
 class Watched:
-    """The signals of parts, how many runs of the program that took, and the parts whose signals can't be had, with the reason."""
+    """The signals of parts, how many runs of the program that took, and the parts that can't be watched within the limits, with the
+    program's refusal."""
 
     signals: dict
     runs: int = 0
@@ -115,25 +118,28 @@ def signals_of(whole: Network, run: Run, positions: Iterable) -> Watched:
     """The signals of parts by their positions; parts that output the same share one."""
     tellers = {position: told_by(whole, position) for position in positions}
     found = Watched({})
+    refusals: list = []
     with ThreadPoolExecutor(4) as pool:
         parts = groups(whole, dict.fromkeys(tellers.values()))
-        for one in pool.map(lambda part: together(whole, run, part), parts):
+        for one in pool.map(lambda part: together(whole, run, part, refusals), parts):
             found.signals |= one.signals
             found.missing |= one.missing
             found.runs += one.runs
     return Watched({position: found.signals[by] for position, by in tellers.items() if by in found.signals}, found.runs, found.missing)
 
 
-def together(whole: Network, run: Run, positions: list) -> Watched:
-    """The signals of these parts by one run, or by more where one network can't output them all."""
+def together(whole: Network, run: Run, positions: list, refusals: list) -> Watched:
+    """The signals of these parts by one run, or by more where one network can't output them all; what it was refused by is added to
+    the refusals."""
     made = Instrument(whole, set(positions)).made()
     with kept(network_text(whole.input, made.net)) as name:
         told = call(["run", name], run.stream)
     if OVER_LIMITS.match(told.fault()):
-        if len(positions) == 1:
-            return Watched({}, 0, {positions[0]: f"{at_text(positions[0])}: it can't be watched within the limits ({told.fault()})"})
+        refusals.append(told.fault())
+        if len(positions) == 1 or len(refusals) > PATIENCE:
+            return Watched({}, 0, dict.fromkeys(positions, told.fault()))
         middle = len(positions) // 2
-        left, right = together(whole, run, positions[:middle]), together(whole, run, positions[middle:])
+        left, right = together(whole, run, positions[:middle], refusals), together(whole, run, positions[middle:], refusals)
         return Watched(left.signals | right.signals, left.runs + right.runs, left.missing | right.missing)
     if told.status and told.fault() != run.fault:
         raise refused(told)
@@ -143,7 +149,10 @@ def together(whole: Network, run: Run, positions: list) -> Watched:
 def signals_in(whole: Network, pack: Pack, positions: list, values: list) -> dict:
     """The signals that are packed in the values of a run."""
     rows = [taken_out(pack, value, {}) for value in values]
-    lists = in_members(pack)
-    return {
-        position: Signal(position, whole.output(position), [row.get(position, ABSENT) for row in rows], position in lists) for position in positions
-    }
+    found, lists = {}, in_members(pack)
+    for position in positions:
+        column = [row.get(position, ABSENT) for row in rows]
+        if position in lists:
+            column = [value if value is ABSENT or isinstance(value, Several) else Several([value]) for value in column]
+        found[position] = Signal(position, whole.output(position), column, position in lists)
+    return found

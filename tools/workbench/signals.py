@@ -17,6 +17,10 @@ class Absent:
         return "-"
 
 
+class Several(list):
+    """The values of a part in the members that run."""
+
+
 ABSENT = Absent()
 
 # ---- how signals are packed
@@ -100,7 +104,7 @@ def leaves(pack: Pack) -> Iterator[Leaf]:
 
 
 def taken_out(pack: Pack, value: Any, found: dict) -> dict:
-    """The values of the signals that are there in a pack's value, by their positions. Those of members are lists, with ABSENT for a
+    """The values of the signals that are there in a pack's value, by their positions. Those of members are several, with ABSENT for a
     member in which the part doesn't run."""
     match pack:
         case Leaf():
@@ -117,7 +121,7 @@ def taken_out(pack: Pack, value: Any, found: dict) -> dict:
         case Members():
             rows = [taken_out(pack.inner, element, {}) for element in value]
             for leaf in leaves(pack.inner):
-                found.setdefault(leaf.position, [row.get(leaf.position, ABSENT) for row in rows])
+                found.setdefault(leaf.position, Several(row.get(leaf.position, ABSENT) for row in rows))
     return found
 
 

@@ -7,11 +7,11 @@ from typing import Any, NamedTuple
 from model.texts import network_text
 from model.trees import at_text, children, head, is_network
 from workbench.ending import Refused, Words, ended, write
-from workbench.instrument import Instrument, absent, arr, fst, seq, snd
+from workbench.instrument import Instrument, absent, arr, default, fst, seq, snd
 from workbench.layout import laid_out
 from workbench.outline import Network, network_of
 from workbench.shorter import shortened
-from workbench.signals import Both, Collection, Leaf, Members, Pack, Position, Sometimes
+from workbench.signals import Both, Collection, Leaf, Members, Pack, Position, Sometimes, leaves
 from workbench.source import Node
 
 ABOUT = """Prints the network whose output is what a part of NET outputs, so that `yampa run` and `yampa plot` show
@@ -71,34 +71,29 @@ def watched(whole: Network, position: Position) -> Watch:
 
 
 def alone(pack: Pack, value: Tree) -> tuple:
-    """The only signal of a pack, from the pack's value, and its type."""
+    """The only signal of a pack, an event or a list with an element a member that runs, from the pack's value; and its type."""
     match pack:
         case Leaf() | Members() | Sometimes(inner=Leaf()):
             return value, pack.type
         case Both():
-            left, type_ = alone(pack.left, fst(value))
-            right, _ = alone(pack.right, snd(value))
-            return merged(left, right), type_
+            return merged([alone(pack.left, fst(value)), alone(pack.right, snd(value))], pack)
         case Sometimes():
             inner, type_ = alone(pack.inner, snd("x"))
-            nothing = ("list", type_[1]) if type_[0] == "List" else ("none", type_[1])
-            return ("on", value, nothing, inner), type_
-    return from_collection(pack, value)
+            return ("on", value, default(type_), inner), type_
+        case Collection():
+            empty = ("pair", ("list", pack.output), absent(pack.inner))
+            return merged([alone(pack.inner, snd(("nth", value, number, empty))) for number in range(pack.count)], pack)
 
 
-def from_collection(pack: Collection, value: Tree) -> tuple:
-    element = ("pair", ("list", pack.output), absent(pack.inner))
-    found = [alone(pack.inner, snd(("nth", value, number, element))) for number in range(pack.count)]
-    type_ = found[0][1]
-    signal = found[0][0]
-    for other, _ in found[1:]:
-        signal = merged(signal, other)
+def merged(found: list, pack: Pack) -> tuple:
+    """The first of the signals that is there, and their type."""
+    (signal, type_), *others = found
+    for other, other_type in others:
+        if other_type != type_:
+            at = at_text(next(leaves(pack)).position)
+            raise Refused(f"{at}: it runs by itself and in members that come and go, and can't be watched alone: see `yampa step`")
+        signal = ("if", ("equal", ("len", signal), 0), other, signal) if type_[0] == "List" else ("on", signal, other, ("event", ("snd", "x")))
     return signal, type_
-
-
-def merged(left: Tree, right: Tree) -> Tree:
-    """The left event, where there is one, else the right one."""
-    return ("on", left, right, ("event", ("snd", "x")))
 
 
 def node_of(tree: Tree) -> Node:
