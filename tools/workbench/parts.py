@@ -1,34 +1,110 @@
-"""The parts of a network that a person looks at, with what they are called."""
+"""The parts of a network that a person looks at in a run: what they are called, and their values column by column."""
 from __future__ import annotations
 
-from typing import Any, Iterable
+import sys
+from dataclasses import dataclass
+from typing import Any, Iterator
 
-from model.trees import SWAP, at_text, head, shown
-from workbench.outline import Network
-from workbench.running import Watched, watchable
+from model.trees import SWAP, at_text, head
+from workbench.ending import Refused, Words
+from workbench.outline import Network, network_of
+from workbench.program import again
+from workbench.records import parts_of
+from workbench.running import Run, Watched, run_of, signals_of, watchable
 from workbench.shorter import shortened
-from workbench.signals import Position
+from workbench.signals import ABSENT, Position
 
 Tree = Any
 
 # What only leads a value to where it is wanted.
 WIRES = (("arr", "x"), ("arr", SWAP), ("arr", ("pair", "x", "x")))
-LONGEST = 40
 
 
 def is_wiring(tree: Tree) -> bool:
     return tree in WIRES or head(tree) in (">>>", "first")
 
 
-def looked_at(whole: Network, everything: bool = False, below: Position = ()) -> list:
-    """The positions of the parts that a person looks at, or of all that can be watched, from a position on."""
-    positions = [position for position in watchable(whole) if position[: len(below)] == below]
-    return [position for position in positions if everything or position == below or not is_wiring(whole.at(position))]
+@dataclass
+class Track:
+    """A column of a signal: its name, part by part, its type, and its values, ABSENT where the part doesn't run; of a part of members
+    each is Several. The position is that of the part, but of inputs and outputs."""
+
+    path: tuple
+    type: Tree
+    values: list
+    members: bool = False
+    position: Position | None = None
+
+    @property
+    def name(self) -> str:
+        return ".".join(self.path)
+
+
+def tracks(path: tuple, type_: Tree, values: list, position: Position | None = None) -> Iterator[Track]:
+    """A column for each part of nested pairs, called by a record's fields where the type has them."""
+    parts = parts_of(type_)
+    if not parts:
+        yield Track(path, type_, values, position=position)
+    for number, (name, part_type) in enumerate(parts):
+        last = number == len(parts) - 1
+        yield from tracks((*path, name), part_type, values if last else halves(values, 0), position)
+        values = values if last else halves(values, 1)
+
+
+def halves(values: list, half: int) -> list:
+    return [value if value is ABSENT else value[half] for value in values]
+
+
+@dataclass
+class Look:
+    """A run, with the columns of its inputs, its outputs and its parts, and lines on what is not among them."""
+
+    whole: Network
+    run: Run
+    ends: list
+    inside: list
+    notes: list
+
+    @property
+    def tracks(self) -> list:
+        return [*self.ends, *self.inside]
+
+
+def named(whole: Network) -> dict:
+    """The names that stand for networks, by their positions."""
+    return {position: name for name, position in whole.program.signals}
+
+
+def chosen(whole: Network, everything: bool, below: Position = ()) -> list:
+    """The positions of the parts to look at: where names stand for networks these, else those that aren't wiring; or all."""
+    names = named(whole)
+    found = [position for position in watchable(whole) if position[: len(below)] == below and position]
+    if everything:
+        return found
+    if names:
+        return [position for position in found if position in names]
+    return [position for position in found if not is_wiring(whole.at(position))]
+
+
+def looked_at(net: str, stream: bytes, everything: bool, below: Position = ()) -> Look:
+    """The run of a network with the signals of the parts to look at."""
+    path = again(net)
+    whole = network_of(path)
+    run = run_of(path, stream)
+    positions = chosen(whole, everything, below)
+    watched = signals_of(whole, run, positions)
+    ends = list(tracks(("input",), whole.input, run.inputs))
+    ends += tracks(("output",), whole.program.output_type(whole.output(())), run.outputs)
+    inside = []
+    for position, signal in watched.signals.items():
+        name, type_ = (called(whole, position),), whole.program.named_type(signal.type)
+        inside += [Track(name, type_, signal.values, True, position)] if signal.members else tracks(name, type_, signal.values, position)
+    return Look(whole, run, ends, inside, list(notes_on(whole, watched, positions)))
 
 
 def called(whole: Network, position: Position) -> str:
-    """What a part is called: its form and where it stands."""
-    return f"{word_of(whole, position)} {at_text(position)}"
+    """What a part is called: by its name, or its form and where it stands."""
+    return named(whole).get(position) or f"{word_of(whole, position)} {at_text(position)}"
 
 
 def word_of(whole: Network, position: Position) -> str:
@@ -37,23 +113,27 @@ def word_of(whole: Network, position: Position) -> str:
     return str(head(tree)) if head(tree) in (">>>", "parB", "pSwitch", "rpSwitchB") else str(head(shortened(tree)))
 
 
-def in_brief(tree: Tree) -> str:
-    """A part's text, cut where it is long."""
-    text = shown(shortened(tree))
-    return text if len(text) <= LONGEST else text[: LONGEST - 3] + ".."
-
-
-def told_missing(watched: Watched) -> Iterable[str]:
-    """The lines that say what could not be watched, and how many runs it took where it took more than one."""
+def notes_on(whole: Network, watched: Watched, positions: list) -> Iterator[str]:
+    """What is to be said of signals that took several runs, and of those that are missing."""
     if watched.runs > 1:
-        yield f"the signals don't fit into one run: {watched.runs} runs"
+        yield f"{len(positions)} signals don't fit into one run of the program: {watched.runs} runs"
     if watched.missing:
         position, fault = next(iter(watched.missing.items()))
-        others = f" and {len(watched.missing) - 1} others" if len(watched.missing) > 1 else ""
+        others = f" and {len(watched.missing) - 1} other parts" if len(watched.missing) > 1 else ""
         yield f"{at_text(position)}{others} can't be watched within the limits ({fault})"
-
-
-def unwatched(whole: Network) -> list:
-    """The positions of what watches a switch, which can't be watched itself."""
     seen = set(watchable(whole))
-    return [position for position in whole.rows if position and position not in seen and position[:-1] in seen and whole.rows[position].weight]
+    unseen = [position for position, row in whole.rows.items() if row.weight and position not in seen and position[:-1] in seen]
+    if unseen:
+        yield f"what watches a switch can't be watched itself: {', '.join(map(at_text, unseen[:8]))}{' ..' * (len(unseen) > 8)}"
+
+
+def tell_rest(tool: str, look: Look) -> None:
+    """Says on standard error what isn't among the signals, and refuses a run that a fault has ended."""
+    for note in look.notes:
+        print(f"yampa {tool}: {note}", file=sys.stderr)
+    if look.run.fault:
+        raise Refused(look.run.fault)
+
+
+def add_choice(words: Words) -> None:
+    words.add_argument("--all", action="store_true", dest="everything", help="all parts that can be watched, also wires and those without a name")

@@ -117,8 +117,8 @@ def position_of(words: list) -> Position:
     return tuple(map(int, numbers))
 
 
-def add_position(words: Words, **how: Any) -> None:
-    words.add_argument("--at", nargs="*", metavar="N", help="a part's position, child by child", **how)
+def add_position(words: Words, about: str = "a part's position, child by child", **how: Any) -> None:
+    words.add_argument("--at", nargs="*", metavar="N", help=about, **how)
 
 
 def main() -> None:
