@@ -40,6 +40,8 @@ CALLS = {
     "differ": ["net", "net", "-o", "out"],
     "compare": ["net", "net"],
     "report": ["net", "stream", "-o", "out"],
+    "step": ["net", "stream", "-o", "out"],
+    "waves": ["net", "stream", "-o", "out"],
 }
 
 

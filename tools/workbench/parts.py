@@ -93,7 +93,7 @@ def looked_at(net: str, stream: bytes, everything: bool, below: Position = ()) -
     run = run_of(path, stream)
     positions = chosen(whole, everything, below)
     watched = signals_of(whole, run, positions)
-    ends = list(tracks(("input",), whole.input, run.inputs))
+    ends = list(tracks(("input",), whole.program.input, run.inputs))
     ends += tracks(("output",), whole.program.output_type(whole.output(())), run.outputs)
     inside = []
     for position, signal in watched.signals.items():

@@ -64,7 +64,7 @@ def watched_signals(net, stream, position):
     part = watched(whole, position)
     with kept(file_text(whole.input, part.net)) as part_file:
         told = call(["run", part_file], stream)
-    type_ = ("Event", part.type) if part.sometimes else part.type
+    type_ = part.type
     return signals(at_text(position), type_, [read_value(line, type_) for line in lines_of(told.output)])
 
 
