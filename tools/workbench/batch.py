@@ -1,0 +1,289 @@
+"""Many recordings through one network: each one's output, or whether it is what was expected."""
+import contextlib
+import itertools
+import logging
+import os
+import subprocess
+import sys
+import tempfile
+import time
+import warnings
+import zlib
+from collections import Counter, deque
+from collections.abc import Iterable, Iterator
+from concurrent.futures import ThreadPoolExecutor
+from dataclasses import dataclass
+from pathlib import Path
+
+from workbench import remote
+from workbench.ending import REFUSED, UNREADABLE, WRONG_WORDS, Refused, Words, missing, read, unreadable
+from workbench.program import again, answered, path
+
+RIGHT, REFUSED_ROW, DIFFERENT, UNREAD = "as expected", "refused", "different", "unreadable"
+IN_FLIGHT = 4
+
+
+@dataclass(frozen=True)
+class Recording:
+    """A timed stream: its file, and the name that its output and what is expected have in their folders."""
+
+    name: str
+    file: Path
+
+
+@dataclass(frozen=True)
+class Ran:
+    """How a run ended: its status, its output in a file, the line that it told, and its seconds."""
+
+    status: int
+    output: Path
+    fault: str
+    seconds: float
+
+
+@dataclass(frozen=True)
+class Row:
+    """What is told of a recording: the samples that were answered, the status, the seconds, and how it went."""
+
+    name: str
+    samples: int
+    status: int
+    seconds: float
+    kind: str
+    told: str
+
+    def line(self) -> str:
+        return "\t".join([self.name, f"{self.samples} samples", f"status {self.status}", f"{self.seconds:.2f} s", self.told])
+
+
+# ---- recordings
+
+
+def recordings_of(names: list[str]) -> list[Recording]:
+    """The files that are named, and all below the folders that are, in order; each has a name of its own."""
+    found = [one for name in names for one in recordings_in(Path(name))]
+    twice = [name for name, count in Counter(one.name for one in found).items() if count > 1]
+    if twice:
+        raise Refused(f"two recordings are called {twice[0]}", WRONG_WORDS)
+    return found
+
+
+def recordings_in(file: Path) -> Iterator[Recording]:
+    if not file.is_dir():
+        yield Recording(file.name, file)
+        return
+    try:
+        below = sorted(path for path in file.rglob("*") if path.is_file())
+    except OSError as error:
+        raise unreadable(str(file), error) from None
+    yield from (Recording(str(path.relative_to(file)), path) for path in below)
+
+
+# ---- here
+
+
+def run_here(program: str, net: str, recording: Recording, folder: Path) -> Ran:
+    """A run on this machine, whose output goes into a file of that folder."""
+    output, began = folder / recording.name.replace("/", "\x1f"), time.perf_counter()
+    try:
+        with open(recording.file, "rb") as stream, open(output, "wb") as file:
+            ran = subprocess.run([program, "run", net], stdin=stream, stdout=file, stderr=subprocess.PIPE, check=False)
+    except OSError as error:
+        output.touch()
+        return Ran(UNREADABLE, output, str(unreadable(str(recording.file), error)), 0.0)
+    return Ran(ran.returncode, output, last_line(ran.stderr.decode(errors="replace")), time.perf_counter() - began)
+
+
+def last_line(text: str) -> str:
+    return (text.strip().splitlines() or [""])[-1]
+
+
+def all_here(net: str, recordings: list[Recording], folder: Path, jobs: int) -> Iterator[Ran]:
+    """The runs in their order, so many at once."""
+    with ThreadPoolExecutor(jobs) as pool:
+        try:
+            yield from pool.map(lambda one: run_here(path(), net, one, folder), recordings)
+        except BaseException:
+            pool.shutdown(wait=False, cancel_futures=True)
+            raise
+
+
+# ---- on a cluster
+
+
+def all_there(address: str, net: str, recordings: list[Recording], folder: Path) -> Iterator[Ran]:
+    """The runs in their order, on the workers of a Dask scheduler."""
+    try:
+        import cloudpickle
+        from distributed import Client
+    except ImportError as error:
+        raise missing("python3-distributed", error) from None
+    cloudpickle.register_pickle_by_value(remote)
+    # A worker that is gone, and a program of a megabyte, are nothing to tell of.
+    logging.getLogger("distributed").setLevel(logging.ERROR)
+    warnings.simplefilter("ignore", UserWarning)
+    program = Path(path()).read_bytes()
+    if not program.startswith(b"\x7fELF"):
+        raise Refused("the program isn't built, so it can't be sent to a cluster: `./yampa --prove` builds it", UNREADABLE)
+    try:
+        client = Client(address, timeout=10, set_as_default=False)
+    except (OSError, ValueError) as error:
+        raise Refused(f"{address}: no scheduler answers: {last_line(str(error))}", UNREADABLE) from None
+    with contextlib.closing(client):
+        yield from sent(client, program, read(net), recordings, folder)
+
+
+def sent(client, program: bytes, net: bytes, recordings: list[Recording], folder: Path) -> Iterator[Ran]:
+    """The answers of the workers; some recordings more than there are workers are under way, and those that wait are taken back
+    where this is interrupted."""
+    held = [client.submit(remote.held, data) for data in (program, net)]
+    waiting: deque = deque()
+    most = IN_FLIGHT * max(1, sum(client.nthreads().values()))
+    left = iter(recordings)
+    try:
+        while True:
+            for one in itertools.islice(left, most - len(waiting)):
+                waiting.append((one, begun(client, held, one)))
+            if not waiting:
+                return
+            one, future = waiting.popleft()
+            yield come_back(one, future, folder)
+    finally:
+        client.cancel([future for _, future in waiting if not isinstance(future, Refused)])
+
+
+def begun(client, held, recording: Recording):
+    """A run that is under way on a worker, or why there is none."""
+    try:
+        stream = zlib.compress(recording.file.read_bytes(), 1)
+    except OSError as error:
+        return unreadable(str(recording.file), error)
+    return client.submit(remote.run_there, *held, stream, pure=False, retries=3)
+
+
+def come_back(recording: Recording, future, folder: Path) -> Ran:
+    output = folder / recording.name.replace("/", "\x1f")
+    if isinstance(future, Refused):
+        output.touch()
+        return Ran(UNREADABLE, output, str(future), 0.0)
+    try:
+        status, squeezed, told, seconds = future.result()
+    except Exception as error:  # pylint: disable=broad-exception-caught
+        output.touch()
+        return Ran(UNREADABLE, output, f"the cluster gave no answer: {last_line(str(error))}", 0.0)
+    output.write_bytes(zlib.decompress(squeezed))
+    return Ran(status, output, last_line(told), seconds)
+
+
+# ---- rows
+
+
+def row_of(recording: Recording, ran: Ran, expected: Path | None) -> Row:
+    samples, difference = compared(ran.output, expected / recording.name if expected else None)
+    if ran.status == UNREADABLE or ran.status not in (0, REFUSED):
+        return Row(recording.name, samples, ran.status, ran.seconds, UNREAD, ran.fault or f"the program ended with status {ran.status}")
+    if ran.status:
+        return Row(recording.name, samples, ran.status, ran.seconds, REFUSED_ROW, ran.fault)
+    if difference:
+        return Row(recording.name, samples, REFUSED, ran.seconds, DIFFERENT, difference)
+    return Row(recording.name, samples, 0, ran.seconds, RIGHT, RIGHT if expected else "")
+
+
+def compared(output: Path, expected: Path | None) -> tuple[int, str]:
+    """How many lines an output has, and the first at which it isn't what was expected."""
+    try:
+        with open(output, "rb") as ours, open(expected or os.devnull, "rb") as theirs:
+            return difference_of(ours, theirs if expected else None)
+    except OSError as error:
+        return 0, f"nothing to compare with: {unreadable(str(expected), error)}"
+
+
+def difference_of(ours: Iterable[bytes], theirs: Iterable[bytes] | None) -> tuple[int, str]:
+    lines, told = 0, ""
+    for number, (mine, other) in enumerate(itertools.zip_longest(ours, theirs if theirs is not None else []), 1):
+        lines += mine is not None
+        if theirs is not None and mine != other and not told:
+            told = f"line {number}: {shown(mine)} where {shown(other)} is expected"
+    return lines, told
+
+
+def shown(line: bytes | None) -> str:
+    return "nothing" if line is None else line.decode(errors="replace").rstrip("\n")
+
+
+def keep(ran: Ran, to: Path) -> None:
+    """Puts an output into its place, whole."""
+    try:
+        to.parent.mkdir(parents=True, exist_ok=True)
+        os.replace(ran.output, to)
+    except OSError as error:
+        raise unreadable(str(to), error) from None
+
+
+def told_rows(rows: Iterable[Row], count: int) -> Counter:
+    """Prints the rows; on a terminal it says how far it is."""
+    tally: Counter = Counter()
+    shows = sys.stderr.isatty()
+    for number, row in enumerate(rows, 1):
+        if shows:
+            print("\r\033[K", end="", file=sys.stderr, flush=True)
+        print(row.line(), flush=True)
+        tally[row.kind] += 1
+        if shows and number < count:
+            print(f"{number} of {count}", end="", file=sys.stderr, flush=True)
+    return tally
+
+
+ABOUT = """Runs many recordings through one network, on all processors of this machine or on a Dask cluster.
+
+A row each, parted by tabs: the recording's name, how many samples were answered, the status, the seconds, and what there
+is to say: the fault, or with --expect whether the output is what was expected, else the first difference. The last line
+counts them. The status is 0 where all went well, 1 where a recording is refused or differs, 3 where something can't be
+read or written. Of a folder all files are recordings."""
+
+
+def arguments():
+    words = Words("batch", ABOUT)
+    words.add_argument("net", metavar="NET")
+    words.add_argument("recordings", metavar="FOLDER|FILE", nargs="+")
+    words.add_argument("--out", metavar="FOLDER", type=Path, help="puts each output there, under the recording's name")
+    words.add_argument("--expect", metavar="FOLDER", type=Path, help="compares each output with the file of that name there")
+    words.add_argument("--jobs", metavar="N", type=int, default=os.cpu_count(), help="how many run at once: a processor each")
+    words.add_argument("--cluster", metavar="ADDRESS", help="the Dask scheduler whose workers run them, as 127.0.0.1:8786")
+    given = words.parse_args()
+    if given.jobs < 1:
+        words.error("--jobs: at least 1 is wanted")
+    return given
+
+
+def main() -> None:
+    given = arguments()
+    recordings, net = recordings_of(given.recordings), again(given.net)
+    answered(["types", net])
+    with tempfile.TemporaryDirectory(prefix=".yampa-batch-", dir=made(given.out)) as name:
+        folder = Path(name)
+        runs = all_there(given.cluster, net, recordings, folder) if given.cluster else all_here(net, recordings, folder, given.jobs)
+        tally = told_rows(rows_of(recordings, runs, given), len(recordings))
+    counts = ", ".join(f"{count} {kind}" for kind, count in sorted(tally.items()) if given.expect or kind != RIGHT)
+    print(f"{len(recordings)} recordings" + (f": {counts}" if counts else ""))
+    sys.exit(UNREADABLE if tally[UNREAD] else REFUSED if tally[REFUSED_ROW] or tally[DIFFERENT] else 0)
+
+
+def rows_of(recordings: list[Recording], runs: Iterator[Ran], given) -> Iterator[Row]:
+    for one, ran in zip(recordings, runs):
+        row = row_of(one, ran, given.expect)
+        if given.out:
+            keep(ran, given.out / one.name)
+        else:
+            ran.output.unlink()
+        yield row
+
+
+def made(folder: Path | None) -> Path | None:
+    """The folder of outputs, which is made where it isn't there."""
+    try:
+        if folder:
+            folder.mkdir(parents=True, exist_ok=True)
+    except OSError as error:
+        raise unreadable(str(folder), error) from None
+    return folder
