@@ -4,7 +4,7 @@ import io
 
 from model.trees import is_form, shown
 from workbench import plotting
-from workbench.recording import lines_of, timed, to_table, types_of
+from workbench.recording import lines_of
 
 from tooling.common import EXAMPLES, TOP, WHOLE, each, is_xml, stream_of, tool, want
 
@@ -22,8 +22,9 @@ def runs_are_plotted():
     for example in WHOLE:
         net, stream = str(example / "net"), stream_of(example)
         times, found, _ = plotting.run_of(net, stream, [])
-        for name, type_, lines in zip(("input", "output"), types_of(net), (stream, timed(net, stream)[0])):
-            rows = list(csv.reader(io.StringIO(to_table(lines, type_, 1, 0))))
+        tables = tool("csv", "--back", "--input", net, stream=stream), tool("csv", "--back", net, stream=tool("timed", net, stream=stream)[1])
+        for name, (_, table, _) in zip(("input", "output"), tables):
+            rows = list(csv.reader(io.StringIO(table)))
             plotted = [signal.values for signal in found if signal.name.split(".")[0] == name]
             cells = [[str(time), *map(cell_of, row)] for time, *row in zip(times, *plotted)]
             want(f"{name} in the plot of {example.name}", cells == rows[1:], rows[:3])

@@ -5,8 +5,9 @@ import os
 import subprocess
 import tempfile
 from pathlib import Path
+from typing import IO
 
-from workbench.ending import UNREADABLE, Refused, read
+from workbench.ending import UNREADABLE, Refused, read, unreadable
 from workbench.origin import network_path
 
 TOP = Path(__file__).resolve().parents[2]
@@ -42,10 +43,34 @@ def call(words, stream=b""):
     try:
         ran = subprocess.run([path(), *words], input=stream, capture_output=True, timeout=SECONDS)
     except OSError as error:
-        raise Refused(f"{path()}: {error.strerror}".lower(), UNREADABLE) from None
+        raise unreadable(path(), error) from None
     except subprocess.TimeoutExpired:
         raise Refused(f"the program took over {SECONDS} seconds", UNREADABLE) from None
     return Told(words, ran.returncode, ran.stdout, ran.stderr.decode(errors="replace"))
+
+
+class Run:
+    """A run of the program that is under way; it is stopped where it isn't needed to its end."""
+
+    def __init__(self, words: list[str], stream: int | IO[bytes]):
+        self.words, self.error = words, tempfile.TemporaryFile()
+        try:
+            self.process = subprocess.Popen([path(), *words], stdin=stream, stdout=subprocess.PIPE, stderr=self.error)
+        except OSError as error:
+            raise unreadable(path(), error) from None
+
+    def __enter__(self) -> "Run":
+        return self
+
+    def __exit__(self, *_: object) -> None:
+        self.process.kill()
+        self.process.wait()
+
+    def told(self) -> Told:
+        """What it told besides its output, which was read to its end."""
+        status = self.process.wait()
+        self.error.seek(0)
+        return Told(self.words, status, b"", self.error.read().decode(errors="replace"))
 
 
 def answered(words, stream=b""):
