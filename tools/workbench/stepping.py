@@ -5,7 +5,7 @@ import shutil
 import sys
 from typing import Callable, Iterator
 
-from workbench.ending import Refused, Words, ended, read, write
+from workbench.ending import Refused, Words, ended, stream_bytes, write
 from workbench.parts import Look, Track, add_choice, looked_at, tell_rest
 from workbench.signals import ABSENT, Several, spelt
 from workbench.watching import add_position, position_of
@@ -136,7 +136,7 @@ def main() -> None:
         words.error(str(error))
 
     def work() -> None:
-        look = looked_at(given.net, read(given.stream), given.everything, below)
+        look = looked_at(given.net, stream_bytes(given.stream), given.everything, below)
         if given.lines or given.to or not (sys.stdin and sys.stdin.isatty() and sys.stdout and sys.stdout.isatty()):
             write(given.to, "".join(lines_of(look)))
             tell_rest("step", look)

@@ -5,7 +5,7 @@ import re
 from typing import Any, Iterator
 
 from model.trees import is_form
-from workbench.ending import Refused, Words, ended, read, write
+from workbench.ending import Refused, Words, ended, stream_bytes, write
 from workbench.parts import Look, Track, add_choice, looked_at, tell_rest, tracks
 from workbench.signals import ABSENT, Several
 from workbench.watching import add_position, position_of
@@ -134,7 +134,7 @@ def main() -> None:
         words.error(str(error))
 
     def work() -> None:
-        look = looked_at(given.net, read(given.stream), given.everything, below)
+        look = looked_at(given.net, stream_bytes(given.stream), given.everything, below)
         if not look.run.times:
             raise Refused(look.run.fault or "the stream has no samples")
         write(given.to, dump(look, " ".join(found.groups())))
