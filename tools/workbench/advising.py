@@ -28,9 +28,10 @@ def named_files(words: list[str]) -> tuple[list[int], bool]:
     return places, len(places) == FILES[words[0]] and not asks_help
 
 
-def tools() -> list[str]:
-    """The names of the tools."""
-    return [line.split()[0] for line in LIST.read_text(encoding="utf-8").splitlines() if line[:1] not in ("", "#")]
+def tools() -> dict[str, str]:
+    """The tools by name, and what each does."""
+    lines = [line.split(maxsplit=2) for line in LIST.read_text(encoding="utf-8").splitlines() if line[:1] not in ("", "#")]
+    return {name: " ".join(rest[1:]) for name, *rest in lines}
 
 
 def advice(said: str, words: list[str]) -> str | None:
@@ -44,6 +45,13 @@ def advice(said: str, words: list[str]) -> str | None:
         meant = f"; did you mean {near[0]}?" if near else ""
         return f"there are tools beside these commands: {', '.join(tools())}{meant}"
     return None
+
+
+def tools_listed() -> str:
+    """The lines that the wrapper adds to what `--help` prints."""
+    width = max(map(len, tools()))
+    lines = [f"  {name:{width}}  {about}" for name, about in tools().items()]
+    return "\n".join(["", "Tools beside these commands, not proved; `yampa NAME --help` teaches each:", *lines, ""])
 
 
 def unread(name: str) -> str:
