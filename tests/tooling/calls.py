@@ -36,6 +36,7 @@ CALLS = {
     "expand": ["net", "-o", "out"],
     "fmt": ["--write", "net"],
     "haskell": ["net", "-o", "out"],
+    "batch": ["net", "stream", "--out", "out"],
     "falsify": ["net", "-o", "out"],
     "differ": ["net", "net", "-o", "out"],
     "compare": ["net", "net"],
