@@ -8,29 +8,19 @@ FMT = """Lays out a network's file, or one with names, in lines of at most 100 c
   yampa fmt FILE            prints it
   yampa fmt --write FILE    puts it in the file's place
 
-A blank line stays between definitions where there is one, and stands where one of them takes more
-than a line; a table of one-line definitions stays together."""
+Between definitions a blank line stays where there is one: a table of one-line definitions stays
+together."""
 
 
 def formatted(name: str, data: bytes) -> bytes:
-    """The file laid out, with its comments."""
+    """The file laid out, with its comments; definitions stand as far apart as they do in it, by a blank line or by none."""
     source = read_text(name, data)
-    blocks = [header_lines(source), *map(item_lines, source.items)]
-    blank = [False, *[bool(item.comments) and item.comments[0] == "" for item in source.items]]
+    lines = header_lines(source)
+    for number, item in enumerate(source.items):
+        lines += [""] * (number == 0 or item.comments[:1] == [""]) + item_lines(item)
     if source.net is not None:
-        blocks.append(network_lines(source))
-        blank.append(bool(source.comments) and source.comments[0] == "")
-    lines = []
-    for number, block in enumerate(blocks):
-        apart = number > 0 and (blank[number] or number == 1 and bool(source.items) or is_long(blocks[number - 1 : number + 1]))
-        lines += [""] * (apart and bool(source.items)) + block
-    left = [*source.left]
-    return ("\n".join(line.rstrip(" ") for line in [*lines, *left]) + "\n").encode("latin-1")
-
-
-def is_long(blocks: list) -> bool:
-    """Whether one of the blocks takes several lines without its comments."""
-    return any(len([line for line in block if line and not line.startswith(";")]) > 1 for block in blocks)
+        lines += [""] * bool(source.items) + network_lines(source)
+    return ("\n".join(line.rstrip(" ") for line in [*lines, *source.left]) + "\n").encode("latin-1")
 
 
 def top_comments(comments: list) -> list:
