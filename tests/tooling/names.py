@@ -28,8 +28,10 @@ def names_are_expanded():
         want(f"expand the plain {example.name}", same, error or output)
     named = [example for example in EXAMPLES if (example / "source").exists()]
     want("examples with names", len(named) >= 3, named)
-    for example, (status, output, error) in each(lambda example: tool("expand", "source", folder=example), named):
-        want(f"expand {example.name}", not status and output.encode() == (example / "net").read_bytes(), error or output)
+    for example, (laid, flat) in each(lambda example: [tool("expand", *how, "source", folder=example) for how in ([], ["--flat"])], named):
+        net = (example / "net").read_text()
+        want(f"expand {example.name}", not laid[0] and not flat[0] and net in (laid[1], flat[1]), laid[2] or flat[2])
+        want(f"expand {example.name} to one network", read_network(laid[1].encode()) == read_network(flat[1].encode()))
         want(f"the size of {example.name}", len(network_of(str(example / "net")).rows) > 60)
     for (text, wanted), told in each(lambda bad: in_folder(("expand", "source"), source=bad[0]), BAD_SOURCES):
         status, output, error = told

@@ -6,11 +6,11 @@ import sys
 import tempfile
 
 from workbench.definitions import Fault
-from workbench.ending import ended, write
+from workbench.ending import Refused, ended, write
 from workbench.faults import Files, explained
 from workbench.origin import PROGRAMS, InNames, Program, program_of
 from workbench.outline import read_type
-from workbench.program import again, answered
+from workbench.program import TOP, again, answered, path
 from workbench.records import shown_type
 
 # The files of each command by their roles, and the options behind which a value stands.
@@ -41,11 +41,21 @@ def with_names(files: Files) -> dict:
 def spoken(words: list, line: str) -> str:
     """A fault line of the program; of a network with names where it is in its file, and why."""
     files = files_in(words)
-    role = line.partition(": ")[0]
-    if role not in with_names(files):
+    role, _, fault = line.partition(": ")
+    program = with_names(files).get(role)
+    if program is None:
         return line
+    if path() == str(TOP / "yampa"):
+        return placed(program, fault)
     told = explained(line, files, None)
     return told.where() + told.why
+
+
+def placed(program: Program, fault: str) -> str:
+    """A fault with its place alone, where a trial build would take minutes to tell the reason."""
+    position = position_in(fault) if "(at" in fault else ()
+    file, line, column, _ = program.origin_of(position)
+    return f"{file}:{line}:{column}: {re.sub(r' (at|in) .*', '', fault)}"
 
 
 # ---- what is printed
@@ -97,7 +107,7 @@ def main() -> None:
     def work():
         try:
             sys.exit(answer(program, words))
-        except InNames as refused:
+        except Refused as refused:
             print(refused, file=sys.stderr)
             sys.exit(refused.status)
 
