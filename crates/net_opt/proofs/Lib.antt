@@ -1,4 +1,5 @@
 pub mod Beside
+pub mod TooHigh
 pub mod Tried
 pub mod Insides
 pub mod Walked

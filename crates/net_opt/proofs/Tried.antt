@@ -1,5 +1,5 @@
 -- A law that was tried at a place and a step that was taken there.
-use Rattle.std.proofs.Common.{◌≡◌, ℕ, ◌+◌, ◌<◌, Bool, true, false, List, [], ◌∷◌, ◌++◌, length, map, Option, Some, None, Result, Ok, Err, IfOk, Contains, refl, sym, ap, ◌∙◌, subst, get_or, below_more, true≢false}
+use Rattle.std.proofs.Common.{◌≡◌, inl, inr, ℕ, ◌+◌, ◌<◌, Bool, true, false, List, [], ◌∷◌, ◌++◌, length, map, Option, Some, None, Result, Ok, Err, IfOk, Contains, refl, sym, ap, ◌∙◌, subst, get_or, below_more, true≢false}
 use Rattle.std.proofs.lemmas.List.{get_or_default, map-append}
 use Rattle.std.proofs.lemmas.Option.{none-some}
 use Rattle.leaf_core.specs.Expression.{Expression}
@@ -27,7 +27,9 @@ use Rattle.cert_check.proofs.Taken.{steps_more}
 use Rattle.cert_check.specs.Derives.{Answered, Next, Steps, no_step}
 use Rattle.net_opt.specs.Order.{Before}
 use Rattle.net_opt.specs.Optimising.{MayTake, NoneLeft, network_laws, expression_laws, forward_step, NoStepBy, FirstTriedLaw, IsFirst, FirstSteps, none_first, first_then}
-use Rattle.net_opt.specs.Search.{StandsThere, ExpressionThere, NoMatchBy, Passed, PassedAt, FirstAt, FirstWithin, Takes, FoundStep, Puts}
+use Rattle.net_opt.specs.Nesting.{IsTooHigh}
+use Rattle.net_opt.specs.Search.{StandsThere, ExpressionThere, NoMatchBy, OnlyTooHighBy, NotPut, Passed, PassedAt, FirstAt, FirstWithin, Takes, FoundStep, Puts}
+use Rattle.net_opt.proofs.TooHigh.{too_high}
 
 -- what is answered forward at a network by a law of networks, and that nothing else is
 record NetAnswer (n olds : ℕ) (f : Network Expression) (new : Tree Expression) : Type 0 where
@@ -117,7 +119,11 @@ no_answer_leaf olds n e (a_network r) none a = absurd a
 -- a law that doesn't match was passed, and one whose step was refused, and what was passed stays so
 pub unmatched : (b : Bool) (t : TypedNetwork) (p : List ℕ) (law : Law) → NoMatchBy t p law → Passed b t p law
 unmatched true t p law h = λ u next. h next.new next.answered
-unmatched false t p law h = h
+unmatched false t p law h = λ new a. absurd (h new a)
+
+only_too_high : (b : Bool) (t : TypedNetwork) (p : List ℕ) (law : Law) → OnlyTooHighBy t p law → Passed b t p law
+only_too_high true t p law h = λ u next. too_high t p next.new (h next.new next.answered) u next.rewritten
+only_too_high false t p law h = h
 
 not_taken : (b : Bool) (t : TypedNetwork) (p : List ℕ) (law : Law) → b ≡ true → NoStepBy t p law → Passed b t p law
 not_taken true t p law e h = h
@@ -125,7 +131,7 @@ not_taken false t p law e h = absurd (true≢false (sym e))
 
 pub passed_on : (a b : Bool) (t : TypedNetwork) (p : List ℕ) (law : Law) → (a ≡ true → b ≡ true) → Passed a t p law → Passed b t p law
 passed_on true b t p law on h = not_taken b t p law (on refl) h
-passed_on false b t p law on h = unmatched b t p law h
+passed_on false b t p law on h = only_too_high b t p law h
 
 pub no_net_match : (b : Bool) (t : TypedNetwork) (p : List ℕ) (n j : ℕ) (f : Network Expression) → StandsThere t p n (a_network f)
     → ((r : Network Expression) → N.NetworkAnswer (L.L j) Forward f None n r → ⊥) → Passed b t p (L.L j)
@@ -163,15 +169,33 @@ none_anywhere b t none = λ s may u next. passed_on b true t s.position s.law (�
 pub none_there : (b : Bool) (t : TypedNetwork) (p : List ℕ) → placed_at 0 0 (a_network t.net) p ≡ None → PassedAt b t p
 none_there b t p is = λ law tried. unmatched b t p law (λ new a. none-some a.place (sym is ∙ a.found))
 
+-- what isn't put there was passed
+high_net : (t : TypedNetwork) (p : List ℕ) (n j : ℕ) (f r : Network Expression) → StandsThere t p n (a_network f) → NetworkRow j n f r
+    → IsTooHigh (length p) (a_network r) → OnlyTooHighBy t p (L.L j)
+high_net t p n j f r s row high = λ new answered.
+    let a = net_answer j n f new (answer_there t p s.params n (a_network f) (L.L j) new s.there answered) in
+    let same : new ≡ a_network r = a.is ∙ ap a_network (one-right_side j n f a.right r a.row row) in
+    subst (IsTooHigh (length p)) (sym same) high
+
+not_put_net : (t : TypedNetwork) (p : List ℕ) (n j : ℕ) (f r : Network Expression) (a b : Bool) → StandsThere t p n (a_network f) → NetworkRow j n f r
+    → NotPut t p (a_network r) a b → Passed b t p (L.L j)
+not_put_net t p n j f r a b s row (inl h) = not_taken b t p (L.L j) h.0 (refused_net t p n j f r s row h.1)
+not_put_net t p n j f r a b s row (inr h) = only_too_high b t p (L.L j) (high_net t p n j f r s row h.1)
+
+not_put_leaf : (t : TypedNetwork) (p : List ℕ) (j : ℕ) (e r : Expression) (a b : Bool) → ExpressionThere t p e → ExpressionRow j e r
+    → NotPut t p (a_leaf r) a b → Passed b t p (L.E j)
+not_put_leaf t p j e r a b s row (inl h) = not_taken b t p (L.E j) h.0 (refused_leaf t p j e r s row h.1)
+not_put_leaf t p j e r a b s row (inr h) = absurd h.1
+
 -- what is put there by a law's right side is its step
 put_net : (t u : TypedNetwork) (p : List ℕ) (n j : ℕ) (f r : Network Expression) (a b : Bool) (o : Option LawStep) → StandsThere t p n (a_network f)
     → Contains network_laws j → NetworkRow j n f r → Puts (L.L j) t p (a_network r) u a b o → FoundStep (Passed b t p (L.L j)) (λ s. s ≡ forward_step (L.L j) p) t u o
-put_net t u p n j f r a b None s tried row h = (h.0, not_taken b t p (L.L j) h.2 (refused_net t p n j f r s row h.1))
+put_net t u p n j f r a b None s tried row h = (h.0, not_put_net t p n j f r a b s row h.1)
 put_net t u p n j f r a b (Some x) s tried row h = (taken_net t u p n j f r (step_of x) s row tried h.0 h.1, h.0)
 
 put_leaf : (t u : TypedNetwork) (p : List ℕ) (j : ℕ) (e r : Expression) (a b : Bool) (o : Option LawStep) → ExpressionThere t p e
     → Contains expression_laws j → ExpressionRow j e r → Puts (L.E j) t p (a_leaf r) u a b o → FoundStep (Passed b t p (L.E j)) (λ s. s ≡ forward_step (L.E j) p) t u o
-put_leaf t u p j e r a b None s tried row h = (h.0, not_taken b t p (L.E j) h.2 (refused_leaf t p j e r s row h.1))
+put_leaf t u p j e r a b None s tried row h = (h.0, not_put_leaf t p j e r a b s row h.1)
 put_leaf t u p j e r a b (Some x) s tried row h = (taken_leaf t u p j e r (step_of x) s row tried h.0 h.1, h.0)
 
 -- the same of what the code answers

@@ -1,5 +1,5 @@
 -- Steps forward at a place, and what the walk passed before it took one.
-use Rattle.std.specs.Prelude.{◌≡◌, ℕ, Bool, true, false, List, ◌++◌, Option, Some, None}
+use Rattle.std.specs.Prelude.{◌≡◌, ◌⊎◌, ℕ, Bool, true, false, List, ◌++◌, length, Option, Some, None}
 use Rattle.leaf_core.specs.Expression.{Expression}
 use Rattle.net_tree.specs.Place.{Tree, a_network, a_leaf}
 use Rattle.net_syntax.specs.Placed.{placed, placed_at}
@@ -11,6 +11,7 @@ use Rattle.net_syntax.specs.Rewriting.{Rewrites}
 use Rattle.net_types.specs.Answered.{NoRewriting}
 use Rattle.cert_check.specs.Derives.{Answered, Next}
 use Rattle.net_opt.specs.Optimising.{IsTried, MayTake, forward_step, NoStepBy, FirstTriedLaw}
+use Rattle.net_opt.specs.Nesting.{IsTooHigh}
 use Rattle.net_opt.specs.Order.{Before, LeftOf}
 
 -- what stands at the position, with so many frozen networks in scope
@@ -26,11 +27,16 @@ ExpressionThere t p e = (n : ℕ) × StandsThere t p n (a_leaf e)
 abbrev pub NoMatchBy : TypedNetwork → List ℕ → Law → Type 0
 NoMatchBy t p law = (new : Tree Expression) → Answered t (forward_step law p) new → ⊥
 
--- the law was passed by a walk: its step doesn't lead on there; in a walk in which nothing that
--- matched was refused it doesn't even match
+-- what it leads to is too high there, where it matches
+abbrev pub OnlyTooHighBy : TypedNetwork → List ℕ → Law → Type 0
+OnlyTooHighBy t p law =
+    (new : Tree Expression) → Answered t (forward_step law p) new → IsTooHigh (length p) new
+
+-- the law was passed by a walk: its step doesn't lead on there; in a walk in which nothing else that
+-- matched was refused that is so since it doesn't match, or leads to what is too high there
 abbrev pub Passed : Bool → TypedNetwork → List ℕ → Law → Type 0
 Passed true t p law = NoStepBy t p law
-Passed false t p law = NoMatchBy t p law
+Passed false t p law = OnlyTooHighBy t p law
 
 -- so was each law that is tried
 abbrev pub PassedAt : Bool → TypedNetwork → List ℕ → Type 0
@@ -40,7 +46,7 @@ PassedAt refused t p = (law : Law) → IsTried law → Passed refused t p law
 abbrev pub PassedWithin : Bool → TypedNetwork → List ℕ → Type 0
 PassedWithin refused t p = (q : List ℕ) → PassedAt refused t (p ++ q)
 
--- from p on, no law that is tried matches anything left of the path
+-- from p on, no law that is tried matches anything left of the path, but for what is too high there
 abbrev pub Settled : TypedNetwork → List ℕ → List ℕ → Type 0
 Settled t p path = (q : List ℕ) → LeftOf q path → PassedAt false t (p ++ q)
 
@@ -62,11 +68,17 @@ abbrev pub FoundStep : Type 0 → (Step → Type 0) → TypedNetwork → TypedNe
 FoundStep Nothing Such t u None = (u ≡ t) × Nothing
 FoundStep Nothing Such t u (Some s) = Takes t (step_of s) u × Such (step_of s)
 
+-- why the tree isn't put at the position, where something was refused or not, before and now: no
+-- network has it there, or it is too high there, which isn't told
+abbrev pub NotPut : TypedNetwork → List ℕ → Tree Expression → Bool → Bool → Type 0
+NotPut t p new before now =
+    ((now ≡ true) × NoRewriting t p new) ⊎ ((now ≡ before) × IsTooHigh (length p) new)
+
 -- where the network was t and now is u, and something was refused or not, before and now: the law's
--- step stands there with the tree at the position, or that was refused, and all is as it was
+-- step stands there with the tree at the position, or that isn't put there, and all is as it was
 abbrev pub Puts : Law → TypedNetwork → List ℕ → Tree Expression → TypedNetwork → Bool → Bool
     → Option LawStep → Type 0
-Puts law t p new u before now None = (u ≡ t) × NoRewriting t p new × (now ≡ true)
+Puts law t p new u before now None = (u ≡ t) × NotPut t p new before now
 Puts law t p new u before now (Some s) =
     (step_of s ≡ forward_step law p) × Rewrites t p new u × (now ≡ before)
 

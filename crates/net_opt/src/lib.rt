@@ -11,6 +11,7 @@
 #![tactic(auto)]
 
 mod laws;
+mod nesting;
 mod optimiser;
 mod search;
 mod step;

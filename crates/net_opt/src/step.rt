@@ -13,6 +13,7 @@ ghost use Rattle.net_opt.specs.Optimising.{expression_laws, forward_step, networ
 ghost use Rattle.net_opt.specs.Search.{ExpressionThere, FirstAt, FoundStep, Passed, PassedAt, Puts, StandsThere};
 ghost use Rattle.net_opt.specs.Walk.{KeepsWalk};
 
+use crate::nesting::is_too_high;
 use crate::walk::Walk;
 use expr_laws::apply_expr;
 use law_rules::apply_law;
@@ -144,7 +145,8 @@ fn step_by_expr_law(
     }
 }
 
-/// Puts the law's right side where the walk is, if a check would accept that, and tells the step.
+/// Puts the law's right side where the walk is, if a check would accept that, and tells the step. One
+/// that is too high there is not tried: whatever else changes, it stays so.
 fn put(
     alloc: Global,
     typed: &mut TypedNet,
@@ -156,6 +158,10 @@ fn put(
     ensures puts { IfOk result (Puts law typed.old walk.old.path.items (part_of right)
         typed.new walk.old.refused walk.new.refused) }
 {
+    if is_too_high(&right, walk.path.len()) {
+        drop(right);
+        return Ok(None);
+    }
     let position = Position::of_node(alloc, walk.path.as_slice())?;
     match rewrite(alloc, typed, &position, right)? {
         Rewritten::Done => Ok(Some(LawStep {
