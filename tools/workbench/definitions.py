@@ -39,15 +39,15 @@ class Fault(Exception):
         return f"{self.text.name}:{line}:{column}: {self}{inside}"
 
 
-@dataclass
+@dataclass(slots=True)
 class Token:
     """A word or a parenthesis, the comments in lines of their own before it, and the one behind it in its line. Where a blank line
     stands before a comment or the word, the comments have an empty one."""
 
     word: str
     at: int
-    before: list = field(default_factory=list)
-    behind: list = field(default_factory=list)
+    before: list | tuple = ()
+    behind: list | tuple = ()
 
 
 def tokens_of(data: bytes) -> tuple:
@@ -60,10 +60,10 @@ def tokens_of(data: bytes) -> tuple:
         if lines > 1 and (tokens or before):
             before.append("")
         if not word.startswith(";"):
-            tokens.append(Token(word, found.start(), before))
+            tokens.append(Token(word, found.start(), before or ()))
             before = []
         elif tokens and not lines and not before:
-            tokens[-1].behind.append(word)
+            tokens[-1].behind = [word]
         else:
             before.append(word)
     return tokens, before
@@ -219,8 +219,9 @@ def network_of(reader: TreeReader, source: Source) -> None:
     source.comments = [*source.comments, *word.trailing]
     source.input = reader.tree()
     if named and reader.peek() == "output" and reader.read + 1 < len(reader.tokens):
-        reader.take("")
+        comments = beside(reader.take(""))
         source.output = reader.tree()
+        source.output.comments = [*comments, *source.output.comments]
     source.net = reader.tree()
     if not reader.ended():
         raise reader.fault(reader.tokens[reader.read], "the network is whole before this")
@@ -234,11 +235,16 @@ def definition(reader: TreeReader) -> Definition:
     name = reader.word("a name")
     params = reader.parts(opened, lambda: reader.word("the name of a parameter"))
     closed = reader.take("")
-    return Definition(name, params, reader.tree(), [*comments, *spoken(closed.before), *closed.behind])
+    return Definition(name, params, reader.tree(), [*comments, *beside(opened), *beside(closed)])
 
 
 def item_comments(keyword: Token) -> list:
     return [*keyword.before, *keyword.behind]
+
+
+def beside(token: Token) -> list:
+    """The comments at a token that isn't the first of an item."""
+    return [*spoken(token.before), *token.behind]
 
 
 def record(reader: TreeReader) -> Record:

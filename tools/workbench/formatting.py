@@ -1,7 +1,7 @@
 """Files laid out: networks' files, and those with names, whose comments are kept as they are."""
 from workbench.definitions import Fault, Include, Record, Source, Written, read_text
 from workbench.ending import Refused, Words, ended, read, write
-from workbench.layout import WIDTH, flat, laid_out
+from workbench.layout import WIDTH, comments_within, flat, laid_out
 
 FMT = """Lays out a network's file, or one with names, in lines of at most 100 columns, and keeps its comments.
 
@@ -76,18 +76,13 @@ def record_lines(record: Record) -> list:
     line = " ".join([f"record {record.name.word}", *written])
     nodes = [node for field in record.fields for node in field]
     last = record.fields[-1][1]
-    if len(line) <= WIDTH and not of_nodes([node for node in nodes if node is not last]) and not last.comments and not within(nodes):
+    if len(line) <= WIDTH and not of_nodes([node for node in nodes if node is not last]) and not last.comments and not any(map(comments_within, nodes)):
         return [*comments, *behind([line], last.trailing)]
     lines = [*comments, f"record {record.name.word}"]
     for name, type_ in record.fields:
         first, *rest = laid_out(type_, len(name.word) + 5)
         lines += ["    " + comment for comment in [*of_nodes([name]), *type_.comments]] + [f"    {name.word}:{first}", *rest]
     return lines
-
-
-def within(nodes: list) -> bool:
-    """Whether comments stand inside of the nodes."""
-    return any(of_nodes(node.parts) or node.opened or node.closing or within(node.parts) for node in nodes)
 
 
 def network_lines(source: Source) -> list:

@@ -4,7 +4,7 @@ A form stands in one line where there is room for it; else its parts stand below
 has room there, else two columns from its parenthesis. How wide a part must be is known from its own parts, so one walk up and one
 walk down lay out all.
 """
-from dataclasses import dataclass
+from dataclasses import dataclass, replace
 
 WIDTH = 100
 # A form that is no longer than this isn't broken where that can be helped.
@@ -94,12 +94,21 @@ def bindings(parts: list) -> list:
     found = []
     for name, tree in zip(parts[::2], parts[1::2]):
         opening, body = flat(name), box_of(tree)
+        name = replace(name, comments=[*name.comments, *comments_within(name)])
         whole = len(opening) + 1 + body.flat
         if name.trailing or tree.comments or tree.trailing:
             whole = NEVER
         width = len(opening) + 1 + body.least
         found.append(Box(name, opening, [body], "", 0, whole, width, min(whole, width)))
     return found
+
+
+def comments_within(node) -> list:
+    """The comments between a form's parentheses."""
+    found = list(node.opened)
+    for part in node.parts:
+        found += [*part.comments, *comments_within(part), *part.trailing]
+    return [*found, *node.closing]
 
 
 # ---- lines
