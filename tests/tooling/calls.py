@@ -9,7 +9,7 @@ NEEDS = ["dot", "matplotlib", "hypothesis"]
 
 SHIM = """#!/bin/bash
 if grep -q "^$1 " {top}/tools/list; then exec {top}/tools/tool "$@"; fi
-exec "$YAMPA" "$@"
+exec {top}/tools/sourced "$YAMPA" "$@"
 """
 
 
