@@ -1,0 +1,7 @@
+-- That code outputs what networks mean, a file a line.
+pub mod BodyLaws
+pub mod Links
+pub mod Emitted
+pub mod Codes
+pub mod Streams
+pub mod Olds

@@ -1,0 +1,7 @@
+use Rattle.std.proofs.Common.{◌≡◌, take}
+use Rattle.net_code.specs.Bodies.{member_rows}
+use Rattle.net_code.proofs.bodies.with_members.Given as goal
+
+-- the rows of the members so far
+abbrev pub invariant-loop-member : goal.invariant-loop-member
+invariant-loop-member l = l.statements.items ≡ member_rows (take l.member-index l.members)

@@ -1,0 +1,8 @@
+use Rattle.net_code.proofs.Streams.{code_law, machine_law}
+use Rattle.net_code.proofs.laws.code_laws.Goals as goal
+
+pub returns-clause-machine : goal.returns-clause-machine
+returns-clause-machine c = machine_law
+
+pub returns-clause-outputs : goal.returns-clause-outputs
+returns-clause-outputs c = code_law

@@ -1,0 +1,10 @@
+// The law of code: it does nothing.
+
+ghost use Rattle.net_code.specs.CodeLaw.{CodeLaw, CodeMachineLaw};
+
+/// The code of any network does what the network's machine does; that of a typed network outputs
+/// the network's stream, on any samples and from whatever is kept at the start.
+pub fn code_laws()
+    ensures machine { CodeMachineLaw }
+    ensures outputs { CodeLaw }
+{}
