@@ -249,6 +249,28 @@ def call_wrapper(room: Path, *words: str, stream: bytes = b"") -> tuple:
     return ran.returncode, ran.stdout.decode(), ran.stderr.decode()
 
 
+BEGINNINGS = {
+    b"yampa source 1\ninput Int time": True,
+    b"; one\n\n \t; two\r\nyampa ; three\nsource 1": True,
+    b"; " + b"a" * 20_000 + b"\nyampa 1": True,
+    b"yampa 1\ninput Int time ; yampa source 1": False,
+    b"; yampa source 1\nyampa 2": False,
+    b"yampa sources": False,
+    b"\0\xff\xfe": False,
+    b"": False,
+}
+
+
+def beginnings_are_seen() -> None:
+    """The wrapper looks at a file's beginning alone; where that is comments it leaves the rest to tools/sourced."""
+    script = re.search(r"^has_names\(\) \{\n.*?^\}\n", (TOP / "yampa").read_text(encoding="utf-8"), re.M | re.S).group()
+    with own_folder() as room:
+        for data, wanted in BEGINNINGS.items():
+            in_files(room, net=data)
+            ran = subprocess.run(["bash", "-c", script + 'has_names "$0"', str(room / "net")], capture_output=True, timeout=60, check=False)
+            want(f"names in {data[:30]}", (ran.returncode == 0) == wanted and not ran.stderr, ran)
+
+
 def commands_take_sources() -> None:
     with own_folder() as room:
         net = CAR + "def fast (less 10 (speed x))\ndef late (iPre false)\ninput Car\n(>>> (arr fast) late)"
@@ -327,6 +349,7 @@ def try_all() -> None:
     comments_are_kept()
     deep_files_end()
     faults_stand_in_the_source()
+    beginnings_are_seen()
     commands_take_sources()
     sources_are_what_they_mean()
     places_are_known()

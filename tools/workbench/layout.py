@@ -10,6 +10,8 @@ WIDTH = 100
 # A form that is no longer than this isn't broken where that can be helped.
 SHORT = 40
 SIDE_BY_SIDE = ("delay", "after", "repeatedly", "loopPre", "list", "none", "-->", ">--", "add", "sub", "mul", "less", "equal")
+# Parts that stand two columns deeper than their form stand no deeper than this, so that what is printed is no longer than its lines.
+DEEPEST = 72
 NEVER = float("inf")
 
 
@@ -183,7 +185,7 @@ def write_box(box: Box, pieces: list) -> None:
 def lay_parts(box: Box, indent: int, lines: Lines) -> None:
     """A form's parts below one another, behind its word where there is room for that, else below it."""
     hangs = indent + box.hanging <= WIDTH or not box.closing
-    inner = indent + (len(box.opening) + 1 if hangs else 2)
+    inner = indent + len(box.opening) + 1 if hangs else min(indent + 2, DEEPEST)
     lines.put(box.opening, indent)
     opened = box.node.opened if box.closing else box.node.trailing
     for comment in opened:

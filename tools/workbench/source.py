@@ -219,7 +219,8 @@ class Reader:
             return SyntaxFault(self.tokens[0].at, why, mend, "header", len(texts[0]))
         if len(texts) < 2 or texts[1] not in VERSIONS:
             at = self.tokens[1].at if len(texts) > 1 else len(data)
-            return SyntaxFault(at, "behind yampa stands the version, 1 or 2", mend, "header")
+            named = "a file with names, which begins `yampa source 1`, is made one by `yampa expand`"
+            return SyntaxFault(at, "behind yampa stands the version, 1 or 2", f"{mend}; {named}", "header")
         at = self.tokens[2].at if len(texts) > 2 else len(data)
         return SyntaxFault(at, "the word input is missing", "write `input` and the type of the samples", "header")
 
