@@ -5,7 +5,7 @@ import subprocess
 
 from tooling.common import NUMBERS, TOOLS, TOP, in_files, own_folder, tool, want
 
-NEEDS = ["dot", "matplotlib", "hypothesis"]
+NEEDS = ["dot", "matplotlib", "z3"]
 
 SHIM = """#!/bin/bash
 if grep -q "^$1 " {top}/tools/list; then exec {top}/tools/tool "$@"; fi
@@ -39,6 +39,7 @@ CALLS = {
     "batch": ["net", "stream", "--out", "out"],
     "falsify": ["net", "-o", "out"],
     "differ": ["net", "net", "-o", "out"],
+    "prove": ["net", "-o", "out"],
     "compare": ["net", "net"],
     "report": ["net", "stream", "-o", "out"],
     "step": ["net", "stream", "-o", "out"],
@@ -68,13 +69,13 @@ def bad_words_and_files(folder):
 
 def missing_packages_are_told(folder):
     """In one line, with the package's name."""
-    for library in ("matplotlib", "hypothesis"):
+    for library in ("matplotlib", "z3"):
         in_files(folder, **{f"{library}.py": f"raise ImportError(name='{library}')"})
     (net,) = in_files(folder, net=NUMBERS + "(arr (equal x x))")
     calls = {
         "graphviz": tool("draw", net, PATH=""),
         "python3-matplotlib": tool("plot", net, stream="5\n", PYTHONPATH=str(folder)),
-        "python3-hypothesis": tool("falsify", net, PYTHONPATH=str(folder)),
+        "python3-z3": tool("prove", net, PYTHONPATH=str(folder)),
     }
     for package, (status, output, error) in calls.items():
         want(f"without {package}", status == 3 and not output and f"install {package}" in error and error.count("\n") == 1, error)

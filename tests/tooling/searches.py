@@ -6,7 +6,7 @@ from workbench.program import call
 
 from tooling.common import EXAMPLES, NUMBERS, each, in_files, in_folder, own_folder, tool, want
 
-NEEDS = ["hypothesis"]
+NEEDS = ["z3"]
 # The searches are held to the clock: no other module runs beside this one.
 ALONE = True
 
@@ -28,6 +28,7 @@ PLANTED = [
     ("(arr (if (and (less 0 x) (less x 5)) 1 0))", "(arr (if (or (less 0 x) (less x 5)) 1 0))"),
     ("(>>> (arr (less x 5)) edge)", "(>>> (arr (less x 5)) (>>> (iPre false) edge))"),
 ]
+OBSERVED = ("(delay 3 0)", "(after 5 unit)", "(parB time integral)")
 
 
 def planted_faults_are_found(folder):
@@ -37,7 +38,7 @@ def planted_faults_are_found(folder):
         right, wrong = pair
         both = f"(>>> (&&& {right} {wrong}) (arr (equal (fst x) (snd x))))"
         texts = {"right": NUMBERS + right, "wrong": NUMBERS + wrong, "both": NUMBERS + both}
-        return [in_folder((*words, "--seconds", "20"), **texts) for words in (("differ", "right", "wrong"), ("falsify", "both"))]
+        return [in_folder((*words, "--seconds", "20"), **texts) for words in (("differ", "right", "wrong"), ("falsify", "both"))[: 1 + (right in OBSERVED)]]
 
     for (right, wrong), told in each(found, PLANTED):
         nets = in_files(folder, right=NUMBERS + right, wrong=NUMBERS + wrong)
@@ -48,14 +49,43 @@ def planted_faults_are_found(folder):
 
 def observers_are_falsified(folder):
     net = NUMBERS + "(>>> (&&& identity (iPre 0)) (arr (not (equal (add (fst x) (snd x)) 17))))"
-    told = [in_folder(("falsify", "net", "--seconds", "20"), net=net) for _ in range(2)]
-    status, stream, error = told[0]
+    status, stream, error = in_folder(("falsify", "net", "--seconds", "20"), net=net)
     (file,) = in_files(folder, net=net)
     told_false = call(["run", str(file)], stream.encode()).output.endswith(b"false\n")
     want("falsify", status == 1 and "false at line" in error and told_false, stream + error)
-    want("the same seed", told[1][1] == stream, told)
     want("nothing to falsify", in_folder(("falsify", "net", "--seconds", "2"), net=NUMBERS + "(arr (equal x x))")[:2] == (0, ""))
     want("no observer", "an observer outputs Bool" in in_folder(("falsify", "net"), net=NUMBERS + "(arr x)")[2])
+
+
+# What random streams alone find: numbers of the file, stretches of one value, a long stream, steps, a recording that is changed.
+RANDOM = [
+    ("Int", "(arr (not (equal x 7319)))", []),
+    ("Int", "(>>> (loopPre 0 (arr (then (if (less 4 (fst x)) (add (snd x) 1) 0) (pair x x)))) (arr (less x 30)))", []),
+    ("(Event Unit)", "(>>> (accumHoldBy (add (fst x) 1) 0) (arr (less x 900)))", ["--length", "5000"]),
+    ("Bool", "(>>> (>>> (&&& time (>>> time (iPre 0))) (arr (sub (fst x) (snd x)))) (arr (not (equal x 77))))", ["--steps", "1,77"]),
+    ("(Pair Int Int)", "(arr (not (and (equal (fst x) 4242) (less 600 (snd x)))))", ["--from", "recording"]),
+]
+RECORDING = "(pair 1 1)\n+1 (pair 4241 700)\n+1 (pair 5 5)\n"
+
+
+def random_streams_find_them():
+    """Without z3, which is told."""
+    for given, net, words in RANDOM:
+        with own_folder() as folder:
+            in_files(folder, net=f"yampa 1\ninput {given}\n{net}", recording=RECORDING, **{"z3.py": "raise ImportError(name='z3')"})
+            status, stream, error = tool("falsify", "net", "--seconds", "30", *words, folder=folder, PYTHONPATH=str(folder))
+            lines = call(["run", str(folder / "net")], stream.encode()).output.split()
+            want(f"random streams of {net}", status == 1 and lines[-1:] == [b"false"] and b"false" not in lines[:-1], stream[:300] + error)
+            want(f"without z3: {net}", "install python3-z3" in error and "at random alone" in error, error)
+
+
+def nothing_is_passed_that_never_ran():
+    """What the program refuses to run is told, and isn't passed."""
+    rows = [" ".join(f"(arr (less x {64 * row + column}))" for column in range(64)) for row in range(64)]
+    observer = NUMBERS + "(>>> (parB " + " ".join(f"(parB {row})" for row in rows) + ") (arr (equal x x)))"
+    for words in (("falsify", "net"), ("differ", "net", "net"), ("prove", "net")):
+        status, output, error = in_folder((*words, "--seconds", "5"), net=observer)
+        want(f"{words[0]} of what has too many expressions", (status, output) == (1, "") and error == f"yampa {words[0]}: table full\n", output + error)
 
 
 def nothing_is_found(folder):
@@ -68,15 +98,29 @@ def nothing_is_found(folder):
 
     def compared(example):
         other = "fast" if (example / "fast").exists() else "net"
-        return tool("differ", "net", other, "--seconds", "0.5", folder=example)
+        return tool("differ", "net", other, "--seconds", "20", folder=example)
 
-    for name, run in (("falsify", observed), ("differ", compared)):
-        for example, told in each(run, EXAMPLES):
-            want(f"{name} {example.name}", told[:2] == (0, ""), told)
+    for example, told in each(observed, EXAMPLES[::4]):
+        want(f"falsify {example.name}", told[:2] == (0, ""), told)
+    for example, told in each(compared, EXAMPLES[::4]):
+        want(f"differ {example.name}", told[0] == 0 and told[1].startswith("equal on every recording\nby a certificate"), told)
+
+
+# Two networks that are one, for which `yampa certify` finds no certificate.
+EQUAL = ("(loopPre 0 (arr (then (add (fst x) (snd x)) (pair x x))))", "(loopPre 5 (arr (then (add (fst x) (snd x)) (pair (sub x 5) x))))")
+
+
+def equal_networks_are_told():
+    source, target = EQUAL
+    status, output, error = in_folder(("differ", "source", "target", "--seconds", "30"), source=NUMBERS + source, target=NUMBERS + target)
+    want("equal by z3", status == 0 and output.startswith("equal on every recording\nby ") and "so say z3 and an encoding" in output, output + error)
 
 
 def try_all() -> None:
     with own_folder() as folder:
         planted_faults_are_found(folder)
+        random_streams_find_them()
+        nothing_is_passed_that_never_ran()
+        equal_networks_are_told()
         observers_are_falsified(folder)
         nothing_is_found(folder)

@@ -9,6 +9,7 @@ from workbench.source import Node, place, readable
 
 TOKENS = re.compile(rb";[^\n]*|[()]|[^ \t\r\n();]+")
 KEYWORDS = ("include", "record", "def", "input")
+PROPERTIES = ("assume", "guarantee", "invariant")
 
 
 @dataclass(frozen=True)
@@ -163,8 +164,19 @@ class Include:
 
 
 @dataclass
+class Property:
+    """What is said of the network: what is assumed of its input, what it guarantees, or what helps to prove that; its name and tree."""
+
+    kind: str
+    name: Written
+    body: Written
+    comments: list
+
+
+@dataclass
 class Source:
-    """A file's items, its input type, the output type where that is said, and its network; of definitions alone there is none."""
+    """A file's items, its input type, the output type where that is said, its network, and what is said of that; of definitions
+    alone there is none."""
 
     text: Text
     version: str
@@ -173,6 +185,7 @@ class Source:
     input: Written = None
     output: Written = None
     net: Written = None
+    properties: list = field(default_factory=list)
     comments: list = field(default_factory=list)
     left: list = field(default_factory=list)
 
@@ -223,8 +236,15 @@ def network_of(reader: TreeReader, source: Source) -> None:
         source.output = reader.tree()
         source.output.comments = [*comments, *source.output.comments]
     source.net = reader.tree()
+    while named and reader.peek() in PROPERTIES:
+        source.properties.append(property_of(reader))
     if not reader.ended():
         raise reader.fault(reader.tokens[reader.read], "the network is whole before this")
+
+
+def property_of(reader: TreeReader) -> Property:
+    kind = reader.take("a property")
+    return Property(kind.word, reader.word("a name"), reader.tree(), item_comments(kind))
 
 
 def definition(reader: TreeReader) -> Definition:

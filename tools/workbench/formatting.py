@@ -20,6 +20,8 @@ def formatted(name: str, data: bytes) -> bytes:
         lines += [""] * (number == 0 or item.comments[:1] == [""]) + item_lines(item)
     if source.net is not None:
         lines += [""] * bool(source.items) + network_lines(source)
+    for number, one in enumerate(source.properties):
+        lines += [""] * (number == 0 or one.comments[:1] == [""]) + property_lines(one)
     return ("\n".join(line.rstrip(" ") for line in [*lines, *source.left]) + "\n").encode("latin-1")
 
 
@@ -54,6 +56,11 @@ def definition_lines(one) -> list:
     head = f"def ({head})" if one.params else f"def {head}"
     comments = [*top_comments(one.comments), *of_nodes(heads)]
     return [*comments, *headed(head, one.body)]
+
+
+def property_lines(one) -> list:
+    comments = [*top_comments(one.comments), *of_nodes([one.name])]
+    return [*comments, *headed(f"{one.kind} {one.name.word}", one.body)]
 
 
 def headed(head: str, tree: Written) -> list:

@@ -1,166 +1,155 @@
-"""Streams that break what is expected, found by random tests."""
-import random
+"""`yampa falsify` and `yampa differ`: recordings that break what is expected, by z3 and by random tests."""
 import sys
-import time
+from argparse import Namespace
+from typing import Any
 
-from model.trees import GREATEST, is_form, shown
+from model.texts import read_stream
+from model.trees import expanded, shown
+from workbench.batches import Observer, read_recording
 from workbench.comparing import first_difference, said
-from workbench.ending import REFUSED, Refused, Words, ended, missing, write
-from workbench.program import again, call
-from workbench.recording import lines_of, types_of
+from workbench.ending import INTERRUPTED, REFUSED, UNREADABLE, Refused, Words, stream_bytes, write
+from workbench.program import call
+from workbench.proving.contract import contract_of
+from workbench.proving.deciding import Decision, Limits, Verdict, Way, certifying, random_ways, ways_of_z3
+from workbench.proving.question import ALIKE, Pace, Question
+from workbench.proving.words import (
+    NOT_KNOWN,
+    RESTS,
+    Loaded,
+    assumed,
+    limits_of,
+    loaded,
+    numbers,
+    pace_of,
+    whole,
+    with_assumptions,
+    with_limits,
+    with_paces,
+)
+from workbench.streams import Recording, Wishes, stream_text
 
 FALSIFY = """Looks for a stream on which NET outputs `false`. NET outputs a Bool: it is an observer of a property,
 as whether a controller's output stays within its bounds.
 
-Random streams of its input's type are run (values near each other, at the limits and repeated, steps
-short and long). Where one makes it output `false`, that stream is made as short and simple as can be,
-and printed, and on standard error the line at which it happens; the status is 1. Where none is found
-in the time, the status is 0: that is no proof. The same seed tries the same streams."""
+z3 searches the first samples, where it is there (Debian: python3-z3); beside it random streams are run, on
+all processors: numbers that stand in the file and their neighbours, stretches of one value, steps that
+its timers look at, and with --from recordings that are changed a little. Where one makes it output
+`false`, that stream is made as short and simple as can be, and printed, and on standard error the line
+at which it happens; the status is 1. Where none is found in the time, the status is 0: that is no
+proof, and `yampa prove` looks for one. Ctrl-C ends it, and prints the best that was found so far."""
 
-DIFFER = """Looks for a stream on which two networks of the same types write other bytes, and prints it, made as
-short and simple as can be; on standard error stands the line at which they differ, with both outputs.
-The status is then 1, and 0 where none is found in the time: that is no proof, and a certificate is one."""
+DIFFER = """Says whether two networks of the same types write the same bytes on every stream.
 
-LIMITS = [0, 1, -1, GREATEST, -GREATEST - 1, GREATEST - 1, 2**32, 2**31, 2**62, 100, 1000]
-STEPS = [10, 60, 100, 1000, 4096, 2**31, 2**62, GREATEST]
+  equal on every recording      status 0; by a certificate, which is a proof, or by z3, which is none of ours
+  line 3: 2 and 1               status 1; a stream that tells them apart is printed, and this on standard error
+  not known: ..                 status 4; what was searched
 
-
-def strategies():
-    try:
-        from hypothesis import strategies as made
-    except ImportError as error:
-        raise missing("python3-hypothesis", error) from None
-    return made
+`yampa certify` looks for a certificate, z3 for a recording and for a proof, and random streams are run."""
 
 
-def values(st, type_):
-    """Values of a type: numbers mostly small and near each other, some at the limits."""
-    if type_ == "Int":
-        return st.one_of(st.integers(-3, 12), st.integers(-3, 12), st.integers(-50, 300), st.sampled_from(LIMITS))
-    if type_ == "Bool":
-        return st.sampled_from(["false", "true"])
-    if type_ == "Unit":
-        return st.just("unit")
-    if is_form("Pair", type_):
-        return st.tuples(st.just("pair"), values(st, type_[1]), values(st, type_[2]))
-    if is_form("Event", type_):
-        return st.one_of(st.just("none"), st.tuples(st.just("event"), values(st, type_[1])))
-    return st.lists(values(st, type_[1]), max_size=5).map(lambda items: ("list", *items))
-
-
-def streams(st, type_, longest=40):
-    """Texts of streams: now and then a value is the one before."""
-    step = st.one_of(st.just(1), st.integers(1, 5), st.sampled_from(STEPS))
-    value = values(st, type_)
-    line = st.tuples(step, st.one_of(value, value, value, st.none()))
-    return st.tuples(value, st.lists(line, max_size=longest)).map(stream_text)
-
-
-def stream_text(drawn):
-    first, rest = drawn
-    lines = [shown(first)] + [f"+{step} {'=' if value is None else shown(value)}" for step, value in rest]
-    return "\n".join(lines).encode() + b"\n"
-
-
-class Late(Exception):
-    """The time is over."""
-
-
-def found(type_, breaks, seed, seconds):
-    """A stream that breaks what is expected, made simple, or None; and how many streams were run."""
-    st = strategies()
-    from hypothesis import HealthCheck, Phase, find, settings
-    from hypothesis.errors import NoSuchExample
-
-    tried, until, best = [0], time.monotonic() + seconds, []
-
-    def tries(stream):
-        if time.monotonic() > until:
-            raise Late
-        tried[0] += 1
-        if tried[0] % 200 == 0 and sys.stderr.isatty():
-            print(f"\r{tried[0]} streams", end="", file=sys.stderr, flush=True)
-        broken = breaks(stream)
-        if broken:
-            best.append(stream)
-        return broken
-
-    how = settings(
-        max_examples=10_000_000,
-        deadline=None,
-        database=None,
-        phases=(Phase.generate, Phase.shrink),
-        suppress_health_check=list(HealthCheck),
-    )
-    try:
-        return find(streams(st, type_), tries, settings=how, random=random.Random(seed)), tried[0]
-    except (Late, NoSuchExample):
-        return min(best, key=lambda stream: (stream.count(b"\n"), len(stream)), default=None), tried[0]
-    finally:
-        if sys.stderr.isatty():
-            print("\r", end="", file=sys.stderr)
-
-
-def run(net, stream):
-    return call(["run", net], stream).output
-
-
-def searched(name, words, given, type_, breaks, tell):
-    stream, tried = found(type_, breaks, given.seed, given.seconds)
-    if stream is None:
-        print(f"yampa {name}: none found in {tried} streams (seed {given.seed})", file=sys.stderr)
-        return
-    write(given.to, stream)
-    print(f"yampa {name}: {tell(stream)} ({tried} streams, seed {given.seed})", file=sys.stderr)
+def falsify_main() -> None:
+    words = Words("falsify", FALSIFY)
+    words.add_argument("net", metavar="NET")
+    with_assumptions(words)
+    words.add_argument("--from", metavar="STREAM", action="append", default=[], dest="recordings", help="tries recordings like this one")
+    words.add_argument("--length", type=whole(1, 100_000), default=60, metavar="N", help="random streams have at most N samples; 60 where it isn't given")
+    words.add_argument("--steps", type=numbers, metavar="N,N", help="steps are of these alone")
+    words.add_argument("--seed", type=int, default=1, metavar="N", help="another number tries other streams")
+    with_limits(words, 30)
+    given = words.parse_args()
+    contract = contract_of(given.net, loaded(given.net))
+    pace = Pace(given.steps[0] if given.steps and len(given.steps) == 1 else None, max(given.steps) if given.steps else None, None)
+    assuming = assumed(given.assume, contract.loaded.given)
+    question = contract.question(joined([goal.net for goal in contract.goals]), pace, assuming)
+    verdict = searched("falsify", question, limits_of(given), {}, given.seed, wishes_of(given, question))
+    if not verdict.recording:
+        print(f"yampa falsify: none found: {verdict.what_was_searched()} (seed {given.seed})", file=sys.stderr)
+        sys.exit(INTERRUPTED if verdict.interrupted else 0)
+    write(given.to, stream_text(verdict.recording))
+    wrong = [goal.name for goal in contract.goals if goal.name and breaks(contract.question(goal.net, pace, assuming), verdict)]
+    told = f"{' and '.join(wrong)} {'is' if len(wrong) == 1 else 'are'} false" if wrong else "false"
+    print(f"yampa falsify: {told} at line {verdict.sample} ({verdict.streams():,} random streams, seed {given.seed})", file=sys.stderr)
     sys.exit(REFUSED)
 
 
-def with_search(words):
-    words.add_argument("--seed", type=int, default=1, metavar="N", help="another number tries other streams")
-    words.add_argument("--seconds", type=float, default=30, metavar="S", help="how long it looks, 30 where it isn't given")
-    words.add_argument("-o", metavar="FILE", dest="to", help="writes the stream there")
+def joined(goals: list) -> Any:
+    """The network that outputs whether all of these hold."""
+    found = goals[0]
+    for goal in goals[1:]:
+        found = expanded((">>>", ("&&&", found, goal), ("arr", ("and", ("fst", "x"), ("snd", "x")))))
+    return found
 
 
-def falsify_main():
-    words = Words("falsify", FALSIFY)
-    words.add_argument("net", metavar="NET")
-    with_search(words)
-    given = words.parse_args()
-
-    def work():
-        net = again(given.net)
-        into, output = types_of(net)
-        if output != "Bool":
-            raise Refused(f"{given.net}: it outputs {shown(output)}, and an observer outputs Bool")
-
-        def line_of_false(stream):
-            return next((number for number, line in enumerate(lines_of(run(net, stream)), 1) if line == b"false"), None)
-
-        searched("falsify", words, given, into, line_of_false, lambda stream: f"false at line {line_of_false(stream)}")
-
-    ended("falsify", work)
+def breaks(question: Question, verdict: Verdict) -> bool:
+    """Whether a question is false where the verdict's recording ends."""
+    return Observer(question.observer()).first(verdict.recording) == verdict.sample
 
 
-def differ_main():
+def wishes_of(given: Namespace, question: Question) -> Wishes:
+    recordings = tuple(recording_in(name, question) for name in given.recordings)
+    return Wishes(given.length, given.steps, recordings=recordings)
+
+
+def recording_in(name: str, question: Question) -> Recording:
+    """The recording in a file of a stream, whole."""
+    samples, fault = read_stream(stream_bytes(name), question.given)
+    if fault or not samples:
+        raise Refused(f"{name}: {'stream: ' + fault if fault else 'it has no sample'}")
+    return read_recording(samples)
+
+
+def searched(name: str, question: Question, limits: Limits, ways: dict[str, Way], seed: int, wishes: Wishes, proving: bool = False) -> Verdict:
+    """What comes of a question by the given ways, those of z3 and random ones; where z3 isn't there that is told."""
+    try:
+        ways = {**ways, **ways_of_z3(proving)}
+    except Refused as refused:
+        if refused.status != UNREADABLE:
+            raise
+        print(f"yampa {name}: {refused}; so at random alone", file=sys.stderr)
+    verdict = Decision(question, limits, wishes).by({**ways, **random_ways(seed, question, wishes)})
+    if verdict.unfair == 0:
+        raise Refused("no recording keeps to what is assumed: it is false at the first sample, whatever the input")
+    return verdict
+
+
+def differ_main() -> None:
     words = Words("differ", DIFFER)
     words.add_argument("source", metavar="SRC")
     words.add_argument("target", metavar="TGT")
-    with_search(words)
+    with_assumptions(words)
+    with_paces(words, total=None)
+    words.add_argument("--seed", type=int, default=1, metavar="N", help="another number tries other random streams")
+    with_limits(words, 30)
+    words.add_argument("--show", action="store_true", help="prints the invariants")
     given = words.parse_args()
+    source, target = loaded(given.source), loaded(given.target)
+    types = [(one.given, one.output) for one in (source, target)]
+    if types[0] != types[1]:
+        raise Refused("the two networks have other types: " + " and ".join(" -> ".join(map(shown, pair)) for pair in types))
+    assuming, pace = assumed(given.assume, source.given), pace_of(given)
+    question = Question(source.given, (source.net, target.net), ALIKE, assuming, pace=pace)
+    wishes = Wishes(steps=[pace.step] if pace.step else None, most_step=pace.most or 2**63 - 1, lists=pace.lists)
+    certify = {"certify": certifying(source.name, target.name)}
+    verdict = searched("differ", question, limits_of(given), certify, given.seed, wishes, True)
+    sys.exit(told_of_two(verdict, question, source, target, given))
 
-    def work():
-        source, target = again(given.source), again(given.target)
-        types = types_of(source)
-        if types != types_of(target):
-            raise Refused("the two networks have other types: " + " and ".join(" -> ".join(map(shown, types_of(net))) for net in (source, target)))
 
-        def difference(stream):
-            return first_difference(run(source, stream), run(target, stream))
-
-        def tell(stream):
-            number, mine, other = difference(stream)
-            return f"line {number}: {said(mine)} and {said(other)}"
-
-        searched("differ", words, given, types[0], difference, tell)
-
-    ended("differ", work)
+def told_of_two(verdict: Verdict, question: Question, source: Loaded, target: Loaded, given: Namespace) -> int:
+    """Says what is known of two networks, and answers the status."""
+    if verdict.recording:
+        stream = stream_text(verdict.recording)
+        write(given.to, stream)
+        number, mine, other = first_difference(*[call(["run", net.name], stream).output for net in (source, target)])
+        print(f"yampa differ: line {number}: {said(mine)} and {said(other)}", file=sys.stderr)
+        return REFUSED
+    if verdict.certified:
+        print(f"equal on every recording\nby {verdict.certified}: proved")
+        return 0
+    if verdict.holds:
+        print(f"equal on every recording{' that keeps to what is assumed' if question.assumed else ''}{question.told()}")
+        print(f"by {verdict.holds.told()}: {RESTS}; {verdict.searched.get('certify', '`yampa certify` had not ended')}")
+        for line in verdict.holds.invariants if given.show else []:
+            print(f"  {line}")
+        return 0
+    print(f"not known: {verdict.what_was_searched()}")
+    return INTERRUPTED if verdict.interrupted else NOT_KNOWN

@@ -1,0 +1,111 @@
+"""Recordings from the first sample on: whether one of so many samples makes the goal false."""
+import time
+from typing import Any, Optional
+
+import z3
+
+from model.trees import shown
+from workbench.proving.system import System
+from workbench.proving.terms import Leaf, Terms, both, formula, is_known, is_truth, negation
+from workbench.proving.values import decoded, mapped
+
+DEPTHS = (1, 2, 4, 8, 12, 16, 24, 32, 48, 64, 96, 128, 192, 256, 384, 512, 768, 1024, 2048)
+
+
+class Unknown(Exception):
+    """z3 doesn't know, or not in time."""
+
+
+def solver_of(terms: Terms, until: float) -> z3.Solver:
+    """A solver for these terms, which ends by itself at that time."""
+    left = until - time.monotonic()
+    if left <= 0:
+        raise Unknown
+    logic = "QF_UFBV" if terms.named else "QF_BV"
+    solver = z3.SolverFor(logic) if terms.width else z3.Solver()
+    solver.set("timeout", max(1, int(min(left, 100_000) * 1000)))
+    return solver
+
+
+def satisfied(solver: z3.Solver) -> bool:
+    result = solver.check()
+    if result == z3.unknown:
+        raise Unknown
+    return result == z3.sat
+
+
+def known(model: z3.ModelRef, leaf: Leaf) -> Any:
+    """What a leaf is in a model."""
+    if is_known(leaf):
+        return leaf
+    found = model.eval(leaf, model_completion=True)
+    if is_truth(found):
+        return z3.is_true(found)
+    return found.as_signed_long() if z3.is_bv(found) else found.as_long()
+
+
+class Unrolling:
+    """The samples of any recording, one behind the other; a strict one is wrong too where a number leaves 64 bits."""
+
+    def __init__(self, system: System, strict: bool = False):
+        self.system, self.state, self.strict = system, system.start, strict
+        self.samples: list = []
+        self.bounds: list = []
+        self.broken: list = []
+        self.fair: Leaf = True
+
+    def extend(self, count: int, until: float) -> None:
+        while len(self.samples) < count:
+            if time.monotonic() > until:
+                raise Unknown
+            step, sample, bounds = self.system.sample(str(len(self.samples)), not self.samples)
+            frame = self.system.step(self.state, step, sample)
+            self.state = frame.state
+            self.bounds += bounds
+            self.fair = both(self.fair, frame.fair)
+            wrong = negation(both(frame.good, frame.inside)) if self.strict else both(frame.inside, negation(frame.good))
+            self.broken.append(both(self.fair, wrong))
+            self.fair = both(self.fair, frame.inside)
+            self.samples.append((step, sample))
+
+    def search(self, first: int, count: int, until: float) -> Optional[bytes]:
+        """A recording on which the goal is false at a sample from the first on, before that number; or None."""
+        self.extend(count, until)
+        broken = self.broken[first:count]
+        if all(leaf is False for leaf in broken):
+            return None
+        solver = self.solver(until)
+        solver.add(z3.Or([formula(leaf) for leaf in broken]))
+        if not satisfied(solver):
+            return None
+        model = solver.model()
+        at = next(number for number, leaf in enumerate(broken, first) if known(model, leaf))
+        return self.recording(model, at + 1)
+
+    def is_fair(self, count: int, until: float) -> bool:
+        """Whether there is a recording of so many samples on which all that is assumed holds."""
+        self.extend(count, until)
+        solver = self.solver(until)
+        solver.add(formula(self.fair))
+        return satisfied(solver)
+
+    def solver(self, until: float) -> z3.Solver:
+        solver = solver_of(self.system.terms, until)
+        for bound in self.bounds:
+            solver.add(formula(bound))
+        return solver
+
+    def recording(self, model: z3.ModelRef, count: int) -> bytes:
+        lines = []
+        for number, (step, sample) in enumerate(self.samples[:count]):
+            value = decoded(mapped(lambda leaf: known(model, leaf), sample), self.system.question.given)
+            lines.append((f"+{known(model, step)} " if number else "") + shown(value))
+        return "\n".join(lines).encode() + b"\n"
+
+
+def fair_samples(system: System, most: int, until: float) -> int:
+    """How many samples a recording on which all that is assumed holds can have, at most so many."""
+    for count in range(most, 0, -1):
+        if Unrolling(system).is_fair(count, until):
+            return count
+    return 0

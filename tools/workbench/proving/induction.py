@@ -1,0 +1,72 @@
+"""Proofs by induction over the samples: from any state, with what is known to hold of the states."""
+from dataclasses import dataclass
+from typing import Callable, Optional
+
+import z3
+
+from workbench.proving.bounded import Unknown, known, satisfied, solver_of
+from workbench.proving.system import System
+from workbench.proving.terms import Leaf, both, formula, negation
+
+
+@dataclass(frozen=True)
+class Candidate:
+    """What may hold of each state: in words, and as a truth of the state's leaves. An equality has the leaf's place and what it is
+    equal to: another place, or where it is fixed that value."""
+
+    told: str
+    of: Callable[[list], Leaf]
+    equal: Optional[tuple] = None
+    fixed: bool = False
+
+    def weaker(self, after: list, value: Callable[[Leaf], int]) -> Optional["Candidate"]:
+        """What may still hold where this doesn't, by the values of a model."""
+        return None
+
+
+def is_inductive(system: System, depth: int, invariants: list[Candidate], until: float) -> bool:
+    """Whether the goal holds at a sample where it held at so many before, all from a state with these invariants."""
+    state, bounds = system.unknown("state")
+    solver = solver_of(system.terms, until)
+    for number in range(depth + 1):
+        step, sample, more = system.sample(f"step{number}", False)
+        held = [candidate.of(system.leaves(state)) for candidate in invariants]
+        frame = system.step(state, step, sample)
+        good = both(frame.good, frame.inside)
+        wanted = good if number < depth else negation(good)
+        for leaf in [*bounds, *more, *held, frame.fair, frame.known, wanted]:
+            solver.add(formula(leaf))
+        state, bounds = frame.state, []
+    return not satisfied(solver)
+
+
+def kept(system: System, candidates: list[Candidate], until: float) -> list[Candidate]:
+    """Those of the candidates that hold behind the first sample, and behind each sample where all of them held before."""
+    step, sample, bounds = system.sample("first", True)
+    frame = system.step(system.start, step, sample)
+    found = pruned(system, candidates, [*bounds, frame.fair, frame.known], None, system.leaves(frame.state), until)
+    state, lengths = system.unknown("state")
+    step, sample, bounds = system.sample("next", False)
+    frame = system.step(state, step, sample)
+    return pruned(system, found, [*lengths, *bounds, frame.fair, frame.known], system.leaves(state), system.leaves(frame.state), until)
+
+
+def pruned(system: System, candidates: list, given: list, before: Optional[list], after: list, until: float) -> list:
+    """Drops what a model refutes until none does."""
+    terms: dict = {candidate: candidate.of(after) for candidate in candidates}
+    left = [candidate for candidate in candidates if terms[candidate] is not False]
+    while True:
+        terms = {candidate: terms[candidate] if candidate in terms else candidate.of(after) for candidate in left}
+        open_ = [candidate for candidate in left if terms[candidate] is not True]
+        if not open_:
+            return left
+        solver = solver_of(system.terms, until)
+        for leaf in [*given, *([candidate.of(before) for candidate in left] if before else [])]:
+            solver.add(formula(leaf))
+        solver.add(z3.Or([formula(negation(terms[candidate])) for candidate in open_]))
+        if not satisfied(solver):
+            return left
+        model = solver.model()
+        refuted = {candidate for candidate in open_ if not known(model, terms[candidate])}
+        weaker = [candidate.weaker(after, lambda leaf: known(model, leaf)) for candidate in left if candidate in refuted]
+        left = [candidate for candidate in left if candidate not in refuted] + [candidate for candidate in weaker if candidate]

@@ -1,0 +1,230 @@
+"""What may hold of a system's states: guessed from the states of random recordings, by templates."""
+import random
+from dataclasses import dataclass
+from functools import cached_property
+from itertools import combinations, permutations
+from typing import Any, Iterator, Optional
+
+from workbench.proving.induction import Candidate
+from workbench.proving.system import System
+from workbench.proving.terms import Leaf, Terms, both, either, implied, negation
+from workbench.proving.values import encoded
+from workbench.streams import Streams, Wishes
+
+RUNS, LENGTH, ROWS, SEED = 40, 100, 1_500, 7
+GROUP, FEW, MODES, MOST, RAISED = 40, 12, 24, 4_000, 12
+
+
+@dataclass(frozen=True)
+class Bound(Candidate):
+    """A candidate with a number that may be raised."""
+
+    raise_: Any = None
+
+    def weaker(self, after: list, value: Any) -> Optional[Candidate]:
+        return self.raise_(after, value)
+
+
+def simulated(system: System) -> list[tuple]:
+    """The leaves of states behind samples of random recordings, each state once."""
+    question, pace = system.question, system.pace
+    wishes = Wishes(LENGTH, [pace.step] if pace.step else None, pace.most or 2**63 - 1, pace.lists)
+    streams = Streams(question.given, question.numbers, random.Random(SEED), wishes)
+    rows: dict[tuple, None] = {}
+    for _ in range(RUNS):
+        state = system.start
+        for number, (step, value) in enumerate(streams.recording()):
+            step = 0 if number == 0 else step if system.timed else 1
+            frame = system.step(state, step, encoded(value.value, question.given))
+            state = frame.state
+            if frame.fair is not True or frame.inside is not True:
+                break
+            rows[tuple(system.leaves(state))] = None
+        if len(rows) > ROWS:
+            break
+    return list(rows)
+
+
+@dataclass(frozen=True, eq=False)
+class Quantity:
+    """A number of each row: that of a leaf, or where `total` is one, that one's without it."""
+
+    name: str
+    column: tuple
+    place: int
+    total: Optional[int] = None
+
+    def of(self, terms: Terms, s: list) -> Leaf:
+        return s[self.place] if self.total is None else terms.minus(s[self.total], s[self.place])
+
+
+class Templates:
+    """The candidates that some states leave."""
+
+    def __init__(self, system: System, rows: list[tuple]):
+        self.terms: Terms = system.terms
+        self.names, self.truths = system.names(), system.truths
+        self.columns = list(zip(*rows)) or [()] * len(self.names)
+        self.numbers = sorted({number + by for number in [0, *system.question.numbers] for by in (-1, 0, 1)})
+        self.far = 4 * sum(abs(number) for number in system.question.numbers if abs(number) < 2**20) + 16
+        self.rows = range(len(rows))
+        self.distances: dict = {}
+        self.farthest: dict = {}
+        groups: dict = {}
+        for place, column in enumerate(self.columns):
+            groups.setdefault((self.truths[place], column), []).append(place)
+        self.groups = list(groups.values())
+        varied = [place for place in range(len(self.truths)) if place not in system.learned and len(set(self.columns[place])) > 1]
+        last = len(self.truths) - 1
+        self.total = system.stands_for(last)
+        self.ints = [place for place in varied if not self.truths[place]]
+        self.bools = [place for place in varied if self.truths[place]]
+
+    def equal_leaves(self) -> list[Candidate]:
+        """All pairs that were always equal, of many the first with each other one; and what was always the same."""
+        found = []
+        for group in self.groups:
+            pairs = combinations(group, 2) if len(group) <= GROUP else ((group[0], other) for other in group[1:])
+            for one, other in pairs:
+                told = f"{self.names[one]} = {self.names[other]}"
+                found.append(Candidate(told, lambda s, i=one, j=other: self.terms.equal(s[i], s[j]), (one, other)))
+        for place, column in enumerate(self.columns):
+            if len(set(column)) == 1:
+                told = f"{self.names[place]} = {said(column[0])}"
+                found.append(Candidate(told, lambda s, i=place, c=column[0]: self.terms.equal(s[i], c), (place, column[0]), True))
+        return found
+
+    def others(self) -> list[Candidate]:
+        """Bounds, differences, and the same in modes."""
+        found = [*self.bounds(), *self.differences(), *self.in_modes()]
+        return found[:MOST]
+
+    def bounds(self) -> Iterator[Candidate]:
+        for place in self.ints:
+            values = sorted(set(self.columns[place]))
+            yield from self.bounded(place, values, "", lambda s: True)
+            if 1 < len(values) <= FEW:
+                told = f"{self.names[place]} is one of {', '.join(map(said, values))}"
+                yield Candidate(told, lambda s, i=place, vs=values: self.one_of(s[i], vs))
+
+    def one_of(self, leaf: Leaf, values: list) -> Leaf:
+        found: Leaf = False
+        for value in values:
+            found = either(found, self.terms.equal(leaf, value))
+        return found
+
+    def bounded(self, place: int, values: Any, told: str, given: Any) -> Iterator[Candidate]:
+        """The numbers of the file that bound a leaf where something is given, and more closely so than everywhere."""
+        terms, least, most = self.terms, min(values), max(values)
+        everywhere = (min(self.columns[place]), max(self.columns[place])) if told else (least - 1, most + 1)
+        below = [number for number in self.numbers if everywhere[0] < number <= least or number <= least and not told][-2:]
+        above = [number for number in self.numbers if most <= number < everywhere[1] or number >= most and not told][:2]
+        for number in below:
+            yield Candidate(f"{told}{self.names[place]} >= {number}", lambda s, c=number: implied(given(s), negation(terms.less(s[place], c))))
+        for number in above:
+            yield Candidate(f"{told}{self.names[place]} <= {number}", lambda s, c=number: implied(given(s), negation(terms.less(c, s[place]))))
+
+    @cached_property
+    def pairs(self) -> list[tuple["Quantity", "Quantity"]]:
+        """What is compared: numbers, and of each how long ago its time is, as a start is of a duration."""
+        plain = [Quantity(self.names[place], self.columns[place], place) for place in self.ints]
+        since = [self.ago(place) for place in self.ints if place != self.total and self.total in self.ints]
+        mixed = [(one, other) for one in plain for other in since if one.place not in (other.place, self.total)]
+        return [*permutations(plain, 2), *mixed, *[(other, one) for one, other in mixed]]
+
+    def ago(self, place: int) -> "Quantity":
+        """The sum of all steps without a number."""
+        column = tuple(now - then for now, then in zip(self.columns[self.total], self.columns[place]))
+        return Quantity(f"({self.names[self.total]} - {self.names[place]})", column, place, self.total)
+
+    def differences(self) -> Iterator[Candidate]:
+        for pair in self.pairs:
+            yield from self.apart(pair, self.rows, "", lambda s: True)
+
+    def apart(self, pair: tuple, rows: Any, told: str, given: Any) -> Iterator[Candidate]:
+        """How far two numbers are apart where something is given, if nearer than everywhere, and not too far."""
+        apart = self.distance(pair)
+        most = max(apart[row] for row in rows)
+        if told and most == self.farthest[pair] or not -self.far <= most <= self.far:
+            return
+        yield self.within(pair, most, told, given, 0)
+
+    def within(self, pair: tuple, most: int, told: str, given: Any, raised: int) -> Candidate:
+        """That one number is at most so much greater than another; what a model refutes is raised a few times."""
+        terms, (one, other) = self.terms, pair
+
+        def holds(s: list) -> Leaf:
+            first, second = one.of(terms, s), other.of(terms, s)
+            if most == 0:
+                return implied(given(s), negation(terms.less(second, first)))
+            return implied(given(s), negation(terms.less(most, terms.minus(first, second))))
+
+        def weaker(after: list, value: Any) -> Optional[Candidate]:
+            more = value(one.of(terms, after)) - value(other.of(terms, after))
+            if raised == RAISED or not most < more <= self.far:
+                return None
+            return self.within(pair, more, told, given, raised + 1)
+
+        return Bound(f"{told}{one.name} - {other.name} <= {most}", holds, raise_=weaker)
+
+    def distance(self, pair: tuple) -> list[int]:
+        """How far two numbers are apart in each row."""
+        if pair not in self.distances:
+            self.distances[pair] = [a - b for a, b in zip(pair[0].column, pair[1].column)]
+            self.farthest[pair] = max(self.distances[pair])
+        return self.distances[pair]
+
+    def modes(self) -> list[tuple]:
+        """A truth with what it is, or a number that is one of few; each with its rows."""
+        places = [*self.bools, *[place for place in self.ints if len(set(self.columns[place])) <= FEW]]
+        rows: dict = {}
+        for place in places:
+            for number, value in enumerate(self.columns[place]):
+                rows.setdefault((place, value), []).append(number)
+        return sorted(rows.items(), key=lambda item: item[0])
+
+    def in_modes(self) -> Iterator[Candidate]:
+        modes = self.modes()
+        for mode, rows in modes:
+            yield from self.in_mode([mode], rows)
+        if len(modes) <= MODES:
+            for (first, rows), (second, others) in combinations(modes, 2):
+                rows = sorted({*rows} & {*others})
+                if first[0] != second[0] and rows:
+                    yield from self.apart_in([first, second], rows)
+
+    def in_mode(self, modes: list[tuple], rows: list[int]) -> Iterator[Candidate]:
+        given, told = self.given(modes), self.told(modes)
+        for place in [*self.bools, *self.ints]:
+            values = {self.columns[place][row] for row in rows}
+            if place == modes[0][0]:
+                continue
+            if len(values) == 1:
+                known = values.pop()
+                yield Candidate(f"{told}{self.names[place]} = {said(known)}", lambda s, i=place, c=known: implied(given(s), self.terms.equal(s[i], c)))
+            elif place in self.ints:
+                yield from self.bounded(place, values, told, given)
+        yield from self.apart_in(modes, rows)
+
+    def apart_in(self, modes: list[tuple], rows: list[int]) -> Iterator[Candidate]:
+        for pair in self.pairs:
+            if all(mode not in (pair[0].place, pair[1].place) for mode, _ in modes):
+                yield from self.apart(pair, rows, self.told(modes), self.given(modes))
+
+    def given(self, modes: list[tuple]) -> Any:
+        """Whether a state is in these modes."""
+
+        def holds(s: list) -> Leaf:
+            found: Leaf = True
+            for place, value in modes:
+                found = both(found, self.terms.equal(s[place], value))
+            return found
+
+        return holds
+
+    def told(self, modes: list[tuple]) -> str:
+        return "where " + " and ".join(f"{self.names[place]} is {said(value)}" for place, value in modes) + ": "
+
+
+def said(value: Any) -> str:
+    return str(value).lower()

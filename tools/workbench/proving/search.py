@@ -1,0 +1,174 @@
+"""The ways to answer a question, run side by side: bounded search, induction, unbounded integers."""
+from dataclasses import replace
+from typing import Callable, Optional
+
+import z3
+
+from workbench.proving.bounded import DEPTHS, Unknown, Unrolling, fair_samples
+from workbench.proving.induction import Candidate, is_inductive, kept
+from workbench.proving.integers import Horn
+from workbench.proving.mining import Templates, simulated
+from workbench.proving.question import Pace
+from workbench.proving.system import System
+from workbench.proving.terms import Terms
+from workbench.proving.told import Holds, Search, Searched, Unfair, Wrong
+
+SPARE_BITS, LATER, FIRST_SAMPLES = 4, 2**40, 6
+WITHIN = " over integers, of which none leaves 64 bits"
+
+
+# ---- a recording on which it is false
+
+
+def looked_into(search: Search, system: System, until: float, told: str) -> Optional[bytes]:
+    """A recording from the first sample on, ever longer; what was searched is told."""
+    unrolling, clear = Unrolling(system), 0
+    for depth in DEPTHS:
+        depth = min(depth, search.depth)
+        try:
+            found = unrolling.search(clear, depth, until)
+        except Unknown:
+            return None
+        if found:
+            return found
+        clear = depth
+        search.tell(Searched(told, f"none up to {clear} sample{'s' * (clear != 1)}{told}"))
+        if clear == search.depth:
+            return None
+    return None
+
+
+def paces(search: Search) -> list[Pace]:
+    """Steps of one first, which are easier, then any."""
+    pace, question = search.question.pace, search.question
+    return [pace] if pace.step or not question.timed else [replace(pace, step=1), pace]
+
+
+def told_steps(search: Search, pace: Pace) -> str:
+    one = len(paces(search)) == 2 and pace.step == 1
+    return " with steps of 1" if one else " with any steps" if len(paces(search)) == 2 else ""
+
+
+def by_narrow_numbers(search: Search) -> None:
+    """Numbers of few bits are searched faster; the program tells whether what is found holds of 64."""
+    numbers = [abs(number) for number in search.question.numbers if abs(number) < LATER]
+    width = max([8, *[number.bit_length() for number in numbers]]) + SPARE_BITS
+    for bits in (width, 2 * width):
+        for pace in paces(search):
+            system = System(search.question, Terms(min(bits, 64)), pace)
+            found = looked_into(search, system, search.by(0.4), f" with numbers of {min(bits, 64)} bits{told_steps(search, pace)}")
+            if seen(search, found):
+                return
+
+
+def by_all_bits(search: Search) -> None:
+    for pace in paces(search):
+        share = 0.5 if pace != search.question.pace else 1.0
+        found = looked_into(search, System(search.question, Terms(), pace), search.by(share), told_steps(search, pace))
+        if seen(search, found):
+            return
+
+
+# ---- a proof
+
+
+def by_induction(search: Search) -> None:
+    """Over numbers that wrap, first with products of unknown numbers as a function of which nothing is known."""
+    system = System(search.question, Terms())
+    if not keeps_to_it(search, system):
+        return
+    rows = simulated(system)
+    for named, share in ((True, 0.6), (False, 1.0)):
+        terms = Terms(named=named)
+        if proved(search, System(search.question, terms), rows, search.by(share)) or not terms.uses_function:
+            return
+
+
+def by_integers(search: Search) -> None:
+    """Over integers, of which it is proved that none leaves 64 bits; recordings that are found so are plausible ones."""
+    system = System(search.question, Terms(None))
+    if not keeps_to_it(search, system):
+        return
+    if not proved(search, System(search.question, Terms(None)), simulated(system), search.by(0.6)):
+        seen(search, looked_into(search, system, search.until, " where no number leaves 64 bits"))
+
+
+def by_spacer(search: Search) -> None:
+    """Over integers too; z3 finds the invariants."""
+    system = System(search.question, Terms(None))
+    if keeps_to_it(search, system):
+        horn = Horn(system, search.until)
+        if horn.holds():
+            search.tell(Holds("Spacer" + WITHIN, [horn.invariant()]))
+        else:
+            search.tell(Searched("spacer", "Spacer finds none"))
+
+
+def keeps_to_it(search: Search, system: System) -> bool:
+    """Whether some recording keeps to what is assumed; how short all are is told."""
+    if not search.question.assumed:
+        return True
+    try:
+        count = fair_samples(system, FIRST_SAMPLES, search.by(0.3))
+    except Unknown:
+        return True
+    if count < FIRST_SAMPLES:
+        search.tell(Unfair(count))
+    return count > 0
+
+
+def proved(search: Search, system: System, rows: list, until: float) -> bool:
+    """Tries induction from any state: bare, with equal leaves, with all that is guessed. What is proved is told."""
+    try:
+        if by_depths(search, system, (0, 1), [], until):
+            return True
+        equal = kept(system, Templates(system, rows).equal_leaves(), until)
+        for candidate in equal:
+            system.learn(candidate.equal, candidate.fixed)
+        if equal and by_depths(search, system, (0, 1), equal, until):
+            return True
+        others = Templates(system, rows).others()
+        invariants = equal + kept(system, others, until)
+        search.tell(Searched("induction", f"induction with {len(invariants)} invariants of {len(equal) + len(others)} guessed"))
+        return by_depths(search, system, (0, 1, 2, 4, 8), invariants, until)
+    except Unknown:
+        return False
+
+
+def by_depths(search: Search, system: System, depths: tuple, invariants: list[Candidate], until: float) -> bool:
+    """Whether induction over one of these numbers of samples and one more decides it."""
+    for depth in depths:
+        if not is_inductive(system, depth, invariants, until):
+            continue
+        terms = Terms(system.terms.width)
+        found = Unrolling(System(search.question, terms), strict=True).search(0, depth + 1, search.until)
+        if found:
+            return seen(search, found)
+        within = "" if terms.width else WITHIN
+        search.tell(Holds(f"induction over {depth + 1} sample{'s' * (depth > 0)}{within}", [one.told for one in invariants]))
+        return True
+    return False
+
+
+def seen(search: Search, found: Optional[bytes]) -> bool:
+    """Whether a recording is found that the program confirms, which is told."""
+    if not found or not search.confirmed(found):
+        return False
+    search.tell(Wrong(found))
+    return True
+
+
+def unless_unknown(way: Callable[[Search], None]) -> Callable[[Search], None]:
+    """A way that ends where z3 gives up."""
+
+    def run(search: Search) -> None:
+        try:
+            way(search)
+        except (Unknown, z3.Z3Exception):
+            return
+
+    return run
+
+
+REFUTING = {"narrow": unless_unknown(by_narrow_numbers), "bits": unless_unknown(by_all_bits)}
+PROVING = {**REFUTING, "induction": unless_unknown(by_induction), "integers": unless_unknown(by_integers), "spacer": unless_unknown(by_spacer)}
