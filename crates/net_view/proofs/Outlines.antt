@@ -1,42 +1,161 @@
--- The rows of an outline, a position after the other.
-use Rattle.std.proofs.Common.{◌≡◌, ℕ, ◌+◌, ◌<◌, ◌≤◌, List, [], ◌∷◌, ◌++◌, map, length, take, get_or, sym, ap, ◌∙◌, subst}
+-- The rows of an outline: types on the way down, and a tree behind what is inside the one before.
+use Rattle.std.proofs.Common.{◌≡◌, ℕ, ◌+◌, List, [], ◌∷◌, ◌++◌, map, Option, Some, None, option_map, refl, sym, ap, ◌∙◌, subst, append_assoc}
 use Rattle.std.specs.List.{All}
-use Rattle.std.proofs.lemmas.List.{map-append, take_more, take_all}
-use Rattle.std.proofs.lemmas.List.Elements.{All-push}
+use Rattle.std.proofs.lemmas.List.{append-nil, map-append}
+use Rattle.std.proofs.lemmas.List.Elements.{All-nil, All-cons, All-append, All-weaker}
+use Rattle.std.proofs.lemmas.Option.{none-some, same_Some}
+use Rattle.sample_core.specs.TypeTree.{TypeTree}
+use Rattle.leaf_core.specs.Expression.{Expression}
+use Rattle.leaf_core.specs.Parts.{part}
+use Rattle.leaf_core.specs.PartWalk.{part_input, part_type_at}
+use Rattle.net_tree.specs.Place.{◌>>=◌, Tree, a_network, a_leaf}
+use Rattle.net_syntax.specs.Placed.{Placed, placed, placed_at}
+use Rattle.net_syntax.specs.Standing.{Standing, alone, TypeAt}
+use Rattle.net_syntax.specs.StandingWalk.{taking, output_in, type_walk_at}
+use Rattle.net_syntax.specs.StandingWalk as W
+use Rattle.net_syntax.proofs.FoundTypes.{type_there, nothing_stands}
 use Rattle.net_meaning.specs.TypedNetwork.{TypedNetwork}
-use Rattle.net_view.specs.Listed.{IsThere, IsAtOrBelow, ArePositions}
+use Rattle.net_meaning.specs.NetworkLimits.{WithinLimits}
+use Rattle.net_opt.specs.Walk.{Reached}
+use Rattle.net_opt.proofs.Insides.{inside}
+use Rattle.net_opt.proofs.Walked.{found_inside, reached_root, reached_inside}
+use Rattle.net_view.specs.Listed.{IsInside}
 use Rattle.net_view.specs.Rows.{OutlinedRow, row_of, IsRow, IsOutline}
+use Rattle.net_view.specs.Walked.{inside_tree, IsWalked, IsRowBelow, AddsRows}
 use Rattle.net_view.specs.declared.rows.OutlineRow.{OutlineRow}
+use Rattle.net_view.proofs.Paths.{IsUpTo, inside_at, paths_begin, paths_more, paths_end, found_positions}
 
--- the positions of rows
-abbrev pub positions_of : List OutlineRow → List (List ℕ)
-positions_of rows = map (λ r. r.position) (map row_of rows)
+-- what a stage gets behind a network that stands there
+pub got_behind : (S : Standing) (o : Option TypeTree) → option_map (λ (s : Standing). s.input) (o >>= (λ A. option_map (λ Q. taking Q A) (Some S))) ≡ o
+got_behind S None = refl
+got_behind S (Some A) = refl
 
--- something stands at a position that is listed
-pub there_item : (t : TypedNetwork) (p : List ℕ) (ps items : List (List ℕ)) (i : ℕ) (q : List ℕ) → ArePositions t p ps → items ≡ ps → i < length items
-    → q ≡ get_or items i q → IsThere t q
-there_item t p ps items i q all e lt is =
-    let each : All (λ z. IsAtOrBelow p z × IsThere t z) items = subst (All (λ z. IsAtOrBelow p z × IsThere t z)) (sym e) all.each in
-    subst (IsThere t) (sym is) (each i q lt).1
+-- the types below what is inside a tree are those below the tree
+leaf_walk : (S R : Standing) (e : Expression) (k : ℕ) (v : Tree Expression) (q : List ℕ) (o : Option Expression) (i : Option TypeTree) → part e k ≡ o
+    → part_input S.params S.input e k ≡ i → option_map a_leaf o ≡ Some v → option_map (taking S) i ≡ Some R → part_type_at S.params S.input e (k ∷ q) ≡ type_walk_at R v q
+leaf_walk S R e k v q None i a b h j = absurd (none-some v h)
+leaf_walk S R e k v q (Some c) None a b h j = absurd (none-some R j)
+leaf_walk S R e k v q (Some c) (Some B) a b h j =
+    let found : part_type_at S.params S.input e (k ∷ q) ≡ part_type_at S.params B c q = simp (a, b) refl in
+    let at : taking S B ≡ R = same_Some (taking S B) R j in
+    let is : a_leaf c ≡ v = same_Some (a_leaf c) v h in
+    found ∙ ap (λ z. type_walk_at z (a_leaf c) q) at ∙ ap (λ z. type_walk_at R z q) is
 
--- a row more
-mapped_more : (rows now : List OutlineRow) (row : OutlineRow) → now ≡ rows ++ row ∷ [] → map row_of now ≡ map row_of rows ++ row_of row ∷ []
-mapped_more rows now row e = ap (map row_of) e ∙ map-append row_of rows (row ∷ [])
+walk_inside : (S R : Standing) (u v : Tree Expression) (k : ℕ) (q : List ℕ) → inside u k ≡ Some v → inside_tree S u k ≡ Some R
+    → type_walk_at S u (k ∷ q) ≡ type_walk_at R v q
+walk_inside S R (a_network f) v k q h j =
+    ap (λ o. o >>= (λ c. W.inside S f k >>= (λ Q. type_walk_at Q c q))) h ∙ ap (λ o. o >>= (λ Q. type_walk_at Q v q)) j
+walk_inside S R (a_leaf e) v k q h j = leaf_walk S R e k v q (part e k) (part_input S.params S.input e k) refl refl h j
 
-pub positions_more : (items : List (List ℕ)) (i : ℕ) (q : List ℕ) (rows now : List OutlineRow) (row : OutlineRow) → i < length items → q ≡ get_or items i q
-    → positions_of rows ≡ take i items → now ≡ rows ++ row ∷ [] → row.position ≡ q → positions_of now ≡ take (i + 1) items
-positions_more items i q rows now row lt is before e at =
-    ap (map (λ (r : OutlinedRow). r.position)) (mapped_more rows now row e) ∙ map-append (λ (r : OutlinedRow). r.position) (map row_of rows) (row_of row ∷ [])
-    ∙ ap (λ z. z ++ row.position ∷ []) before ∙ ap (λ (z : List ℕ). take i items ++ z ∷ []) (at ∙ is) ∙ sym (take_more items i q lt)
+leaf_nowhere : (S : Standing) (e : Expression) (k : ℕ) (v : Tree Expression) (o : Option Expression) (i : Option TypeTree) → part e k ≡ o
+    → part_input S.params S.input e k ≡ i → option_map a_leaf o ≡ Some v → option_map (taking S) i ≡ None → part_type_at S.params S.input e (k ∷ []) ≡ None
+leaf_nowhere S e k v None i a b h j = absurd (none-some v h)
+leaf_nowhere S e k v (Some c) None a b h j = simp (a, b) refl
+leaf_nowhere S e k v (Some c) (Some B) a b h j = absurd (none-some (taking S B) (sym j))
 
-pub rows_more : (t : TypedNetwork) (rows now : List OutlineRow) (row : OutlineRow) → All (IsRow t) (map row_of rows) → now ≡ rows ++ row ∷ [] → IsRow t (row_of row)
-    → All (IsRow t) (map row_of now)
-rows_more t rows now row all e is = subst (All (IsRow t)) (sym (mapped_more rows now row e)) (All-push (IsRow t) (map row_of rows) (row_of row) all is)
+walk_nowhere : (S : Standing) (u v : Tree Expression) (k : ℕ) → inside u k ≡ Some v → inside_tree S u k ≡ None → type_walk_at S u (k ∷ []) ≡ None
+walk_nowhere S (a_network f) v k h j =
+    ap (λ o. o >>= (λ c. W.inside S f k >>= (λ Q. type_walk_at Q c []))) h ∙ ap (λ o. o >>= (λ Q. type_walk_at Q v [])) j
+walk_nowhere S (a_leaf e) v k h j = leaf_nowhere S e k v (part e k) (part_input S.params S.input e k) refl refl h j
+
+-- the walk begins at the root, and goes on inside what it has come to
+pub walked_root : (t : TypedNetwork) (p : List ℕ) (S : Standing) (c : Placed) → WithinLimits t → p ≡ [] → S ≡ alone t.input → c ≡ placed 0 0 (a_network t.net) → IsWalked p S c
+walked_root t p S c w at stands is =
+    subst (λ z. IsWalked z S c) (sym at) (subst (λ z. IsWalked [] z c) (sym stands) (subst (IsWalked [] (alone t.input)) (sym is) (t, reached_root t w, λ q. refl)))
+
+pub walked_inside : (p r : List ℕ) (k : ℕ) (S R : Standing) (c d : Placed) → r ≡ p ++ k ∷ [] → IsWalked p S c → placed_at c.params c.olds c.tree (k ∷ []) ≡ Some d
+    → inside_tree S c.tree k ≡ Some R → IsWalked r R d
+walked_inside p r k S R c d way w found stands =
+    let t = w.0 in (
+      t,
+      subst (λ z. Reached t z d) (sym way) (reached_inside t p k c d w.1 found),
+      λ q. ap (λ (z : List ℕ). type_walk_at (alone t.input) (a_network t.net) z) (ap (λ (z : List ℕ). z ++ q) way ∙ append_assoc p (k ∷ []) q)
+          ∙ w.2 (k ∷ q) ∙ walk_inside S R c.tree d.tree k q (found_inside c d k found) stands,
+    )
+
+-- what it comes to has a type, and stands somewhere
+pub typed_here : (p : List ℕ) (S : Standing) (c : Placed) → IsWalked p S c → type_walk_at S c.tree [] ≡ None → ⊥
+typed_here p S c w none =
+    let t = w.0 in
+    let nowhere : type_walk_at (alone t.input) (a_network t.net) p ≡ None =
+    ap (λ (z : List ℕ). type_walk_at (alone t.input) (a_network t.net) z) (sym (append-nil p)) ∙ w.2 [] ∙ none in
+    none-some c (sym (nothing_stands t p w.1.within nowhere) ∙ w.1.stands)
+
+pub stands_inside : (p : List ℕ) (k : ℕ) (S : Standing) (c d : Placed) → IsWalked p S c → placed_at c.params c.olds c.tree (k ∷ []) ≡ Some d
+    → inside_tree S c.tree k ≡ None → ⊥
+stands_inside p k S c d w found none =
+    let t = w.0 in
+    let nowhere : type_walk_at (alone t.input) (a_network t.net) (p ++ k ∷ []) ≡ None =
+    w.2 (k ∷ []) ∙ walk_nowhere S c.tree d.tree k (found_inside c d k found) none in
+    let there = reached_inside t p k c d w.1 found in
+    none-some d (sym (nothing_stands t (p ++ k ∷ []) w.1.within nowhere) ∙ there.stands)
+
+-- the row of the place itself
+pub rows_begin : (p : List ℕ) (S : Standing) (c : Placed) (before now : List OutlineRow) (row : OutlineRow) → now ≡ before ++ row ∷ [] → IsRowBelow p S c (row_of row)
+    → row.position ≡ p → AddsRows p S c (IsUpTo c 0) (map row_of before) (map row_of now)
+rows_begin p S c before now row more is at =
+    let added : map row_of now ≡ map row_of before ++ row_of row ∷ [] = ap (map row_of) more ∙ map-append row_of before (row ∷ []) in
+    record {
+      rows = row_of row ∷ [];
+      added = added;
+      each = All-cons (IsRowBelow p S c) (row_of row) [] is (All-nil (IsRowBelow p S c));
+      positions = paths_begin p row.position c (map (λ (r : OutlinedRow). r.position) (map row_of before)) (map (λ (r : OutlinedRow). r.position) (map row_of now)) at
+          (ap (map (λ (r : OutlinedRow). r.position)) added ∙ map-append (λ (r : OutlinedRow). r.position) (map row_of before) (row_of row ∷ []));
+    }
+
+-- the rows of what is inside at a number
+row_outward : (p r : List ℕ) (k : ℕ) (S R : Standing) (c d : Placed) → r ≡ p ++ k ∷ [] → placed_at c.params c.olds c.tree (k ∷ []) ≡ Some d → inside_tree S c.tree k ≡ Some R
+    → (row : OutlinedRow) → IsRowBelow r R d row → IsRowBelow p S c row
+row_outward p r k S R c d way found stands row h = record {
+  path = k ∷ h.path;
+  at = h.at ∙ ap (λ (z : List ℕ). z ++ h.path) way ∙ append_assoc p (k ∷ []) h.path;
+  there = ap (option_map (λ (z : Placed). z.tree)) (inside_at c d k h.path found) ∙ h.there;
+  typed = walk_inside S R c.tree d.tree k h.path (found_inside c d k found) stands ∙ h.typed;
+  weighs = h.weighs;
+}
+
+pub rows_more : (p r : List ℕ) (k : ℕ) (S R : Standing) (c d : Placed) (before mid now : List OutlinedRow) → r ≡ p ++ k ∷ []
+    → placed_at c.params c.olds c.tree (k ∷ []) ≡ Some d → inside_tree S c.tree k ≡ Some R → AddsRows p S c (IsUpTo c k) before mid
+    → AddsRows r R d (IsInside d) mid now → AddsRows p S c (IsUpTo c (k + 1)) before now
+rows_more p r k S R c d before mid now way found stands x y = record {
+  rows = x.rows ++ y.rows;
+  added = y.added ∙ ap (λ z. z ++ y.rows) x.added ∙ append_assoc before x.rows y.rows;
+  each = All-append (IsRowBelow p S c) x.rows y.rows x.each
+      (All-weaker (IsRowBelow r R d) (IsRowBelow p S c) (row_outward p r k S R c d way found stands) y.rows y.each);
+  positions = paths_more p r k c d (map (λ (z : OutlinedRow). z.position) before) (map (λ (z : OutlinedRow). z.position) mid)
+      (map (λ (z : OutlinedRow). z.position) now) way found x.positions y.positions;
+}
+
+pub rows_end : (p : List ℕ) (k : ℕ) (S : Standing) (c : Placed) (before now : List OutlinedRow) → placed_at c.params c.olds c.tree (k ∷ []) ≡ None
+    → AddsRows p S c (IsUpTo c k) before now → AddsRows p S c (IsInside c) before now
+rows_end p k S c before now none x = record {
+  rows = x.rows;
+  added = x.added;
+  each = x.each;
+  positions = paths_end p k c (map (λ (z : OutlinedRow). z.position) before) (map (λ (z : OutlinedRow). z.position) now) none x.positions;
+}
 
 -- all rows
-pub all_rows : (t : TypedNetwork) (root : List ℕ) (ps items : List (List ℕ)) (i : ℕ) (rows : List OutlineRow) → root ≡ [] → ArePositions t root ps → items ≡ ps
-    → length items ≤ i → positions_of rows ≡ take i items → All (IsRow t) (map row_of rows) → IsOutline t (map row_of rows)
-all_rows t root ps items i rows at all e end before each = record {
-  all = subst (ArePositions t []) (sym (before ∙ take_all i items end ∙ e)) (subst (λ z. ArePositions t z ps) at all);
-  each = each;
+row_whole : (t : TypedNetwork) → WithinLimits t → (row : OutlinedRow) → IsRowBelow [] (alone t.input) (placed 0 0 (a_network t.net)) row → IsRow t row
+row_whole t w row h = record {
+  there = ap (λ (z : List ℕ). option_map (λ (d : Placed). d.tree) (placed_at 0 0 (a_network t.net) z)) h.at ∙ h.there;
+  typed = subst (λ z. TypeAt (alone t.input) (a_network t.net) z row.output) (sym h.at) (type_there t h.path row.output w h.typed);
+  weighs = h.weighs;
 }
+
+whole_outline : (t : TypedNetwork) (before now : List OutlinedRow) → WithinLimits t → before ≡ []
+    → AddsRows [] (alone t.input) (placed 0 0 (a_network t.net)) (IsInside (placed 0 0 (a_network t.net))) before now → IsOutline t now
+whole_outline t before now w none x =
+    let rows : now ≡ x.rows = x.added ∙ ap (λ z. z ++ x.rows) none in
+    record {
+      all = found_positions t [] [] (placed 0 0 (a_network t.net)) (map (λ (z : OutlinedRow). z.position) before) (map (λ (z : OutlinedRow). z.position) now)
+          (map (λ (z : OutlinedRow). z.position) now) refl (ap (map (λ (z : OutlinedRow). z.position)) none) refl refl x.positions;
+      each = subst (All (IsRow t)) (sym rows)
+          (All-weaker (IsRowBelow [] (alone t.input) (placed 0 0 (a_network t.net))) (IsRow t) (row_whole t w) x.rows x.each);
+    }
+
+pub outlined : (t : TypedNetwork) (p : List ℕ) (S : Standing) (c : Placed) (before now : List OutlinedRow) → WithinLimits t → p ≡ [] → S ≡ alone t.input
+    → c ≡ placed 0 0 (a_network t.net) → before ≡ [] → AddsRows p S c (IsInside c) before now → IsOutline t now
+outlined t p S c before now w at stands is none x =
+    whole_outline t before now w none (subst (λ z. AddsRows [] (alone t.input) z (IsInside z) before now) is
+    (subst (λ z. AddsRows [] z c (IsInside c) before now) stands (subst (λ z. AddsRows z S c (IsInside c) before now) at x)))

@@ -53,7 +53,7 @@ paths_begin p q c before now same e = record {
 }
 
 -- what is inside at number k stands inside what is there
-inside_at : (c d : Placed) (k : ℕ) (q : List ℕ) → placed_at c.params c.olds c.tree (k ∷ []) ≡ Some d
+pub inside_at : (c d : Placed) (k : ℕ) (q : List ℕ) → placed_at c.params c.olds c.tree (k ∷ []) ≡ Some d
     → placed_at c.params c.olds c.tree (k ∷ q) ≡ placed_at d.params d.olds d.tree q
 inside_at c d k q h = placed_below (k ∷ []) q d c.params c.olds c.tree h
 

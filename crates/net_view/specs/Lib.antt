@@ -1,6 +1,7 @@
 -- What is listed of a network, and its texts, a file a line.
 pub mod Listed
 pub mod Rows
+pub mod Walked
 pub mod Possible
 pub mod Texts
 pub mod Applied

@@ -14,6 +14,7 @@
 
 mod applied;
 mod forms;
+mod inner;
 mod positions;
 mod possible;
 mod rows;

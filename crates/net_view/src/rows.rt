@@ -1,16 +1,15 @@
 // The outline of a network: what stands where, with its type and weight.
 
-ghost use Rattle.std.specs.Prelude.{◌≡◌, IfOk, map};
-ghost use Rattle.sample_core.specs.TypeView.{type_of};
-ghost use Rattle.net_syntax.specs.{ChildParts.seen};
-ghost use Rattle.net_tree.specs.{Place.a_network};
-ghost use Rattle.net_syntax.specs.Standing.{TypeAt, alone};
-ghost use Rattle.net_view.specs.Listed.{IsThere};
-ghost use Rattle.net_view.specs.Rows.{IsOutline, IsRow, row_of, weight_in};
+ghost use Rattle.std.specs.Prelude.{◌≡◌, IfOk, OnOk, map};
+ghost use Rattle.net_syntax.specs.ChildParts.{seen, seen_place};
+ghost use Rattle.net_syntax.specs.StandingWalk.{standing_of};
+ghost use Rattle.net_view.specs.Listed.{IsInside};
+ghost use Rattle.net_view.specs.Rows.{IsOutline, row_of, weight_in};
+ghost use Rattle.net_view.specs.Walked.{AddsRows, IsRowBelow, IsWalked};
 
-use crate::positions::{copied, positions_within};
-use cert_check::place_in;
-use net_syntax::{TreeRef, TypedNet, type_at};
+use crate::inner::{standing_inside, type_here};
+use crate::positions::copied;
+use net_syntax::{Place, Standing, TreeRef, TypedNet, place_below};
 use net_tree::{Position, Tree, weight};
 use sample_core::{Memory, Ty};
 use std::alloc::Global;
@@ -34,27 +33,68 @@ pub struct OutlineRow {
 pub fn outline(alloc: Global, net: &TypedNet) -> Result<Vec<OutlineRow>, Memory>
     ensures { IfOk result (λ rows. IsOutline net.now (map row_of rows.items)) }
 {
-    let root = Position::new(Vec::new(alloc));
-    let positions = positions_within(alloc, net, &root)?;
+    let whole = Place {
+        tree: TreeRef::Net(net.net()),
+        params: 0,
+        olds: 0,
+    };
+    let at = Standing::alone(alloc, net.input())?;
+    let mut path = Vec::new(alloc);
     let mut rows = Vec::new(alloc);
-    for position in &positions {
-        rows.push(row_at(alloc, net, position)?)?;
-    }
+    let added = add_rows(alloc, &at, whole, &mut path, &mut rows);
+    drop(at);
+    added?;
     Ok(rows)
 }
 
-/// The row of the position, at which something stands.
-fn row_at(alloc: Global, net: &TypedNet, position: &Position) -> Result<OutlineRow, Memory>
-    requires { IsThere net.now position.now }
-    ensures row { IfOk result (λ row. IsRow net.now (row_of row)) }
-    ensures position { IfOk result (λ row. row.position ≡ position.now) }
+/// Adds the rows of the positions at the path, where this stands, and below it.
+fn add_rows(
+    alloc: Global,
+    at: &Standing,
+    place: Place<'_>,
+    path: &mut Vec<u32>,
+    rows: &mut Vec<OutlineRow>,
+) -> Result<(), Memory>
+    requires { IsWalked path.old.items (standing_of at.now) (seen_place place) }
+    ensures path { OnOk result (path.new.items ≡ path.old.items) }
+    ensures added { OnOk result (AddsRows path.old.items (standing_of at.now)
+        (seen_place place.entry) (IsInside (seen_place place.entry)) (map row_of rows.old.items)
+        (map row_of rows.new.items)) }
 {
-    let Some(place) = place_in(net, position) else {
+    let row = row_here(alloc, at, place, path.as_slice())?;
+    rows.push(row)?;
+    let mut k = 0;
+    while let Some(inner) = place_below(place, &[k]) {
+        let Some(there) = standing_inside(alloc, at, place.tree, k)? else {
+            unreachable!()
+        };
+        path.push(k)?;
+        let added = add_rows(alloc, &there, inner, path, rows);
+        drop(there);
+        added?;
+        path.pop();
+        k += 1;
+    }
+    Ok(())
+}
+
+/// The row of what stands at the path.
+fn row_here(
+    alloc: Global,
+    at: &Standing,
+    place: Place<'_>,
+    path: &[u32],
+) -> Result<OutlineRow, Memory>
+    requires { IsWalked path.now (standing_of at.now) (seen_place place) }
+    ensures row { IfOk result (λ row. IsRowBelow path.now (standing_of at.now)
+        (seen_place place.entry) (row_of row)) }
+    ensures position { IfOk result (λ row. row.position ≡ path.now) }
+{
+    let Some(output) = type_here(alloc, at, place.tree)? else {
         unreachable!()
     };
+    let position = Position::of_node(alloc, path)?;
     let weight = weight_of(alloc, place.tree)?;
-    let position = position.try_copy(alloc)?;
-    let output = output_at(alloc, net, &position)?;
     let tree = copied(alloc, place.tree)?;
     Ok(OutlineRow {
         position,
@@ -62,18 +102,6 @@ fn row_at(alloc: Global, net: &TypedNet, position: &Position) -> Result<OutlineR
         output,
         weight,
     })
-}
-
-/// The output type, or type, of what stands at the position.
-fn output_at(alloc: Global, net: &TypedNet, position: &Position) -> Result<Ty, Memory>
-    requires { IsThere net.now position.now }
-    ensures { IfOk result
-        (λ t. TypeAt (alone net.now.input) (a_network net.now.net) position.now (type_of t)) }
-{
-    match type_at(alloc, net, position)? {
-        Some(output) => Ok(output),
-        None => unreachable!(),
-    }
 }
 
 /// The weight of a network; none of an expression.

@@ -1,0 +1,21 @@
+use Rattle.std.proofs.Common.{◌≡◌, ◌-◌, map}
+use Rattle.net_syntax.specs.ChildParts.{seen, seen_place}
+use Rattle.net_syntax.specs.StandingWalk.{standing_of}
+use Rattle.net_opt.proofs.Walked.{rank}
+use Rattle.net_view.specs.Rows.{row_of}
+use Rattle.net_view.specs.Walked.{AddsRows}
+use Rattle.net_view.proofs.Paths.{IsUpTo}
+use Rattle.net_view.proofs.rows.+add_rows.Given as goal
+
+abbrev pub decreases-add_rows : goal.decreases-add_rows
+decreases-add_rows l = rank (seen l.place.tree)
+
+-- the rows of the place and of what is inside it at the numbers so far were added
+abbrev pub invariant-loop-inner : goal.invariant-loop-inner
+invariant-loop-inner l = record {
+  path : l.path.items ≡ l.fn.path.items;
+  added : AddsRows l.fn.path.items (standing_of l.at) (seen_place l.place) (IsUpTo (seen_place l.place) l.k) (map row_of l.fn.rows.items) (map row_of l.rows.items);
+}
+
+abbrev pub decreases-loop-inner : goal.decreases-loop-inner
+decreases-loop-inner l = 5000003 - l.k
