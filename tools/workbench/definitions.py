@@ -1,6 +1,7 @@
 """Files with names as they are written: files that are included, records, definitions and a network, each with its comments."""
 import os
 import re
+from collections.abc import Sequence
 from dataclasses import dataclass, field
 
 from model.texts import FILE_BYTES, OPEN
@@ -24,7 +25,7 @@ class Text:
 class Written(Node):
     """A tree as it is written in that file."""
 
-    text: Text = None
+    text: Text | None = None
 
 
 class Fault(Exception):
@@ -47,13 +48,15 @@ class Token:
 
     word: str
     at: int
-    before: list | tuple = ()
-    behind: list | tuple = ()
+    before: Sequence[str] = ()
+    behind: Sequence[str] = ()
 
 
 def tokens_of(data: bytes) -> tuple:
     """The tokens of a file with their comments, and the comments behind all of them."""
-    tokens, before, end = [], [], 0
+    tokens: list[Token] = []
+    before: list[str] = []
+    end = 0
     for found in TOKENS.finditer(data):
         lines = data.count(b"\n", end, found.start())
         word = found.group().decode("latin-1").rstrip(" \t\r")
@@ -102,7 +105,7 @@ class TreeReader:
 
     def leaf(self, token: Token) -> Written:
         end = token.at + len(token.word)
-        return Written(token.word, [], token.at, end, "word", spoken(token.before), token.behind, text=self.text)
+        return Written(token.word, [], token.at, end, "word", spoken(token.before), [*token.behind], text=self.text)
 
     def tree(self, depth: int = 0) -> Written:
         opened = self.take("a tree")
@@ -116,8 +119,9 @@ class TreeReader:
         parts = self.parts(opened, lambda: self.tree(depth + 1))
         closed = self.take("")
         sort = "form" if parts or head.word in ("parB", "col") else "call"
-        comments = [*spoken(opened.before), *opened.behind, *head.comments]
-        return Written(head.word, parts, opened.at, closed.at + 1, sort, comments, closed.behind, head.trailing, spoken(closed.before), self.text)
+        place_of = {"start": opened.at, "end": closed.at + 1, "text": self.text}
+        comments = {"comments": [*spoken(opened.before), *opened.behind, *head.comments], "opened": head.trailing}
+        return Written(head.word, parts, sort=sort, **place_of, **comments, closing=spoken(closed.before), trailing=[*closed.behind])
 
     def parts(self, opened: Token, read) -> list:
         """What is read up to the parenthesis that closes that one, which is taken next."""
@@ -129,7 +133,7 @@ class TreeReader:
         return found
 
 
-def spoken(comments: list) -> list:
+def spoken(comments: Sequence[str]) -> list[str]:
     return [comment for comment in comments if comment]
 
 
@@ -182,9 +186,9 @@ class Source:
     version: str
     header: list
     items: list
-    input: Written = None
-    output: Written = None
-    net: Written = None
+    input: Written | None = None
+    output: Written | None = None
+    net: Written | None = None
     properties: list = field(default_factory=list)
     comments: list = field(default_factory=list)
     left: list = field(default_factory=list)
@@ -225,7 +229,7 @@ def header_of(reader: TreeReader) -> list:
 def network_of(reader: TreeReader, source: Source) -> None:
     """Reads the input type, the output type where it is said, and the network."""
     named = source.header[1].word == "source"
-    source.comments = reader.tokens[reader.read].before if not reader.ended() else []
+    source.comments = [*reader.tokens[reader.read].before] if not reader.ended() else []
     word = reader.word("the word input")
     if word.word != "input":
         raise Fault(word, f"{', '.join(KEYWORDS[:-1])} or input is wanted" if named else "the word input is missing")
@@ -284,11 +288,11 @@ def field_of(reader: TreeReader) -> tuple:
     if not name:
         raise reader.fault(token, "a field is written NAME:TYPE")
     end = token.at + len(name)
-    comments = ([], []) if rest else (spoken(token.before), token.behind)
-    named = Written(name, [], token.at, end, "word", *comments, text=reader.text)
+    comments = {"comments": spoken(token.before), "trailing": [*token.behind]}
     if not rest:
-        return named, reader.tree()
-    return named, Written(rest, [], end + 1, end + 1 + len(rest), "word", spoken(token.before), token.behind, text=reader.text)
+        return Written(name, [], token.at, end, "word", text=reader.text, **comments), reader.tree()
+    named = Written(name, [], token.at, end, "word", text=reader.text)
+    return named, Written(rest, [], end + 1, end + 1 + len(rest), "word", text=reader.text, **comments)
 
 
 def include(reader: TreeReader) -> Include:
@@ -309,8 +313,10 @@ def is_source(data: bytes) -> bool:
 
 def whole(source: Source) -> tuple:
     """The definitions and records of a file and of those that it includes, each once, in order; and the texts of all files."""
-    items, texts = [], {os.path.realpath(source.text.name): source.text}
-    gather(source, (os.path.realpath(source.text.name),), items, texts)
+    path = os.path.realpath(source.text.name)
+    items: list[Definition | Record] = []
+    texts = {path: source.text}
+    gather(source, (path,), items, texts)
     return items, list(texts.values())
 
 
@@ -320,7 +326,7 @@ def gather(source: Source, above: tuple, items: list, texts: dict) -> None:
         if not isinstance(item, Include):
             items.append(item)
             continue
-        name = os.path.normpath(os.path.join(os.path.dirname(source.text.name), item.file.word.encode("latin-1").decode(errors="replace")))
+        name = os.path.normpath(os.path.join(os.path.dirname(source.text.name), readable(item.file.word)))
         path = os.path.realpath(name)
         if path in above:
             raise Fault(item.file, f"{item.file.word} includes itself" + (", by way of others" if path != above[-1] else ""))

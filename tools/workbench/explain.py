@@ -1,6 +1,7 @@
 """Explains each fault: the place in the file, what is wanted and what is found, and how to mend it."""
 import sys
 from collections.abc import Callable
+from typing import NoReturn
 
 from workbench.ending import REFUSED, UNREADABLE, Refused, Words, ended, read, stream_bytes
 from workbench.faults import Files, explained, unread
@@ -58,7 +59,7 @@ def explain(given) -> None:
     tell(explained(line, files, stream))
 
 
-def tell(told: Told, status: int = REFUSED) -> None:
+def tell(told: Told, status: int = REFUSED) -> NoReturn:
     print(told.text(), end="")
     sys.exit(status)
 
@@ -70,6 +71,7 @@ def path_of(name: str, reading: Callable[[str], bytes] = read) -> str:
         with open(path, "rb"):
             return path
     except InNames as refused:
-        tell(told_of(refused.fault))
+        told, status = told_of(refused.fault), refused.status
     except (Refused, OSError) as refused:
-        tell(unread(name), getattr(refused, "status", UNREADABLE))
+        told, status = unread(name), getattr(refused, "status", UNREADABLE)
+    tell(told, status)

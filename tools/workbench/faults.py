@@ -91,7 +91,7 @@ def of_text(role: str, files: Files):
             read_steps(data)
         else:
             data = files.program(role).data
-            files.program(role).file
+            _ = files.program(role).file
     except (Fault, SyntaxFault) as fault:
         return told_of(fault, name, data)
     return None

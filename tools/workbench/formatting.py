@@ -83,7 +83,8 @@ def record_lines(record: Record) -> list:
     line = " ".join([f"record {record.name.word}", *written])
     nodes = [node for field in record.fields for node in field]
     last = record.fields[-1][1]
-    if len(line) <= WIDTH and not of_nodes([node for node in nodes if node is not last]) and not last.comments and not any(map(comments_within, nodes)):
+    commented = of_nodes([node for node in nodes if node is not last]) or last.comments or any(map(comments_within, nodes))
+    if len(line) <= WIDTH and not commented:
         return [*comments, *behind([line], last.trailing)]
     lines = [*comments, f"record {record.name.word}"]
     for name, type_ in record.fields:

@@ -5,6 +5,7 @@ has room there, else two columns from its parenthesis. How wide a part must be i
 walk down lay out all.
 """
 from dataclasses import dataclass, replace
+from typing import Any
 
 WIDTH = 100
 # A form that is no longer than this isn't broken where that can be helped.
@@ -21,7 +22,7 @@ def is_form(node):
 
 def flat(node) -> str:
     """The text of a node in one line."""
-    pieces = []
+    pieces: list[str] = []
     write_flat(node, pieces)
     return "".join(pieces)
 
@@ -51,7 +52,7 @@ class Box:
     """A tree that is to be laid out: what stands before its parts and behind them; how many characters follow its last one; and
     how wide it is in one line, with its parts behind its word, and at least."""
 
-    node: object
+    node: Any
     opening: str
     parts: list
     closing: str
@@ -120,7 +121,9 @@ class Lines:
     """Lines as they are written, one behind the other."""
 
     def __init__(self):
-        self.done, self.pieces, self.commented = [], [], False
+        self.done: list[str] = []
+        self.pieces: list[str] = []
+        self.commented = False
 
     def put(self, text: str, indent: int) -> None:
         """Puts text behind the last, or in a new line where that one ends in a comment."""
@@ -169,7 +172,7 @@ def lay(box: Box, indent: int, lines: Lines) -> None:
 
 
 def lay_flat(box: Box, lines: Lines, indent: int) -> None:
-    pieces = []
+    pieces: list[str] = []
     write_box(box, pieces)
     lines.put("".join(pieces), indent)
 

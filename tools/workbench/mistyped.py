@@ -2,7 +2,7 @@
 import re
 from dataclasses import dataclass
 
-from model.trees import at, at_text, children, head, is_network, shown
+from model.trees import at, children, head, is_network, shown
 from workbench.asking import asked, asked_by_name
 from workbench.outline import scope_of
 from workbench.records import shown_type

@@ -38,7 +38,9 @@ class Meant:
     def __init__(self, word: str, parts: list, node, size: int, depth: int):
         self.word, self.parts, self.size, self.depth = word, parts, size, depth
         self.text, self.start, self.end = node.text, node.start, node.end
-        self.name, self.given, self.record = None, (), None
+        self.name: str | None = None
+        self.given: list = []
+        self.record: Record | None = None
 
 
 @dataclass
@@ -46,8 +48,8 @@ class Named:
     """What a definition's name stands for, and where its words are looked up."""
 
     definition: Definition
-    scope: object
-    meant: Meant = None
+    scope: "Scope"
+    meant: Meant | None = None
 
 
 @dataclass
@@ -55,8 +57,8 @@ class Given:
     """A tree that is handed to a definition in the place of a parameter."""
 
     node: Written
-    scope: object
-    meant: Meant = None
+    scope: "Scope"
+    meant: Meant | None = None
 
 
 @dataclass
@@ -77,11 +79,12 @@ class Parameter:
 class Scope:
     """Names and what they stand for, inside of others; and the definition in which they are looked up."""
 
-    def __init__(self, outer=None, inside: str = ""):
-        self.names, self.outer, self.inside = {}, outer, inside
+    def __init__(self, outer: "Scope | None" = None, inside: str = ""):
+        self.names: dict[str, object] = {}
+        self.outer, self.inside = outer, inside
 
     def find(self, word: str):
-        scope = self
+        scope: Scope | None = self
         while scope is not None:
             if word in scope.names:
                 return scope.names[word]
@@ -93,10 +96,14 @@ class Expansion:
     """Puts trees in the place of names."""
 
     def __init__(self, items: list):
-        self.top, self.records, self.steps, self.level = Scope(), {}, 0, 0
+        self.records: dict[str, Record] = {}
+        self.top, self.steps, self.level = Scope(), 0, 0
         self.later = {item.name.word for item in items}
         for item in items:
-            self.define(item) if isinstance(item, Definition) else self.describe(item)
+            if isinstance(item, Definition):
+                self.define(item)
+            else:
+                self.describe(item)
 
     # ---- definitions and records
 
@@ -248,12 +255,13 @@ class Expansion:
         while isinstance(meant, Given):
             head = meant.node
             if head.sort != "word":
-                raise Fault(head, f"{head.word} has its parts, and the name of what takes {len(node.parts)} is wanted for {node.word}", scope.inside)
+                wanted = f"the name of what takes {len(node.parts)} is wanted for {node.word}"
+                raise Fault(head, f"{head.word} has its parts, and {wanted}", scope.inside)
             meant = meant.scope.find(head.word)
         if meant is not None:
-            called = Written(head.word, node.parts, node.start, node.end, node.sort, text=node.text)
-            self.fits(called, meant, scope)
-            return self.applied(called, meant, node.parts, scope)
+            there = Written(head.word, node.parts, node.start, node.end, node.sort, text=node.text)
+            self.fits(there, meant, scope)
+            return self.applied(there, meant, node.parts, scope)
         if head.word not in FORMS:
             raise Fault(head, f"{head.word} takes no parts, and is given for {node.word}, which has some", scope.inside)
         return sized(node, head.word, [self.value(part, scope) for part in node.parts], scope)

@@ -15,6 +15,7 @@ Of a network's file the places are its own, and there are no names. `program_of(
 `network_path` has answered, so that a tool which is handed a path needs no more than that.
 """
 import atexit
+import contextlib
 import hashlib
 import os
 import tempfile
@@ -41,7 +42,7 @@ class Place:
     text: Text
     start: int
     end: int
-    name: str = None
+    name: str | None = None
 
     def origin(self) -> tuple:
         return (self.text.name, *place(self.text.data, self.start), self.name)
@@ -106,7 +107,10 @@ class Program:
         """A file that holds what the program reads, and can be read more than once."""
         known = self.kept_path()
         try:
-            known.touch() if known.is_file() else keep(known, self.text)
+            if known.is_file():
+                known.touch()
+            else:
+                keep(known, self.text)
             path = str(known)
         except (OSError, Refused):
             path = kept_beside(self.text)
@@ -200,7 +204,8 @@ class Program:
         if self.has_names and self.source.output is not None:
             said = type_of(self.expansion.tree(self.source.output))
             if said != type_:
-                raise Fault(self.source.output, f"the network outputs {shown(type_)}, and not {readable(flat(self.source.output))}, which is {shown(said)}")
+                wanted = f"{readable(flat(self.source.output))}, which is {shown(said)}"
+                raise Fault(self.source.output, f"the network outputs {shown(type_)}, and not {wanted}")
             return said
         return self.named_type(type_)
 
@@ -280,8 +285,9 @@ def keep(path: Path, data: bytes) -> None:
 
 def kept_beside(data: bytes) -> str:
     """A file that holds what was made until this program ends, where there is no cache."""
-    file = tempfile.NamedTemporaryFile(prefix="yampa-")
-    atexit.register(file.close)
+    stack = contextlib.ExitStack()
+    atexit.register(stack.close)
+    file = stack.enter_context(tempfile.NamedTemporaryFile(prefix="yampa-"))
     file.write(data)
     file.flush()
     return file.name

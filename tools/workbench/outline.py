@@ -80,7 +80,7 @@ def network_of(name):
     path = again(name)
     rows, program = rows_of(answered(["outline", path])), program_of(path)
     try:
-        program.file
+        _ = program.file
     except SyntaxFault as fault:
         raise Refused(fault.line(name, program.data)) from None
     return Network(program, rows)

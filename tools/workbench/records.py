@@ -5,11 +5,14 @@ from model.trees import is_form, shown
 class RecordType(tuple):
     """The type of nested pairs, which it is equal to; with the record's name, and its fields, each with its type."""
 
-    def __new__(cls, name: str, fields: list):
+    name: str
+    fields: list
+
+    def __new__(cls, name: str, fields: list) -> "RecordType":
         made = fields[-1][1]
         for _, type_ in reversed(fields[1:-1]):
             made = ("Pair", type_, made)
-        whole = super().__new__(cls, ("Pair", fields[0][1], made))
+        whole = super().__new__(cls, ("Pair", fields[0][1], made))  # type: ignore[arg-type]
         whole.name, whole.fields = name, fields
         return whole
 

@@ -2,6 +2,7 @@
 import difflib
 import re
 from dataclasses import dataclass, field
+from typing import Any
 
 from model.texts import FILE_BYTES, LAWS, OPEN, SORTS, VERSIONS
 from model.trees import (
@@ -64,7 +65,7 @@ class Node:
     """A tree as it is written: its word or number, its parts, and the bytes that it takes; the comments before it and behind it,
     behind its word and before the parenthesis that closes it."""
 
-    word: object
+    word: Any
     parts: list
     start: int
     end: int

@@ -29,12 +29,12 @@ def files_in(words: list) -> Files:
     """The files of a call by their roles."""
     roles = ROLES.get(words[0], []) if words else []
     paths = dict(zip(roles, [words[place] for place in places_of_files(words)]))
-    return Files({role: PROGRAMS[path].name if path in PROGRAMS else path for role, path in paths.items()}, paths)
+    return Files({role: PROGRAMS[name].name if name in PROGRAMS else name for role, name in paths.items()}, paths)
 
 
 def with_names(files: Files) -> dict:
     """The networks with names among the files, by their roles."""
-    found = {role: PROGRAMS[path] for role, path in files.paths.items() if path in PROGRAMS}
+    found = {role: PROGRAMS[name] for role, name in files.paths.items() if name in PROGRAMS}
     return {role: program for role, program in found.items() if program.has_names}
 
 
@@ -80,9 +80,11 @@ def spoken_outline(program: Program, output: str) -> str:
 
 def spoken_laws(program: Program, output: str) -> str:
     """The steps of `laws`, with the place of each, and names in what then stands there."""
-    return "".join(
-        f"{line} ; {program.place_of(position_in(line))}\n" if line.startswith("(step ") else f"{program.folded(line)}\n" for line in output.splitlines()
-    )
+    return "".join(f"{spoken_law(program, line)}\n" for line in output.splitlines())
+
+
+def spoken_law(program: Program, line: str) -> str:
+    return f"{line} ; {program.place_of(position_in(line))}" if line.startswith("(step ") else program.folded(line)
 
 
 def spoken_steps(program: Program, output: str) -> str:
@@ -121,15 +123,16 @@ def answer(program: str, words: list) -> int:
     for place in places_of_files(words):
         words[place] = again(words[place])
     networks = with_names(files_in(words))
-    for path in dict.fromkeys(words):
-        if path in PROGRAMS and PROGRAMS[path].has_names and PROGRAMS[path].source.output is not None:
-            named_types(path)
+    for role, named in networks.items():
+        if named.source.output is not None:
+            named_types(files_in(words).paths[role])
     speak = SPOKEN.get(words[0]) if words[0] != "apply" or "--steps" in words else None
     with tempfile.TemporaryFile() as output:
-        run = subprocess.Popen([program, *words], stdout=output if speak else None, stderr=subprocess.PIPE, text=True, errors="replace")
-        for line in run.stderr:
-            tell(words, line)
-        status = run.wait()
+        to = output if speak else None
+        with subprocess.Popen([program, *words], stdout=to, stderr=subprocess.PIPE, text=True, errors="replace") as run:
+            for line in run.stderr or []:
+                tell(words, line)
+        status = run.returncode
         output.seek(0)
         told = output.read().decode()
     write(None, speak(next(iter(networks.values())), told) if speak and not status and networks else told)
@@ -141,10 +144,10 @@ def tell(words: list, line: str) -> None:
     print(line.rstrip("\n") if line.startswith("yampa: ") else spoken(words, line.rstrip("\n")), file=sys.stderr, flush=True)
 
 
-def named_types(path: str) -> tuple:
+def named_types(net: str) -> tuple:
     """The input type and the output type of a network that the program reads at that path, with records."""
-    line = answered(["types", path]).decode().splitlines()[0]
-    program = program_of(path)
+    line = answered(["types", net]).decode().splitlines()[0]
+    program = program_of(net)
     try:
         return program.input, program.output_type(read_type(line.split(" -> ")[1]))
     except Fault as fault:
