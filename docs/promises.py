@@ -2,7 +2,7 @@
 """Prints what a public call promises: the comment above it, its signature and its contract, from the code.
 
     docs/promises.py CRATE|NAME..   as `docs/promises.py cert_check` or `docs/promises.py check`
-    docs/promises.py --check        tells of each public call without a comment or a contract, but those of searches
+    docs/promises.py --check        tells of each public call without a comment or a contract, but those of searches and of what tests share
 """
 import re
 import sys
@@ -12,8 +12,9 @@ TOP = Path(__file__).resolve().parent.parent
 EXPORT = re.compile(r"^pub use ([\w:]+)::(?:\{([^}]*)\}|(\w+));", re.M)
 CALL = re.compile(r"^( *)pub (?:ghost )?(?:const )?fn (\w+)")
 OWNER = re.compile(r"^(?:impl|pub trait)(?:<[^>]*>)? (?:\w+(?:<[^>]*>)? for )?(\w+)")
-# Searches that nobody trusts: their answers are checked, so their calls have no contracts.
+# Searches that nobody trusts: their answers are checked, so their calls have no contracts; and what tests share.
 SEARCHES = {"expr_improve", "net_improve", "net_certify"}
+OF_TESTS = {"row_texts"}
 # Calls of which there is nothing to say but that they return.
 FREE = {"sample_core::Sample::let_go"}
 
@@ -88,7 +89,7 @@ def checked():
         for call in calls_of(crate):
             if not call.comment:
                 yield f"{call.full_name()}: no comment"
-            if not call.has_contract() and crate not in SEARCHES and call.full_name() not in FREE:
+            if not call.has_contract() and crate not in SEARCHES | OF_TESTS and call.full_name() not in FREE:
                 yield f"{call.full_name()}: no contract"
 
 

@@ -1,0 +1,358 @@
+// What laws make of expressions and of networks.
+
+use crate::found::{LawProbe, Probe, all_are_found};
+use expr_laws::apply_expr;
+use law_rules::apply_law;
+use leaf_expr::{Expr, push_expr};
+use net_text::{push_net, read_net};
+use net_tree::{Direction, Law, Net};
+use row_texts::texts::{expr_in, number_in, parted, say};
+use sample_core::Memory;
+use std::alloc::Global;
+
+/// A law, taken one way where so many frozen networks are in scope.
+#[derive(Clone, Copy)]
+struct LawUse {
+    law: Law,
+    direction: Direction,
+    olds: u32,
+}
+
+/// The network that the text spells, whatever its types.
+fn net_in(alloc: Global, text: &str) -> Option<Box<Net<Expr>>> {
+    let mut file = String::new(alloc);
+    say(&mut file, "yampa 2 input Int ");
+    say(&mut file, text);
+    match read_net(alloc, file.as_bytes()) {
+        Ok((input, net)) => {
+            drop(input);
+            Box::new(alloc, net).ok()
+        }
+        Err(_fault) => None,
+    }
+}
+
+/// What `E1 forward` and `L38 backward 2` say.
+fn use_of(words: &str) -> LawUse {
+    let (law, behind) = words.split_once(' ').unwrap_or((words, ""));
+    let (way, olds) = behind.split_once(' ').unwrap_or((behind, ""));
+    LawUse {
+        law: law_in(law),
+        direction: match way {
+            "backward" => Direction::Backward,
+            _ => Direction::Forward,
+        },
+        olds: u32::try_from(number_in(olds)).unwrap_or(0),
+    }
+}
+
+/// The law of that name: a letter and a number up to 255.
+fn law_in(word: &str) -> Law {
+    match word.strip_prefix('E') {
+        Some(digits) => Law::E(law_number(digits)),
+        None => Law::L(law_number(word.strip_prefix('L').unwrap_or(""))),
+    }
+}
+
+fn law_number(digits: &str) -> u8 {
+    u8::try_from(number_in(digits)).unwrap_or(0)
+}
+
+/// Tells what a law makes of an expression, `LAW DIRECTION | EXPR`, and behind it ` | GIVEN` where
+/// an expression is given.
+pub fn expr_law_told(alloc: Global, given: &str, out: &mut String) {
+    let (words, trees) = parted(given);
+    let (text, other) = parted(trees);
+    match expr_in(alloc, text) {
+        Some(expr) => expr_made_told(alloc, use_of(words), &expr, other, out),
+        None => say(out, "no expression"),
+    }
+}
+
+fn expr_made_told(alloc: Global, taken: LawUse, expr: &Expr, other: &str, out: &mut String) {
+    if other.is_empty() {
+        return expr_from_told(alloc, taken, expr, None, out);
+    }
+    match expr_in(alloc, other) {
+        Some(given) => expr_from_told(alloc, taken, expr, Some(&given), out),
+        None => say(out, "no given expression"),
+    }
+}
+
+fn expr_from_told(
+    alloc: Global,
+    taken: LawUse,
+    expr: &Expr,
+    given: Option<&Expr>,
+    out: &mut String,
+) {
+    match apply_expr(alloc, taken.law, taken.direction, expr, given) {
+        Ok(Some(made)) => {
+            drop(push_expr(out, &made));
+            drop(made);
+        }
+        Ok(None) => say(out, "nothing"),
+        Err(Memory) => say(out, "memory"),
+    }
+}
+
+/// Tells what a law makes of a network, `LAW DIRECTION | NET`, and behind it ` | GIVEN` where a
+/// network is given. Behind the direction stands how many frozen networks are in scope, if any.
+pub fn net_law_told(alloc: Global, given: &str, out: &mut String) {
+    let (words, trees) = parted(given);
+    let (text, other) = parted(trees);
+    match net_in(alloc, text) {
+        Some(net) => net_made_told(alloc, use_of(words), &net, other, out),
+        None => say(out, "no network"),
+    }
+}
+
+fn net_made_told(alloc: Global, taken: LawUse, net: &Net<Expr>, other: &str, out: &mut String) {
+    if other.is_empty() {
+        return net_from_told(alloc, taken, net, None, out);
+    }
+    match net_in(alloc, other) {
+        Some(given) => net_from_told(alloc, taken, net, Some(&given), out),
+        None => say(out, "no given network"),
+    }
+}
+
+fn net_from_told(
+    alloc: Global,
+    taken: LawUse,
+    net: &Net<Expr>,
+    given: Option<&Net<Expr>>,
+    out: &mut String,
+) {
+    match apply_law(alloc, taken.law, taken.direction, net, given, taken.olds) {
+        Ok(Some(made)) => {
+            drop(push_net(out, &made));
+            drop(made);
+        }
+        Ok(None) => say(out, "nothing"),
+        Err(Memory) => say(out, "memory"),
+    }
+}
+
+/// Laws, expressions and what is made of them.
+static EXPR_LAWS: &str = "
+§ What is handed on.
+E1 forward | (then x (neg x)) => (neg x)
+E2 forward | (then (neg x) x) => (neg x)
+E1 forward | (then x x) => x
+E3 forward | (then (then (fst x) (neg x)) (event x)) => (then (fst x) (then (neg x) (event x)))
+§ Into the parts of an operation, of `on`, and where nothing is looked at.
+E4 forward | (then (fst x) (add x 1)) => (add (then (fst x) x) (then (fst x) 1))
+E4 forward | (then (fst x) (if x 1 2)) => (if (then (fst x) x) (then (fst x) 1) (then (fst x) 2))
+E4 forward | (then 1 (list Int x 2)) => (list Int (then 1 x) (then 1 2))
+E4 forward | (then 1 (list Int)) => nothing
+E4 forward | (then 1 (then x x)) => nothing
+E4 forward | (then 1 (on x 2 3)) => nothing
+E4 forward | (then 1 (len x)) => (len (then 1 x))
+E5 forward | (then (snd x) (on x 1 (fst x))) => (on (then (snd x) x) (then (snd x) 1) (then (pair (then (fst x) (snd x)) (snd x)) (fst x)))
+E6 forward | (then (neg true) 5) => 5
+E6 forward | (then x (p 3)) => (p 3)
+E6 forward | (then x (none Int)) => (none Int)
+E6 forward | (then x (list Bool)) => (list Bool)
+E6 forward | (then x (list Bool true)) => nothing
+E6 forward | (then 1 x) => nothing
+§ Pairs, choices and events.
+E7 forward | (fst (pair 1 true)) => 1
+E8 forward | (snd (pair 1 true)) => true
+E9 forward | (pair (fst (p 0)) (snd (p 0))) => (p 0)
+E9 forward | (pair (fst (p 0)) (snd (p 1))) => nothing
+E10 forward | (if true 1 2) => 1
+E10 forward | (if false 1 2) => nothing
+E11 forward | (if false 1 2) => 2
+E12 forward | (if (p 0) (neg x) (neg x)) => (neg x)
+E12 forward | (if x 1 2) => nothing
+E13 forward | (on (none (Pair Int Bool)) 1 x) => 1
+E14 forward | (on (event 3) 1 (snd x)) => (then (pair x 3) (snd x))
+§ Literals.
+E15 forward | (add 9223372036854775807 1) => -9223372036854775808
+E15 forward | (neg -9223372036854775808) => -9223372036854775808
+E15 forward | (sub 2 5) => -3
+E15 forward | (mul 4294967296 4294967296) => 0
+E15 forward | (less -1 0) => true
+E15 forward | (equal unit unit) => true
+E15 forward | (equal true false) => false
+E15 forward | (equal 7 7) => true
+E15 forward | (equal 1 true) => nothing
+E15 forward | (not true) => false
+E15 forward | (and true false) => false
+E15 forward | (or true false) => true
+E15 forward | (add 1 true) => nothing
+E15 forward | (add 1 (add 1 1)) => nothing
+§ Sums and lists.
+E16 forward | (add 1 x) => (add x 1)
+E17 forward | (add (add 1 2) 3) => (add 1 (add 2 3))
+E17 forward | (add 1 (add 2 3)) => nothing
+E18 forward | (nth (list Int 5 6) 1 7) => 6
+E18 forward | (nth (list Int 5 6) 2 7) => 7
+E18 forward | (nth (list Int 5 6) -1 7) => 7
+E18 forward | (nth (list Int) 0 7) => nothing
+E18 forward | (nth (list Int 5 6) x 7) => nothing
+§ Numbers of no law, trees too many or too few, and laws backward.
+E0 forward | x => nothing
+E19 forward | (add 1 2) => nothing
+E1 forward | (then x 1) | 1 => nothing
+E1 backward | 1 => nothing
+E1 backward | 1 | (then x 1) => (then x 1)
+E1 backward | 1 | (then x 2) => nothing
+E1 backward | (then x 1) | 1 => nothing
+E7 backward | x | (fst (pair x (neg x))) => (fst (pair x (neg x)))
+E16 backward | (add 1 2) | (add 2 1) => (add 2 1)
+L1 forward | (then x 1) => nothing
+";
+
+/// Laws, networks and what is made of them.
+static NET_LAWS: &str = "
+§ Stages.
+L1 forward | (>>> (arr x) time) => time
+L1 forward | (>>> (arr (p 0)) time) => nothing
+L2 forward | (>>> time (arr x)) => time
+L2 forward | (>>> (arr x) time) => nothing
+L3 forward | (>>> (>>> time integral) (iPre 0)) => (>>> time (>>> integral (iPre 0)))
+L3 forward | (>>> time (>>> integral (iPre 0))) => nothing
+L4 forward | (>>> (arr (add x 1)) (arr (mul x 2))) => (arr (then (add x 1) (mul x 2)))
+L10 forward | (>>> (arr (add x 1)) (>>> (arr (neg x)) time)) => (>>> (arr (then (add x 1) (neg x))) time)
+L25 forward | (>>> time (arr (then unit 7))) => (arr (then unit 7))
+L25 forward | (>>> time (arr (then x 7))) => nothing
+§ Parts of pairs.
+L5 forward | (first (arr (neg x))) => (arr (pair (then (fst x) (neg x)) (snd x)))
+L6 forward | (first (>>> time integral)) => (>>> (first time) (first integral))
+L7 forward | (>>> (first time) (arr (pair (fst x) (then (snd x) (neg x))))) => (>>> (arr (pair (fst x) (then (snd x) (neg x)))) (first time))
+L7 forward | (>>> (first time) (arr (pair (fst x) (neg (snd x))))) => nothing
+L8 forward | (>>> (first integral) (arr (fst x))) => (>>> (arr (fst x)) integral)
+L9 forward | (>>> (first (first time)) (arr ‹assoc›)) => (>>> (arr ‹assoc›) (first time))
+L9 forward | (>>> (first (first time)) (arr ‹unassoc›)) => nothing
+§ Cells and delays.
+L11 forward | (>>> (iPre 0) (arr (neg x))) => (>>> (arr (neg x)) (iPre (then 0 (neg x))))
+L12 forward | (iPre (pair 1 true)) => (>>> (first (iPre 1)) (>>> (arr ‹swap›) (>>> (first (iPre true)) (arr ‹swap›))))
+L26 forward | (>>> (delay 3 0) (arr (neg x))) => (>>> (arr (neg x)) (delay 3 (then 0 (neg x))))
+§ Loops.
+L13 forward | (>>> time (loopPre 0 integral)) => (loopPre 0 (>>> (first time) integral))
+L14 forward | (>>> (loopPre 0 integral) time) => (loopPre 0 (>>> integral (first time)))
+L15 forward | (loopPre 1 (>>> (arr (pair (fst x) (then (snd x) (neg x)))) integral)) => (loopPre (then 1 (neg x)) (>>> integral (arr (pair (fst x) (then (snd x) (neg x))))))
+L16 forward | (loopPre 1 (loopPre 2 time)) => (loopPre (pair 1 2) (>>> (arr ‹unassoc›) (>>> time (arr ‹assoc›))))
+L17 forward | (loopPre 0 (first time)) => time
+§ Events.
+L18 forward | (>>> (arr (event (neg x))) (hold 0)) => (arr (neg x))
+L19 forward | (>>> (arr (none Int)) (hold 7)) => (arr (then unit 7))
+L20 forward | (>>> integral (after 5 7)) => (after 5 7)
+L20 forward | (>>> integral (repeatedly 3 unit)) => (repeatedly 3 unit)
+L20 forward | (>>> integral time) => time
+L20 forward | (>>> time integral) => nothing
+L20 forward | (>>> integral (delay 5 7)) => nothing
+L21 forward | (>>> (after 5 7) (arr ‹not of event›)) => (after 5 (then 7 (not x)))
+L21 forward | (>>> (repeatedly 5 7) (arr ‹not of event›)) => nothing
+L22 forward | (>>> (repeatedly 5 7) (arr ‹not of event›)) => (repeatedly 5 (then 7 (not x)))
+L22 forward | (>>> (repeatedly 5 7) (arr (on x (none Int) (event (snd x))))) => nothing
+L23 forward | (>>> (arr ‹not of event›) (hold (then true (not x)))) => (>>> (hold true) (arr (not x)))
+L23 forward | (>>> (arr ‹not of event›) (hold (then true (neg x)))) => nothing
+L24 forward | (>>> (arr ‹not of event›) (accumBy (snd x) 0)) => (accumBy (then (pair (fst x) (then (snd x) (not x))) (snd x)) 0)
+§ Switches.
+L27 forward | (>>> (arr (neg x)) (switch integral time)) => (switch (>>> (arr (neg x)) integral) (>>> (arr (neg x)) time))
+L27 forward | (>>> (iPre 0) (switch integral time)) => nothing
+L27 forward | (>>> (arr (neg x)) (dSwitch integral time)) => nothing
+L28 forward | (>>> (arr (neg x)) (dSwitch integral time)) => (dSwitch (>>> (arr (neg x)) integral) (>>> (arr (neg x)) time))
+L28 forward | (>>> (iPre 0) (dSwitch integral time)) => nothing
+L29 forward | (>>> (switch integral time) (arr (neg x))) => (switch (>>> integral (arr (pair (then (fst x) (neg x)) (snd x)))) (>>> time (arr (neg x))))
+L30 forward | (>>> (dSwitch integral time) (arr (neg x))) => (dSwitch (>>> integral (arr (pair (then (fst x) (neg x)) (snd x)))) (>>> time (arr (neg x))))
+L31 forward | (switch (>>> integral (arr (pair x (none Int)))) time) => integral
+L31 forward | (switch (>>> integral (arr (pair x (event 1)))) time) => nothing
+L32 forward | (dSwitch (>>> integral (arr (pair x (none Int)))) time) => integral
+L33 forward | (first (switch integral time)) => (switch (>>> (first integral) (arr (pair (pair (fst (fst x)) (snd x)) (snd (fst x))))) (first time))
+L34 forward | (first (dSwitch integral time)) => (dSwitch (>>> (first integral) (arr (pair (pair (fst (fst x)) (snd x)) (snd (fst x))))) (first time))
+L35 forward | (>>> (arr (pair (neg x) (none Int))) (rSwitch integral time)) => (>>> (arr (neg x)) integral)
+L36 forward | (>>> (rSwitch integral time) (arr (neg x))) => (rSwitch (>>> integral (arr (neg x))) (>>> time (arr (neg x))))
+§ Frozen networks.
+L37 forward | (kSwitch integral (arr (none Unit)) time) => integral
+L38 forward | (kSwitch integral time (old 0)) => integral
+L38 forward 1 | (kSwitch integral time (old 0)) => nothing
+L38 forward 2 | (kSwitch integral time (old 2)) => integral
+L38 forward | (kSwitch integral time (old 1)) => nothing
+L39 forward | (pSwitch (fst x) (col integral) (arr (none Int)) time) => (parB (>>> (arr (then (pair x 0) (fst x))) integral))
+L39 forward | (pSwitch x (col{63* time} integral) (arr (none Int)) time) => (parB{63* (>>> (arr (then (pair x #) x)) time)} (>>> (arr (then (pair x 63) x)) integral))
+L39 forward | (pSwitch x (col{65* time}) (arr (none Int)) time) => nothing
+L39 forward | (pSwitch x (col) (arr (none Int)) time) => nothing
+L39 forward | (pSwitch x (col time) (arr (event 1)) time) => nothing
+§ Members.
+L40 forward | (>>> (parB time integral) (arr (nth x 1 7))) => integral
+L40 forward | (>>> (parB time integral) (arr (nth x 2 7))) => nothing
+L40 forward | (>>> (parB time integral) (arr (nth x -1 7))) => nothing
+L40 forward | (>>> (parB time integral) (arr (nth x (p 0) 7))) => nothing
+L40 forward | (>>> (parB time) (arr (nth x 0 7))) => time
+L40 forward | (>>> (parB{63* time} integral) (arr (nth x 63 7))) => integral
+L40 forward | (>>> (parB{65* time}) (arr (nth x 0 7))) => nothing
+L41 forward | (>>> time (parB integral)) => (parB (>>> time integral))
+L41 forward | (>>> time (parB{63* (iPre #)} integral)) => (parB{63* (>>> time (iPre #))} (>>> time integral))
+L41 forward | (>>> time (parB{65* integral})) => nothing
+L41 forward | (>>> time (parB)) => nothing
+L42 forward | (arr (list Int (neg x))) => (parB (arr (neg x)))
+L42 forward | (arr (list Int{64* #})) => (parB{64* (arr #)})
+L42 forward | (arr (list Int{65* 5})) => nothing
+L42 forward | (arr (list Int)) => nothing
+§ First outputs and first inputs.
+L43 forward | (--> 1 (--> true time)) => (--> 1 time)
+L43 forward | (--> 1 (--> 2 (--> 3 time))) => (--> 1 (--> 3 time))
+L43 forward | (--> 1 (>-- 2 time)) => nothing
+L43 forward | (>-- 1 (--> 2 time)) => nothing
+L43 forward | (--> 1 time) => nothing
+L43 backward | (--> 1 time) | (--> 1 (--> x time)) => (--> 1 (--> x time))
+L43 backward | (--> 1 time) | (--> 2 (--> 1 time)) => nothing
+L43 backward | (--> 1 time) => nothing
+L44 forward | (>-- 3 (arr (add x 1))) => (--> (then 3 (add x 1)) (arr (add x 1)))
+L44 forward | (>-- 3 (iPre 0)) => nothing
+L44 forward | (--> 3 (arr x)) => nothing
+L44 backward | (--> (then 3 (neg x)) (arr (neg x))) | (>-- 3 (arr (neg x))) => (>-- 3 (arr (neg x)))
+L44 backward | (--> (then 3 (neg x)) (arr x)) | (>-- 3 (arr x)) => nothing
+§ Late restarts.
+L45 forward | (>>> (drSwitch integral time) (arr (neg x))) => (drSwitch (>>> integral (arr (neg x))) (>>> time (arr (neg x))))
+L45 forward | (>>> (drSwitch integral time) (iPre 0)) => nothing
+L45 forward | (>>> (rSwitch integral time) (arr (neg x))) => nothing
+L36 forward | (>>> (drSwitch integral time) (arr (neg x))) => nothing
+L45 backward | (drSwitch (>>> integral (arr x)) (>>> time (arr x))) | (>>> (drSwitch integral time) (arr x)) => (>>> (drSwitch integral time) (arr x))
+L45 backward | (drSwitch (>>> integral (arr x)) (>>> time (arr 1))) | (>>> (drSwitch integral time) (arr x)) => nothing
+§ Collections without events.
+L46 forward | (>>> (arr (pair (neg x) (none Int))) (rpSwitchB (col time integral) x (arr (p 0)))) => (>>> (arr (neg x)) (parB time integral))
+L46 forward | (>>> (arr (pair x (none Int))) (rpSwitchB (col{64* (iPre #)}) x time)) => (>>> (arr x) (parB{64* (iPre #)}))
+L46 forward | (>>> (arr (pair x (none Int))) (rpSwitchB (col{65* time}) x time)) => nothing
+L46 forward | (>>> (arr (pair x (none Int))) (rpSwitchB (col) x time)) => nothing
+L46 forward | (>>> (arr (pair x (event 1))) (rpSwitchB (col time) x time)) => nothing
+L46 forward | (>>> (arr x) (rpSwitchB (col time) x time)) => nothing
+L46 forward | (>>> time (rpSwitchB (col time) x time)) => nothing
+L46 forward | (rpSwitchB (col time) x time) => nothing
+L46 backward | (>>> (arr x) (parB time)) | (>>> (arr (pair x (none Bool))) (rpSwitchB (col time) (p 3) integral)) => (>>> (arr (pair x (none Bool))) (rpSwitchB (col time) (p 3) integral))
+L46 backward | (>>> (arr x) (parB time)) | (>>> (arr (pair x (none Bool))) (rpSwitchB (col integral) (p 3) integral)) => nothing
+L46 backward | (>>> (arr x) (parB time)) => nothing
+§ Laws of version 1 on the forms of version 2.
+L1 forward | (>>> (arr x) (--> 1 time)) => (--> 1 time)
+L3 forward | (>>> (>>> (--> 1 time) ‹late restart›) ‹collection›) => (>>> (--> 1 time) (>>> ‹late restart› ‹collection›))
+L41 forward | (>>> (>-- 1 time) (parB (--> 1 time))) => (parB (>>> (>-- 1 time) (--> 1 time)))
+§ Numbers of no law, laws of expressions, trees too many or too few, and laws backward.
+L0 forward | (>>> (arr x) time) => nothing
+L47 forward | (>>> (arr x) time) => nothing
+L255 forward | (>>> (arr x) time) => nothing
+E1 forward | (arr (then x 1)) => nothing
+L1 forward | (>>> (arr x) time) | time => nothing
+L1 backward | time => nothing
+L1 backward | time | (>>> (arr x) time) => (>>> (arr x) time)
+L1 backward | time | (>>> (arr x) integral) => nothing
+L1 backward | (>>> (arr x) time) | time => nothing
+L25 backward | (arr (then unit 7)) | (>>> integral (arr (then unit 7))) => (>>> integral (arr (then unit 7)))
+L38 backward 2 | integral | (kSwitch integral time (old 2)) => (kSwitch integral time (old 2))
+L38 backward 1 | integral | (kSwitch integral time (old 2)) => nothing
+L42 backward | (parB (arr x) (arr 1)) | (arr (list Bool x 1)) => (arr (list Bool x 1))
+L42 backward | (parB (arr x) time) | (arr (list Int x 1)) => nothing
+";
+
+#[test]
+fn laws_are_applied_to_expressions(rt: HostRuntime) {
+    all_are_found(&rt, rt.alloc(), Probe::Law(LawProbe::Expr), EXPR_LAWS);
+}
+
+#[test]
+fn laws_are_applied_to_networks(rt: HostRuntime) {
+    all_are_found(&rt, rt.alloc(), Probe::Law(LawProbe::Net), NET_LAWS);
+}

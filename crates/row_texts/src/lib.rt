@@ -1,0 +1,20 @@
+//! What the tests of several crates share: texts in short forms, and what is said of what is found;
+//! readers and writers that fail, and memory that is taken.
+//!
+//!     first_wrong(alloc, "5 => 6", &told) == "5: wanted 6, found 7"
+//!
+//! A row is what is given, `=>`, and what must be told of it, worked out by hand. It stands in a short
+//! form (`texts`), in which ‹NAME› is a text of `named` and ␤ a line feed. No contract says what these
+//! calls answer: tests alone make them.
+//!
+//! First `src/found.rt`, the one way to try a row, then `src/texts.rt`.
+#![tactic(auto)]
+
+pub mod ballast;
+pub mod devices;
+mod found;
+mod named;
+pub mod scarce;
+pub mod texts;
+
+pub use found::first_wrong;

@@ -1,0 +1,142 @@
+// A reader that leaves no memory, and the tries of what reads from it.
+
+use crate::ballast::{Ballast, take_all};
+use crate::devices::Pieces;
+use crate::texts::say;
+use std::alloc::Global;
+use std::io::Read;
+use std::{io, mem};
+
+/// When all memory is taken, and how much is left.
+#[derive(Clone, Copy)]
+pub struct Shortage {
+    /// The read that takes it, counted from 1; 0 where it is taken before the first one.
+    pub at_read: usize,
+    /// The bytes that are left.
+    pub spare: usize,
+}
+
+/// Gives its bytes one at a time, and takes all memory but what is to be left.
+#[derive(Drop)]
+pub struct Scarce<'a> {
+    alloc: Global,
+    pieces: Pieces<'a>,
+    reads: usize,
+    shortage: Shortage,
+    ballast: Option<Ballast>,
+}
+
+impl<'a> Scarce<'a> {
+    /// Gives the bytes, and takes the memory at its turn.
+    pub fn new(alloc: Global, bytes: &'a [u8], shortage: Shortage) -> Scarce<'a> {
+        let mut reader = Scarce {
+            alloc,
+            pieces: Pieces::new(bytes, 1, 0),
+            reads: 0,
+            shortage,
+            ballast: None,
+        };
+        reader.seize();
+        reader
+    }
+
+    /// Takes the memory where it is the turn of this read.
+    fn seize(&mut self) {
+        if self.reads == self.shortage.at_read {
+            let taken = take_all(self.alloc, self.shortage.spare).ok();
+            drop(mem::replace(&mut self.ballast, taken));
+        }
+    }
+}
+
+impl Read for Scarce<'_> {
+    fn read(&mut self, buf: &mut [u8]) -> io::Result<usize> {
+        self.reads = self.reads.saturating_add(1);
+        self.seize();
+        self.pieces.read(buf)
+    }
+}
+
+/// How a try ends.
+#[derive(Clone, Copy)]
+pub enum Ending {
+    /// As with ample memory.
+    Whole,
+    /// Refused memory, behind so many lines of the whole.
+    Refused(usize),
+    /// Otherwise.
+    Other,
+}
+
+/// Tries with memory that is short at each read in turn, and at each with more and more bytes left,
+/// until one ends as with ample memory.
+#[derive(Clone, Copy)]
+pub struct Tries {
+    last_read: usize,
+    next: Shortage,
+    refused: bool,
+    behind_lines: bool,
+    other: bool,
+}
+
+impl Tries {
+    /// Before the first try, for so many reads.
+    pub fn new(reads: usize) -> Tries {
+        Tries {
+            last_read: reads,
+            next: Shortage {
+                at_read: 0,
+                spare: 0,
+            },
+            refused: false,
+            behind_lines: false,
+            other: false,
+        }
+    }
+
+    /// What the next try is short of; `None` where each read has had its turn.
+    pub fn next(&self) -> Option<Shortage> {
+        if self.next.at_read <= self.last_read {
+            Some(self.next)
+        } else {
+            None
+        }
+    }
+
+    /// Notes how the next try ends, and goes on to the one behind it.
+    pub fn note(&mut self, ending: Ending) {
+        match ending {
+            Ending::Whole => {
+                self.next.at_read = self.next.at_read.saturating_add(1);
+                self.next.spare = 0;
+                return;
+            }
+            Ending::Refused(lines) => {
+                self.refused = true;
+                self.behind_lines = self.behind_lines || lines > 0;
+            }
+            Ending::Other => self.other = true,
+        }
+        self.next.spare = more_than(self.next.spare);
+    }
+
+    /// Tells whether tries were refused memory, whether also behind lines, and whether each ended as
+    /// it may.
+    pub fn tell(&self, out: &mut String) {
+        let goes_on = self.next().is_some();
+        match (self.other || goes_on, self.refused, self.behind_lines) {
+            (true, _, _) => say(out, "another answer"),
+            (false, false, _) => say(out, "never refused"),
+            (false, true, false) => say(out, "refused at first"),
+            (false, true, true) => say(out, "refused, also behind lines"),
+        }
+    }
+}
+
+/// How many tries there are at most.
+pub const MOST_TRIES: usize = 20_000;
+
+/// A few bytes more, so that a growth is refused that the try before didn't come to.
+fn more_than(spare: usize) -> usize {
+    spare.saturating_add(16).saturating_add(spare / 32)
+}
