@@ -1,237 +1,177 @@
-"""Networks as diagrams of boxes and arrows, laid out by graphviz."""
+"""Networks as pictures of boxes and arrows, which graphviz draws."""
+from __future__ import annotations
+
+import re
 import shutil
 import subprocess
+from typing import Optional
 
-from model.trees import at_text, children, head, is_network, shown
-from workbench.ending import UNREADABLE, Refused, Words, ended, write
-from workbench.layout import flat
-from workbench.outline import SWITCHES, network_of, scope_of
-from workbench.shorter import shortened
-from workbench.watching import node_of
+from workbench.diagram import Chain, Diagram
+from workbench.ending import UNREADABLE, Refused, Words, write
+from workbench.outline import Network, network_of
+from workbench.placing import Canvas, Line, Node, placed
+from workbench.signals import Position
+from workbench.watching import add_position, position_in
 
-ABOUT = """Draws NET as boxes and arrows, from left to right: parallel parts stand below one another, what is fed
-back goes back through its constant, and a switch is a frame with its continuation behind a dashed line.
+ABOUT = """Draws NET as boxes and arrows, from left to right; what has no room goes on in the next row.
 
-  yampa draw NET -o FILE.svg
+  yampa draw NET -o FILE.svg        or FILE.png, FILE.pdf, FILE.dot
   yampa draw NET --types --positions > FILE.svg
+
+A dot forks: all branches get what comes. A hollow bar parts a pair, its first part above; a full one joins
+what comes to a pair or a list, from above. What is fed back goes back below, through its constant. A
+switch is a frame: what runs, what watches it, and dashed what takes over at the event. Each name of a file
+with names is a box with a double edge; --at draws what it stands for, --open all in one picture. Point at a
+box in a browser for its whole text.
 
 Needs graphviz (Debian's package `graphviz`)."""
 
-LONGEST = 60
+SECONDS = 20
+WIDTH = 1000
+HIGHEST = {"png": 24_000}
+ENDINGS = ("svg", "png", "pdf", "dot")
+MARGIN = 12.0
+
 STYLE = """digraph network {
-rankdir=LR; compound=true; nodesep=0.25; ranksep=0.4; bgcolor="transparent";
-graph [fontname="sans-serif", fontsize=11, style=rounded, color="#888888"];
-node [fontname="sans-serif", fontsize=11, shape=box, style="rounded,filled", fillcolor="#f4f4f4", color="#444444", margin="0.12,0.06"];
-edge [fontname="sans-serif", fontsize=9, color="#444444", arrowsize=0.7];
+layout=neato; bgcolor="#ffffff"; outputorder=nodesfirst; splines=line; pad=0; dpi=DPI; notranslate=true;
+node [fontname="monospace", fontsize=10, shape=box, fixedsize=true, style=filled, fillcolor="#f4f4f4", color="#444444", fontcolor="#111111", penwidth=0.8, label="", margin=0];
+edge [color="#333333", arrowsize=0.6, penwidth=0.9];
 """
-
-
-class Drawing:
-    """Collects the lines of a graph; each part of a network has a node in which it begins and one in which it ends."""
-
-    def __init__(self, whole, types, positions):
-        self.whole, self.types, self.positions = whole, types, positions
-        self.lines, self.count = [], 0
-
-    def text(self):
-        begin, end = self.point("in"), self.point("out")
-        first, last = self.part(())
-        self.edge(begin, first, self.whole.input)
-        self.edge(last, end, self.whole.output(()))
-        return STYLE + "\n".join(self.lines) + "\n}\n"
-
-    # ---- lines
-
-    def name(self):
-        self.count += 1
-        return f"n{self.count}"
-
-    def node(self, label, position=None, **how):
-        name = self.name()
-        if self.positions and position is not None:
-            label += "\n" + at_text(position)
-        extra = "".join(f', {key}="{value}"' for key, value in how.items())
-        self.lines.append(f'{name} [label={quoted(label)}{extra}];')
-        return name
-
-    def point(self, label=""):
-        return self.node(label, shape="plaintext", fillcolor="none", style="solid") if label else self.node("", shape="point", width="0.06")
-
-    def edge(self, start, end, type_=None, label="", **how):
-        shown_type = shown(type_) if self.types and type_ is not None else ""
-        text = "\n".join(part for part in (label, shown_type) if part)
-        extra = "".join(f', {key}="{value}"' for key, value in how.items())
-        self.lines.append(f"{start} -> {end} [label={quoted(text)}{extra}];")
-
-    def frame(self, label, position, **how):
-        """Opens a frame; what is drawn up to its close stands inside."""
-        if self.positions:
-            label += " " + at_text(position)
-        extra = "".join(f' {key}="{value}";' for key, value in how.items())
-        self.lines.append(f"subgraph cluster_{self.name()} {{ label={quoted(label)};{extra}")
-
-    def close(self):
-        self.lines.append("}")
-
-    # ---- parts
-
-    def part(self, position):
-        """The nodes in which the part at a position begins and ends."""
-        tree = self.whole.at(position)
-        word = head(tree)
-        draw = getattr(self, "draw_" + NAMES[word]) if word in NAMES else self.primitive
-        return draw(position, tree)
-
-    def inner(self, position, number):
-        return self.part((*position, number))
-
-    def primitive(self, position, tree):
-        name = self.node(label_of(tree), position)
-        return name, name
-
-    def draw_seq(self, position, _tree):
-        first, last = self.inner(position, 0)
-        begin, end = self.inner(position, 1)
-        self.edge(last, begin, self.whole.output((*position, 0)))
-        return first, end
-
-    def draw_first(self, position, _tree):
-        begin, end = self.node("", position, shape="point", width="0.06"), self.node("", shape="point", width="0.06")
-        first, last = self.inner(position, 0)
-        given = self.whole.given(position)
-        self.edge(begin, first, given[1], "fst")
-        self.edge(last, end, self.whole.output((*position, 0)))
-        self.edge(begin, end, given[2], "snd", style="dotted")
-        return begin, end
-
-    def draw_members(self, position, tree):
-        begin, end = self.point(), self.node("list", position)
-        for number in range(len(children(tree))):
-            first, last = self.inner(position, number)
-            self.edge(begin, first)
-            self.edge(last, end, self.whole.output((*position, number)), str(number))
-        return begin, end
-
-    def draw_loop(self, position, tree):
-        first, last = self.inner(position, 1)
-        begin, end = self.node("pair", position), self.node("", shape="point", width="0.06")
-        back = self.node(f"at first {short(tree[1])}", (*position, 0), fillcolor="#fff4dd")
-        output = self.whole.output((*position, 1))
-        self.edge(begin, first, self.whole.given((*position, 1)))
-        self.edge(last, end, output[1], "fst")
-        self.edge(last, back, output[2], "snd", constraint="false")
-        self.edge(back, begin, None, constraint="false")
-        return begin, end
-
-    def draw_opening(self, position, tree):
-        word = head(tree)
-        constant = self.node(("first output " if word == "-->" else "first input ") + short(tree[1]), (*position, 0), fillcolor="#fff4dd")
-        first, last = self.inner(position, 1)
-        if word == "-->":
-            self.edge(last, constant, self.whole.output((*position, 1)))
-            return first, constant
-        self.edge(constant, first, self.whole.given((*position, 1)))
-        return constant, last
-
-    def draw_switch(self, position, tree):
-        """A frame with what runs and, behind a dashed line, what takes over."""
-        level, _ = scope_of(self.whole.tree, position)
-        begin, end = self.point(), self.point()
-        self.frame(head(tree), position)
-        ends = []
-        for number, child in enumerate(children(tree)):
-            role = role_of(tree, number)
-            if not is_network(child):
-                self.node(f"{role} {short(child)}", (*position, number), fillcolor="#fff4dd")
-                continue
-            if role == TAKES_OVER:
-                self.frame(f"from the event on, its value (p {level})", (*position, number), style="dashed")
-            else:
-                self.frame(role, (*position, number), color="#cccccc")
-            ends.append((number, role, *self.inner(position, number)))
-            self.close()
-        self.close()
-        for number, role, first, last in ends:
-            style = {TAKES_OVER: "dashed", WATCHES: "dotted"}.get(role, "solid")
-            self.edge(begin, first, None, style=style)
-            if role == WATCHES:
-                self.edge(last, end, None, "event", style=style)
-            else:
-                self.edge(last, end, self.whole.output((*position, number)), style=style)
-        return begin, end
-
-
-TAKES_OVER, WATCHES = "takes over", "watches"
-
-
-def role_of(tree, number):
-    """What a part of a switch does in it."""
-    word, last = head(tree), len(children(tree)) - 1
-    if number == last:
-        return TAKES_OVER
-    if word in ("kSwitch", "pSwitch") and number == last - 1:
-        return WATCHES
-    if word == "pSwitch":
-        return "routes by" if number == 0 else "member"
-    if word == "rpSwitchB":
-        return "chooses by" if number == last - 1 else "member"
-    return "runs"
-
-
-NAMES = {
-    ">>>": "seq",
-    "first": "first",
-    "parB": "members",
-    "loopPre": "loop",
-    "-->": "opening",
-    ">--": "opening",
-    **dict.fromkeys(SWITCHES, "switch"),
+KINDS = {
+    "part": 'style="rounded,filled"',
+    "name": 'style=filled, fillcolor="#e6eef8", peripheries=2',
+    "cut": 'style="filled,dashed", fillcolor="#eeeeee"',
+    "constant": 'style=filled, fillcolor="#fff4dd"',
+    "frame": 'style="rounded", color="#888888"',
+    "dashed": 'style="rounded,dashed", color="#666666"',
+    "bar": 'style=filled, fillcolor="#333333", color="#333333"',
+    "split": 'style=filled, fillcolor="#ffffff", color="#333333"',
+    "dot": 'shape=point, fillcolor="#333333", color="#333333"',
+    "joint": "shape=point, style=invis",
+    "text": "shape=plaintext, style=solid",
 }
 
 
-def short(tree):
-    text = flat(node_of(tree))
-    return text if len(text) <= LONGEST else text[: LONGEST - 4] + " ..)"
+def quoted(text: str) -> str:
+    """A text in quotes; graphviz takes a backslash as its own."""
+    safe = re.sub(r"[\x00-\x09\x0b-\x1f]", "?", text)
+    return '"' + safe.replace("\\", "\\\\").replace('"', '\\"').replace("&", "&amp;").replace("\n", "\\n") + '"'
 
 
-def label_of(tree):
-    """What stands in the box of a network without parts."""
-    text = flat(node_of(shortened(tree)))
-    if head(tree) == "arr":
-        text = flat(node_of(tree[1]))
-    return text if len(text) <= LONGEST else "\n".join(cut(text))
+def dot_of(canvas: Canvas, wide: float, high: float, dpi: int) -> str:
+    """The text that graphviz draws, in which each place is fixed."""
+    lines = [STYLE.replace("DPI", str(dpi))]
+    lines += [node_text(number, node, high) for number, node in enumerate(canvas.nodes)]
+    lines += [line_text(line, high) for line in canvas.lines]
+    corners = [(0, 0), (wide, high)]
+    lines += [f'c{number} [shape=point, style=invis, width=0, height=0, pos="{x:.1f},{y:.1f}!"];' for number, (x, y) in enumerate(corners)]
+    return "\n".join(lines) + "\n}\n"
 
 
-def cut(text):
-    """A long text in lines, cut at spaces."""
-    lines = [""]
-    for word in text.split(" "):
-        if len(lines[-1]) + len(word) > LONGEST:
-            lines.append("")
-        lines[-1] += (" " if lines[-1] else "") + word
-    return lines if len(lines) <= 6 else [*lines[:5], ".."]
+def node_text(number: int, node: Node, high: float) -> str:
+    words = [f'pos="{node.x:.1f},{high - node.y:.1f}!", width={node.wide / 72:.4f}, height={node.high / 72:.4f}', KINDS[node.kind]]
+    if node.text:
+        words.append(f"label={quoted(node.text)}")
+    words.append(f"tooltip={quoted(node.hover or node.text or ' ')}")
+    if node.link:
+        words.append(f"URL={quoted(node.link)}")
+    return f"n{number} [{', '.join(words)}];"
 
 
-def quoted(text):
-    return '"' + text.replace("\\", "\\\\").replace('"', '\\"').replace("\n", "\\n") + '"'
+def line_text(line: Line, high: float) -> str:
+    """A line as the curves that graphviz takes, each of which is straight."""
+    points = [(x, high - y) for x, y in line.points]
+    end = ""
+    if line.arrow:
+        (x0, y0), (x1, y1) = points[-2:]
+        length = max(abs(x1 - x0) + abs(y1 - y0), 0.1)
+        end = f"e,{x1:.1f},{y1:.1f} "
+        points[-1] = (x1 - 6 * (x1 - x0) / length, y1 - 6 * (y1 - y0) / length)
+    curve = [points[0]]
+    for before, after in zip(points, points[1:]):
+        curve += [before, after, after]
+    text = " ".join(f"{x:.1f},{y:.1f}" for x, y in curve)
+    start, stop = line.ends
+    return f'n{start} -> n{stop} [pos="{end}{text}", style={line.style}, arrowhead={"normal" if line.arrow else "none"}];'
 
 
-def svg_of(whole, types, positions):
-    """The drawing as SVG."""
-    if not shutil.which("dot"):
+def drawn(picture: Chain, width: float, types: bool, ends: tuple, links: Optional[dict] = None) -> tuple:
+    """What is put down of a picture between its input and its output, and how wide and high it is."""
+    canvas = Canvas(links=links or {})
+    place = placed(picture, types)
+    side = max(map(len, ends)) * 6.1 + 34
+    place.measure(width - 2 * side)
+    x, y = side, MARGIN
+    first, last = place.put(canvas, x, y)
+    begins, ended_at = y + place.enters, y + place.leaves
+    start = canvas.node("text", MARGIN + len(ends[0]) * 3.05, begins, len(ends[0]) * 6.1, 12, ends[0])
+    stop = canvas.node("text", x + place.wide + 24 + len(ends[1]) * 3.05, ended_at, len(ends[1]) * 6.1, 12, ends[1])
+    canvas.line([(MARGIN + len(ends[0]) * 6.1 + 2, begins), (x, begins)], start, first, arrow=place.arrow)
+    canvas.line([(x + place.wide, ended_at), (x + place.wide + 20, ended_at)], last, stop)
+    return canvas, x + place.wide + 24 + len(ends[1]) * 6.1 + MARGIN, place.high + 2 * MARGIN
+
+
+def rendered(canvas: Canvas, wide: float, high: float, ending: str) -> bytes:
+    """The picture as a file of that ending."""
+    text = dot_of(canvas, wide, high, 96 if ending == "png" else 72)
+    if ending == "dot":
+        return text.encode()
+    if not shutil.which("neato"):
         raise Refused("graphviz is missing: install graphviz (Debian: apt-get install graphviz)", UNREADABLE)
-    text = Drawing(whole, types, positions).text()
-    ran = subprocess.run(["dot", "-Tsvg"], input=text.encode(), capture_output=True, timeout=120)
+    if high > HIGHEST.get(ending, high):
+        raise Refused(f"the drawing is {high:,.0f} points high, too high for a {ending}: {SMALLER}, or an svg")
+    try:
+        ran = subprocess.run(["neato", "-n2", f"-T{ending}"], input=text.encode(), capture_output=True, timeout=SECONDS)
+    except subprocess.TimeoutExpired:
+        raise Refused(f"graphviz takes over {SECONDS} seconds for the {len(canvas.nodes):,} parts of the drawing: {SMALLER}") from None
     if ran.returncode:
-        raise Refused("graphviz: " + ran.stderr.decode(errors="replace").split("\n")[0], UNREADABLE)
-    return ran.stdout.decode()
+        told = ran.stderr.decode(errors="replace").strip().split("\n")[0]
+        raise Refused(f"graphviz: {told or f'ended with status {ran.returncode}'}", UNREADABLE)
+    return ran.stdout
 
 
-def main():
+SMALLER = "draw less of it by --depth 2 or --at"
+
+
+def picture_of(whole: Network, diagram: Diagram, position: Position, width: float, ending: str, links: Optional[dict] = None) -> bytes:
+    """The drawing of what stands at a position."""
+    ends = ("in", "out")
+    if diagram.types:
+        ends = (f"in {diagram.type(whole.given(position))}"[:40], f"out {diagram.type(whole.output(position))}"[:40])
+    return rendered(*drawn(diagram.picture(position), width, diagram.types, ends, links), ending)
+
+
+def ending_of(name: Optional[str], words: Words) -> str:
+    """What kind of file is wanted, by the ending of its name."""
+    if name is None:
+        return "svg"
+    ending = name.rsplit(".", 1)[-1].lower() if "." in name.rsplit("/", 1)[-1] else ""
+    if ending not in ENDINGS and not name.startswith("/dev/"):
+        words.error(f"-o {name}: a drawing's file ends in {', '.join('.' + one for one in ENDINGS)}")
+    return ending if ending in ENDINGS else "svg"
+
+
+def main() -> None:
     words = Words("draw", ABOUT)
     words.add_argument("net", metavar="NET")
     words.add_argument("--types", action="store_true", help="types on the arrows")
     words.add_argument("--positions", action="store_true", help="positions in the boxes")
-    words.add_argument("-o", metavar="FILE", dest="to", help="writes the drawing there")
+    words.add_argument("--width", type=int, default=WIDTH, metavar="N", help=f"how wide it may be in points, where a box isn't wider: {WIDTH}")
+    words.add_argument("--depth", type=int, default=1_000_000, metavar="N", help="what stands deeper is a box")
+    words.add_argument("--open", action="store_true", dest="opened", help="what names stand for is drawn in their place")
+    add_position(words, "draws what stands at this position", default=[])
+    words.add_argument("-o", metavar="FILE", dest="to", help="writes the drawing there: .svg, .png, .pdf or .dot")
     given = words.parse_args()
-    ended("draw", lambda: write(given.to, svg_of(network_of(given.net), given.types, given.positions)))
+    if not 200 <= given.width <= 100_000:
+        words.error("--width: from 200 to 100000 points")
+    if given.depth < 0:
+        words.error("--depth: a number from 0")
+    ending = ending_of(given.to, words)
+    position = position_in(words, given.at)
+
+    whole = network_of(given.net)
+    row = whole.rows.get(position)
+    if row is None or not row.weight:
+        raise Refused(f"(at{''.join(f' {number}' for number in position)}): no network stands there")
+    diagram = Diagram(whole, not given.opened, given.depth, given.positions, given.types)
+    write(given.to, picture_of(whole, diagram, position, given.width, ending))

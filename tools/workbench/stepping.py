@@ -5,10 +5,10 @@ import shutil
 import sys
 from typing import Callable, Iterator
 
-from workbench.ending import Refused, Words, ended, stream_bytes, write
+from workbench.ending import Refused, Words, read, write
 from workbench.parts import Look, Track, add_choice, looked_at, tell_rest
 from workbench.signals import ABSENT, Several, spelt
-from workbench.watching import add_position, position_of
+from workbench.watching import add_position, position_in
 
 ABOUT = """Shows a run of NET on STREAM sample by sample: input, output, and what each part outputs, by its name in a
 file with names, else by its form and position. In a terminal:
@@ -130,19 +130,13 @@ def main() -> None:
     add_position(words, "only what stands at this position and below", default=[])
     words.add_argument("-o", metavar="FILE", dest="to", help="writes the lines there")
     given = words.parse_args()
-    try:
-        below = position_of(given.at)
-    except ValueError as error:
-        words.error(str(error))
+    below = position_in(words, given.at)
 
-    def work() -> None:
-        look = looked_at(given.net, stream_bytes(given.stream), given.everything, below)
-        if given.lines or given.to or not (sys.stdin and sys.stdin.isatty() and sys.stdout and sys.stdout.isatty()):
-            write(given.to, "".join(lines_of(look)))
-            tell_rest("step", look)
-        elif look.run.times:
-            looked_through(View(look), input)
-        else:
-            raise Refused(look.run.fault or "the stream has no samples")
-
-    ended("step", work)
+    look = looked_at(given.net, read(given.stream), given.everything, below)
+    if given.lines or given.to or not (sys.stdin and sys.stdin.isatty() and sys.stdout and sys.stdout.isatty()):
+        write(given.to, "".join(lines_of(look)))
+        tell_rest("step", look)
+    elif look.run.times:
+        looked_through(View(look), input)
+    else:
+        raise Refused(look.run.fault or "the stream has no samples")

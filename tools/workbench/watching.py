@@ -6,7 +6,7 @@ from typing import Any, NamedTuple
 
 from model.texts import network_text
 from model.trees import at_text, children, head, is_network
-from workbench.ending import Refused, Words, ended, write
+from workbench.ending import Refused, Words, write
 from workbench.instrument import Instrument, absent, arr, default, fst, seq, snd
 from workbench.layout import laid_out
 from workbench.outline import Network, network_of
@@ -109,11 +109,11 @@ def file_text(given: Tree, tree: Tree) -> str:
     return "\n".join([*head_lines, *laid_out(node_of(shortened(tree)))]) + "\n"
 
 
-def position_of(words: list) -> Position:
-    """The position that the words of `--at` name; ValueError where they name none."""
-    numbers = [number for part in words for number in re.findall(r"[^ ()]+", part) if number != "at"]
+def position_in(words: Words, given: list) -> Position:
+    """The position that the words behind `--at` name, as 0 1 or '(at 0 1)'."""
+    numbers = [number for part in given for number in re.findall(r"[^ ()]+", part) if number != "at"]
     if not all(re.fullmatch(r"[0-9]{1,5}", number) for number in numbers):
-        raise ValueError("a position is made of numbers: --at 0 1")
+        words.error("a position is made of numbers: --at 0 1")
     return tuple(map(int, numbers))
 
 
@@ -127,13 +127,7 @@ def main() -> None:
     add_position(words, default=[])
     words.add_argument("-o", metavar="FILE", dest="to", help="writes the network there")
     given = words.parse_args()
-    try:
-        position = position_of(given.at)
-    except ValueError as error:
-        words.error(str(error))
+    position = position_in(words, given.at)
 
-    def work() -> None:
-        whole = network_of(given.net)
-        write(given.to, file_text(whole.input, watched(whole, position).net))
-
-    ended("watch", work)
+    whole = network_of(given.net)
+    write(given.to, file_text(whole.input, watched(whole, position).net))
