@@ -1,14 +1,17 @@
 """What a network looks like: boxes, chains, forks, loops and switches, as one thinks of them."""
 from __future__ import annotations
 
+import re
 from dataclasses import dataclass, field
 from typing import Any, Optional
 
 from model.trees import SWAP, children, head, shown
+from workbench.layout import laid_out
 from workbench.outline import SWITCHES, Network, scope_of
 from workbench.records import shown_type
 from workbench.shorter import EDGE, shortened
 from workbench.signals import Position
+from workbench.watching import node_of
 
 Tree = Any
 
@@ -92,7 +95,7 @@ class Diagram:
     types: bool = False
 
     def __post_init__(self) -> None:
-        self.names = {position: name for name, position in self.whole.program.signals} if self.folds else {}
+        self.names = {position: re.sub(r"#\d+$", "", name) for name, position in self.whole.program.signals} if self.folds else {}
 
     def picture(self, position: Position = ()) -> Chain:
         """The picture of what stands at a position, itself unfolded."""
@@ -179,7 +182,8 @@ class Diagram:
 
     def single(self, position: Position, tree: Tree, depth: int) -> Any:
         if position in self.names:
-            return self.box(position, self.names[position], "name")
+            text = self.names[position] + "\n" + "\n".join(laid_out(node_of(shortened(tree))))
+            return Box(self.label(position, self.names[position]), text[:HOVERED], position, "name")
         word = head(tree)
         if tree == ("arr", "x"):
             return Wire()

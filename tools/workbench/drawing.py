@@ -1,6 +1,7 @@
 """Networks as pictures of boxes and arrows, which graphviz draws."""
 from __future__ import annotations
 
+import os
 import re
 import shutil
 import subprocess
@@ -9,7 +10,7 @@ from typing import Optional
 from workbench.diagram import Chain, Diagram
 from workbench.ending import UNREADABLE, Refused, Words, write
 from workbench.outline import Network, network_of
-from workbench.placing import Canvas, Line, Node, placed
+from workbench.placing import LETTER, Canvas, Line, Node, in_brief, placed
 from workbench.signals import Position
 from workbench.watching import add_position, position_in
 
@@ -30,7 +31,8 @@ SECONDS = 20
 WIDTH = 1000
 HIGHEST = {"png": 24_000}
 ENDINGS = ("svg", "png", "pdf", "dot")
-MARGIN = 12.0
+NEW_LINE = "\\n"
+MARGIN, ARROW = 12.0, 20.0
 
 STYLE = """digraph network {
 layout=neato; bgcolor="#ffffff"; outputorder=nodesfirst; splines=line; pad=0; dpi=DPI; notranslate=true;
@@ -52,10 +54,15 @@ KINDS = {
 }
 
 
-def quoted(text: str) -> str:
-    """A text in quotes; graphviz takes a backslash as its own."""
+def quoted(text: str, line_end: str) -> str:
+    """A text in quotes; a backslash and an ampersand are graphviz's own."""
     safe = re.sub(r"[\x00-\x09\x0b-\x1f]", "?", text)
-    return '"' + safe.replace("\\", "\\\\").replace('"', '\\"').replace("&", "&amp;").replace("\n", "\\n") + '"'
+    return '"' + safe.replace("\\", "\\\\").replace('"', '\\"').replace("&", "&amp;").replace("\n", line_end) + '"'
+
+
+def label_of(text: str) -> str:
+    """The text in a box; several lines begin below one another."""
+    return quoted("".join(f" {line}\n" for line in text.split("\n")), "\\l") if "\n" in text else quoted(text, "")
 
 
 def dot_of(canvas: Canvas, wide: float, high: float, dpi: int) -> str:
@@ -69,12 +76,13 @@ def dot_of(canvas: Canvas, wide: float, high: float, dpi: int) -> str:
 
 
 def node_text(number: int, node: Node, high: float) -> str:
-    words = [f'pos="{node.x:.1f},{high - node.y:.1f}!", width={node.wide / 72:.4f}, height={node.high / 72:.4f}', KINDS[node.kind]]
+    less = 8 if node.kind == "name" else 0
+    words = [f'pos="{node.x:.1f},{high - node.y:.1f}!", width={(node.wide - less) / 72:.4f}, height={(node.high - less) / 72:.4f}', KINDS[node.kind]]
     if node.text:
-        words.append(f"label={quoted(node.text)}")
-    words.append(f"tooltip={quoted(node.hover or node.text or ' ')}")
+        words.append(f"label={label_of(node.text)}")
+    words.append(f"tooltip={quoted(node.hover or ' ', NEW_LINE)}")
     if node.link:
-        words.append(f"URL={quoted(node.link)}")
+        words.append(f"URL={quoted(node.link, '')}")
     return f"n{number} [{', '.join(words)}];"
 
 
@@ -99,16 +107,16 @@ def drawn(picture: Chain, width: float, types: bool, ends: tuple, links: Optiona
     """What is put down of a picture between its input and its output, and how wide and high it is."""
     canvas = Canvas(links=links or {})
     place = placed(picture, types)
-    side = max(map(len, ends)) * 6.1 + 34
-    place.measure(width - 2 * side)
-    x, y = side, MARGIN
+    left, right = (len(text) * LETTER + MARGIN for text in ends)
+    place.measure(width - left - right - 2 * ARROW)
+    x, y = left + ARROW, MARGIN
     first, last = place.put(canvas, x, y)
-    begins, ended_at = y + place.enters, y + place.leaves
-    start = canvas.node("text", MARGIN + len(ends[0]) * 3.05, begins, len(ends[0]) * 6.1, 12, ends[0])
-    stop = canvas.node("text", x + place.wide + 24 + len(ends[1]) * 3.05, ended_at, len(ends[1]) * 6.1, 12, ends[1])
-    canvas.line([(MARGIN + len(ends[0]) * 6.1 + 2, begins), (x, begins)], start, first, arrow=place.arrow)
-    canvas.line([(x + place.wide, ended_at), (x + place.wide + 20, ended_at)], last, stop)
-    return canvas, x + place.wide + 24 + len(ends[1]) * 6.1 + MARGIN, place.high + 2 * MARGIN
+    enters, leaves = y + place.enters, y + place.leaves
+    start = canvas.node("text", (left + MARGIN) / 2, enters, left - MARGIN, 12, ends[0])
+    stop = canvas.node("text", x + place.wide + ARROW + (right - MARGIN) / 2 + 3, leaves, right - MARGIN, 12, ends[1])
+    canvas.line([(left + 3, enters), (x, enters)], start, first, arrow=place.arrow)
+    canvas.line([(x + place.wide, leaves), (x + place.wide + ARROW, leaves)], last, stop)
+    return canvas, x + place.wide + ARROW + right + 3, place.high + 2 * MARGIN
 
 
 def rendered(canvas: Canvas, wide: float, high: float, ending: str) -> bytes:
@@ -127,7 +135,13 @@ def rendered(canvas: Canvas, wide: float, high: float, ending: str) -> bytes:
     if ran.returncode:
         told = ran.stderr.decode(errors="replace").strip().split("\n")[0]
         raise Refused(f"graphviz: {told or f'ended with status {ran.returncode}'}", UNREADABLE)
-    return ran.stdout
+    return hovering(ran.stdout) if ending == "svg" else ran.stdout
+
+
+def hovering(svg: bytes) -> bytes:
+    """The drawing with what is told of a box as its title, and no other titles."""
+    bare = re.sub(rb"<title>[^<]*</title>\n?", b"", svg)
+    return re.sub(rb'(<a [^>]*?) ?xlink:title="([^"]*)"([^>]*>)', rb"\1\3<title>\2</title>", bare)
 
 
 SMALLER = "draw less of it by --depth 2 or --at"
@@ -137,18 +151,16 @@ def picture_of(whole: Network, diagram: Diagram, position: Position, width: floa
     """The drawing of what stands at a position."""
     ends = ("in", "out")
     if diagram.types:
-        ends = (f"in {diagram.type(whole.given(position))}"[:40], f"out {diagram.type(whole.output(position))}"[:40])
+        ends = (f"in {in_brief(diagram.type(whole.given(position)))}", f"out {in_brief(diagram.type(whole.output(position)))}")
     return rendered(*drawn(diagram.picture(position), width, diagram.types, ends, links), ending)
 
 
-def ending_of(name: Optional[str], words: Words) -> str:
-    """What kind of file is wanted, by the ending of its name."""
-    if name is None:
-        return "svg"
-    ending = name.rsplit(".", 1)[-1].lower() if "." in name.rsplit("/", 1)[-1] else ""
-    if ending not in ENDINGS and not name.startswith("/dev/"):
-        words.error(f"-o {name}: a drawing's file ends in {', '.join('.' + one for one in ENDINGS)}")
-    return ending if ending in ENDINGS else "svg"
+def ending_of(name: Optional[str], endings: tuple, words: Words) -> str:
+    """What kind of file is wanted, by the ending of its name; where it has none, an svg."""
+    ending = os.path.splitext(name or "")[1].lower()
+    if ending and ending[1:] not in endings:
+        words.error(f"-o {name}: it ends in {', '.join('.' + one for one in endings)}")
+    return ending[1:] or "svg"
 
 
 def main() -> None:
@@ -166,10 +178,9 @@ def main() -> None:
         words.error("--width: from 200 to 100000 points")
     if given.depth < 0:
         words.error("--depth: a number from 0")
-    ending = ending_of(given.to, words)
-    position = position_in(words, given.at)
-
+    ending = ending_of(given.to, ENDINGS, words)
     whole = network_of(given.net)
+    position = position_in(whole, given.at)
     row = whole.rows.get(position)
     if row is None or not row.weight:
         raise Refused(f"(at{''.join(f' {number}' for number in position)}): no network stands there")

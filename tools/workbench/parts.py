@@ -2,8 +2,8 @@
 from __future__ import annotations
 
 import sys
-from dataclasses import dataclass
-from typing import Any, Iterator
+from dataclasses import dataclass, replace
+from typing import Any, Callable, Iterator
 
 from model.trees import SWAP, at_text, head
 from workbench.ending import Refused, Words
@@ -13,6 +13,7 @@ from workbench.records import parts_of
 from workbench.running import Run, Watched, run_of, signals_of, watchable
 from workbench.shorter import shortened
 from workbench.signals import ABSENT, Position
+from workbench.watching import position_in
 
 Tree = Any
 
@@ -40,19 +41,28 @@ class Track:
         return ".".join(self.path)
 
 
-def tracks(path: tuple, type_: Tree, values: list, position: Position | None = None) -> Iterator[Track]:
-    """A column for each part of nested pairs, called by a record's fields where the type has them."""
+def columns(type_: Tree, path: tuple = (), way: tuple = ()) -> Iterator[tuple]:
+    """The names, the type and the way of each part of nested pairs, called by a record's fields where the type has them. A way is made
+    of 0 and 1, for the first and the second part of a pair."""
     parts = parts_of(type_)
     if not parts:
-        yield Track(path, type_, values, position=position)
+        yield path, type_, way
     for number, (name, part_type) in enumerate(parts):
         last = number == len(parts) - 1
-        yield from tracks((*path, name), part_type, values if last else halves(values, 0), position)
-        values = values if last else halves(values, 1)
+        yield from columns(part_type, (*path, name), (*way, *[1] * number, *([] if last else [0])))
 
 
-def halves(values: list, half: int) -> list:
-    return [value if value is ABSENT else value[half] for value in values]
+def tracks(path: tuple, type_: Tree, values: list, position: Position | None = None) -> Iterator[Track]:
+    """A column for each part of nested pairs."""
+    for names, part_type, way in columns(type_):
+        yield Track((*path, *names), part_type, reached(values, way), position=position)
+
+
+def reached(values: list, way: tuple) -> list:
+    """That part of each value."""
+    for half in way:
+        values = [value if value is ABSENT else value[half] for value in values]
+    return values
 
 
 @dataclass
@@ -86,12 +96,12 @@ def chosen(whole: Network, everything: bool, below: Position = ()) -> list:
     return [position for position in found if not is_wiring(whole.at(position))]
 
 
-def looked_at(net: str, stream: bytes, everything: bool, below: Position = ()) -> Look:
-    """The run of a network with the signals of the parts to look at."""
+def looked_at(net: str, stream: bytes, choose: Callable, start: int | None = None, stop: int | None = None) -> Look:
+    """The run of a network from one time to another with the signals of the parts that are chosen of it."""
     path = again(net)
     whole = network_of(path)
-    run = run_of(path, stream)
-    positions = chosen(whole, everything, below)
+    run = run_of(path, stream, start, stop)
+    positions = choose(whole)
     watched = signals_of(whole, run, positions)
     ends = list(tracks(("input",), whole.program.input, run.inputs))
     ends += tracks(("output",), whole.program.output_type(whole.output(())), run.outputs)
@@ -99,7 +109,13 @@ def looked_at(net: str, stream: bytes, everything: bool, below: Position = ()) -
     for position, signal in watched.signals.items():
         name, type_ = (called(whole, position),), whole.program.named_type(signal.type)
         inside += [Track(name, type_, signal.values, True, position)] if signal.members else tracks(name, type_, signal.values, position)
-    return Look(whole, run, ends, inside, list(notes_on(whole, watched, positions)))
+    return Look(whole, run, ends, inside, list(notes_on(watched, positions)))
+
+
+def stepped(net: str, stream: bytes, everything: bool, below: list) -> Look:
+    """The same with all parts that a person looks at, from those on that the words of `--at` name."""
+    look = looked_at(net, stream, lambda whole: chosen(whole, everything, position_in(whole, below)))
+    return replace(look, notes=[*look.notes, *unseen(look.whole)])
 
 
 def called(whole: Network, position: Position) -> str:
@@ -113,7 +129,7 @@ def word_of(whole: Network, position: Position) -> str:
     return str(head(tree)) if head(tree) in (">>>", "parB", "pSwitch", "rpSwitchB") else str(head(shortened(tree)))
 
 
-def notes_on(whole: Network, watched: Watched, positions: list) -> Iterator[str]:
+def notes_on(watched: Watched, positions: list) -> Iterator[str]:
     """What is to be said of signals that took several runs, and of those that are missing."""
     if watched.runs > 1:
         yield f"{len(positions)} signals don't fit into one run of the program: {watched.runs} runs"
@@ -121,10 +137,14 @@ def notes_on(whole: Network, watched: Watched, positions: list) -> Iterator[str]
         position, fault = next(iter(watched.missing.items()))
         others = f" and {len(watched.missing) - 1} other parts" if len(watched.missing) > 1 else ""
         yield f"{at_text(position)}{others} can't be watched within the limits ({fault})"
+
+
+def unseen(whole: Network) -> Iterator[str]:
+    """That what watches a switch isn't among the signals."""
     seen = set(watchable(whole))
-    unseen = [position for position, row in whole.rows.items() if row.weight and position not in seen and position[:-1] in seen]
-    if unseen:
-        yield f"what watches a switch can't be watched itself: {', '.join(map(at_text, unseen[:8]))}{' ..' * (len(unseen) > 8)}"
+    left = [position for position, row in whole.rows.items() if row.weight and position not in seen and position[:-1] in seen]
+    if left:
+        yield f"what watches a switch can't be watched itself: {', '.join(map(at_text, left[:8]))}{' ..' * (len(left) > 8)}"
 
 
 def tell_rest(tool: str, look: Look) -> None:

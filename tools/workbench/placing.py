@@ -12,7 +12,7 @@ from typing import Any, Optional
 from workbench.diagram import Box, Chain, Fork, Frame, Loop, Switch, Wire
 
 LETTER, LINE = 6.1, 12.0
-LONGEST, MOST_LINES = 44, 8
+LONGEST, MOST_LINES, LONGEST_TYPE = 44, 8, 22
 GAP, ROW, BUS, PAD, LANE, BAR = 24.0, 20.0, 14.0, 8.0, 24.0, 5.0
 
 
@@ -92,13 +92,18 @@ def in_lines(text: str) -> list:
     return lines if len(lines) <= MOST_LINES else [*lines[: MOST_LINES - 1], ".. (point here for all)"]
 
 
+def in_brief(type_: str) -> str:
+    return type_ if len(type_) <= LONGEST_TYPE else type_[: LONGEST_TYPE - 2] + ".."
+
+
 class PlacedBox(Place):
     arrow = True
 
     def measure(self, width: float) -> None:
         self.lines = in_lines(self.part.text)
-        self.wide = max(map(len, self.lines)) * LETTER + 14
-        self.high = len(self.lines) * LINE + 10
+        room = 8 if self.part.kind == "name" else 0
+        self.wide = (max(map(len, self.lines)) + (len(self.lines) > 1)) * LETTER + 14 + room
+        self.high = len(self.lines) * LINE + 10 + room
         self.enters = self.leaves = self.high / 2
 
     def put(self, canvas: Canvas, x: float, y: float) -> tuple:
@@ -132,8 +137,7 @@ class PlacedChain(Place):
     def type_text(self, number: int) -> str:
         if not self.types or number == 0 or not self.part.types:
             return ""
-        text = self.part.types[number - 1]
-        return text if len(text) <= 22 else text[:20] + ".."
+        return in_brief(self.part.types[number - 1])
 
     def measure(self, width: float) -> None:
         self.rows: list = []

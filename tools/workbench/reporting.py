@@ -1,113 +1,136 @@
 """One page on a network: its drawing, its parts with their types, its runs, and a certificate step by step."""
-import html
-import re
+from __future__ import annotations
 
-from model.trees import at_text, is_network, shown
-from workbench.drawing import svg_of as drawing_of
-from workbench.ending import Refused, Words, ended, stream_bytes, write
+import re
+from concurrent.futures import ThreadPoolExecutor
+from pathlib import Path
+from typing import Any, Callable
+
+from model.trees import at_text, is_network
+from workbench.diagram import Diagram
+from workbench.drawing import WIDTH, picture_of
+from workbench.ending import Refused, Words, missing, stream_bytes, write
 from workbench.laws import LAWS
 from workbench.layout import laid_out
-from workbench.outline import network_of
-from workbench.plotting import MOST_POINTS, run_of, svg_of as plot_of
+from workbench.outline import Network
+from workbench.parts import Look, looked_at
+from workbench.plotting import plot_of
 from workbench.program import again, answered, call
+from workbench.records import shown_type
 from workbench.shorter import shortened
 from workbench.tracing import steps_shown
 from workbench.watching import node_of
 
-ABOUT = """Writes one self-contained page on NET and its run on STREAM: the drawing, the outline with types, the
-plots; with TGT and CERT also each step of the certificate, with what stood there before and what stands
-there then.
+ABOUT = """Writes one self-contained page on NET and its run on STREAM: the drawing, one of each name's network, the
+outline with types, the plots; with TGT and CERT also each step of the certificate, with what stood there
+before and what stands there then. What is too large for the page is said there in a line.
 
   yampa report NET STREAM -o FILE.html
   yampa report NET STREAM TGT CERT -o FILE.html
 
-What the page shows is told by tools that nobody has proved; what the program says is said to be its."""
+What the page shows is told by tools that nobody has proved; what the program says is said to be its. Needs
+graphviz, python3-matplotlib and python3-jinja2 (Debian's packages)."""
 
-STYLE = """
-:root { color-scheme: light dark; --ink: #1c1c1c; --paper: #ffffff; --line: #d0d0d0; --soft: #f5f5f5; }
-@media (prefers-color-scheme: dark) {
-  :root { --ink: #e6e6e6; --paper: #181818; --line: #444444; --soft: #232323; }
-  figure svg { filter: invert(1) hue-rotate(180deg); }
-}
-body { font-family: sans-serif; margin: 2rem auto; max-width: 70rem; padding: 0 1rem; color: var(--ink); background: var(--paper); }
-h1 { font-size: 1.4rem; } h2 { font-size: 1.1rem; margin-top: 2rem; }
-figure { overflow-x: auto; margin: 0; } figure svg { max-width: none; }
-pre { background: var(--soft); padding: 0.7rem; overflow-x: auto; border: 1px solid var(--line); border-radius: 4px; }
-table { border-collapse: collapse; font-size: 0.85rem; } td, th { padding: 0.15rem 0.7rem 0.15rem 0; text-align: left; vertical-align: top; }
-td.tree, td.type { font-family: monospace; } details { margin: 0.3rem 0; } summary { cursor: pointer; }
-.side { display: grid; grid-template-columns: 1fr 1fr; gap: 1rem; }
-"""
+ROWS, TEXT_BYTES, DEFINITIONS, SAMPLES = 2_000, 200_000, 60, 100_000
 
 
-def escaped(text):
-    return html.escape(str(text))
+def template() -> Any:
+    try:
+        import jinja2
+    except ImportError as error:
+        raise missing("python3-jinja2", error) from None
+    made = jinja2.Environment(autoescape=True, undefined=jinja2.StrictUndefined)
+    return made.from_string((Path(__file__).parent / "page.html").read_text(encoding="utf-8")), jinja2.utils.markupsafe.Markup
 
 
-def laid(tree):
+def laid(tree: Any) -> str:
     """The lines of a tree; none where nothing is told of it."""
     if tree is None:
         return ""
-    return "\n".join(laid_out(node_of(shortened(tree) if is_network(tree) else tree)))
+    text = "\n".join(laid_out(node_of(shortened(tree) if is_network(tree) else tree)))
+    return text if len(text) <= TEXT_BYTES else text[:TEXT_BYTES] + f"\n.. (the text has {len(text):,} characters)"
 
 
-def svg_only(text):
-    """The drawing without the lines before its first tag, and with names of its own."""
-    return text[text.index("<svg") :]
+def picture(name: str, safe: Callable, make: Callable, **more: Any) -> dict:
+    """A picture of the page, or why there is none."""
+    try:
+        text = make().decode()
+    except Refused as refused:
+        return {"name": name, "fault": str(refused), **more}
+    return {"name": name, "fault": "", "svg": safe(text[text.index("<svg") :]), **more}
 
 
-def outline(whole):
+def drawing_of(whole: Network, position: tuple, links: dict) -> bytes:
+    """A drawing that names none of its parts, so that there may be several in a page."""
+    drawn = picture_of(whole, Diagram(whole, types=True), position, WIDTH, "svg", links)
+    return re.sub(rb' id="[^"]*"', b"", drawn)
+
+
+def drawings_of(whole: Network, safe: Callable) -> tuple:
+    """The drawing of the whole, and those of what names stand for; where one has no room for them, only so many."""
+    firsts: dict = {}
+    for name, position in whole.program.signals:
+        firsts.setdefault(re.sub(r"#\d+$", "", name), position)
+    named = list(firsts.items())[:DEFINITIONS]
+    links = {name: f"#name{number}" for number, (name, _) in enumerate(named)}
+    with ThreadPoolExecutor(4) as pool:
+        first = pool.submit(picture, "whole", safe, lambda: drawing_of(whole, (), links))
+        others = [
+            pool.submit(picture, f"name{number}", safe, lambda at=position: drawing_of(whole, at, links), title=f"{name} {at_text(position)}")
+            for number, (name, position) in enumerate(named)
+        ]
+        return first.result(), [other.result() for other in others]
+
+
+def outline(whole: Network) -> list:
     """A row for each part as the program's outline has it, indented by its depth."""
-    rows = []
-    for position, row in whole.rows.items():
-        indent = "&nbsp;" * 2 * len(position)
-        rows.append(
-            f"<tr><td>{escaped(at_text(position))}</td><td class=tree>{indent}{escaped(row.word)}</td>"
-            f"<td class=type>{escaped(shown(row.type))}</td><td>{row.weight}</td></tr>"
-        )
-    return "<table><tr><th>position</th><th>part</th><th>type</th><th>weight</th></tr>" + "".join(rows) + "</table>"
+    named = whole.program.named_type
+    return [(at_text(at), min(len(at), 40), row.word, shown_type(named(row.type)), row.weight) for at, row in list(whole.rows.items())[:ROWS]]
 
 
-def steps_of(source, certificate):
-    """Each step of a certificate up to one that is refused, with what the program shows at its place before and behind it."""
-    parts = []
-    for number, step in enumerate(steps_shown(source, certificate), 1):
+def certificate_of(net: str, target: str, name: str, files: tuple) -> dict:
+    """What the check says, and each step up to one that is refused, with what the program shows at its place before and behind it."""
+    said = call(["check", net, *files])
+    verdict = said.output.decode().strip() if not said.status else f"refused: {said.fault()}"
+    steps = []
+    for number, step in enumerate(steps_shown(net, files[1]), 1):
         law, direction, position = re.match(r"\(step (\w+) (\w+) (\(.*?\))", step.line).groups()
-        parts.append(
-            f"<details><summary>{number}. {law} {direction} {escaped(position)}</summary>"
-            f"<p><code>{escaped(LAWS[law].left)}</code> = <code>{escaped(LAWS[law].right)}</code></p>"
-            f"<div class=side><pre>{escaped(laid(step.before))}</pre><pre>{escaped(laid(step.after))}</pre></div></details>"
-        )
-    return "".join(parts)
+        told = {"title": f"{number}. {law} {direction} {position}", "left": LAWS[law].left, "right": LAWS[law].right}
+        steps.append({**told, "before": laid(step.before), "after": laid(step.after)})
+    return {"name": name, "target": target, "verdict": verdict, "steps": steps}
 
 
-def page(net, stream_name, certificate):
-    whole = network_of(net)
-    stream = stream_bytes(stream_name)
-    times, found, fault = run_of(net, stream, [])
-    if len(times) > MOST_POINTS:
-        raise Refused(f"the run has {len(times):,} samples, and a page takes {MOST_POINTS:,}: cut the recording")
-    told = answered(["types", net]).decode().splitlines()
-    parts = [
-        f"<h1>{escaped(net)}</h1>",
-        f"<p>{escaped('; '.join(told))} (told by the program).</p>",
-        f"<h2>The network</h2><figure>{svg_only(drawing_of(whole, True, False))}</figure>",
-        f"<details><summary>as text</summary><pre>{escaped(laid(whole.tree))}</pre></details>",
-        f"<h2>A run on {escaped(stream_name)}</h2>",
-        f"<p>{len(times)} samples{', up to ' + escaped(fault) if fault else ''}.</p><figure>{svg_only(plot_of(times, found, ''))}</figure>",
-        f"<h2>Its parts</h2><details open><summary>positions, types and weights</summary>{outline(whole)}</details>",
-    ]
-    if certificate:
-        target, name = certificate
-        said = call(["check", net, target, name])
-        verdict = said.output.decode().strip() if not said.status else f"refused: {said.fault()}"
-        parts.append(f"<h2>The certificate {escaped(name)}</h2><p>From {escaped(net)} to {escaped(target)}: the program's check says <b>{escaped(verdict)}</b>.</p>")
-        parts.append(steps_of(net, name))
-    title = re.sub(r"\s+", " ", net)
-    body = "\n".join(parts)
-    return f"<!DOCTYPE html>\n<html lang=en><head><meta charset=utf-8><title>{escaped(title)}</title><style>{STYLE}</style></head>\n<body>\n{body}\n</body></html>\n"
+def plot(look: Look) -> bytes:
+    count = len(look.run.times)
+    if count > SAMPLES:
+        raise Refused(f"a page's plot takes {SAMPLES:,} samples, and the run has {count:,}: see `yampa plot --from --to`")
+    return plot_of(look, "", "svg")
 
 
-def main():
+def page(given: Any) -> str:
+    form, safe = template()
+    net = again(given.net)
+    told = "; ".join(answered(["types", net]).decode().splitlines())
+    look = looked_at(net, stream_bytes(given.stream), lambda whole: [])
+    whole, count = look.whole, len(look.run.times)
+    drawing, definitions = drawings_of(whole, safe)
+    files = (again(given.target), again(given.certificate)) if given.certificate else None
+    return form.render(
+        title=re.sub(r"\s+", " ", given.net),
+        told=told,
+        drawing=drawing,
+        definitions=definitions,
+        text=laid(whole.tree),
+        stream=given.stream,
+        run=f"{count:,} samples" + (f", up to {look.run.fault}" if look.run.fault else ""),
+        plot=picture("plot", safe, lambda: plot(look)),
+        rows=outline(whole),
+        left=f"The network has {len(whole.rows):,} parts; these are the first {ROWS:,}." if len(whole.rows) > ROWS else "",
+        certificate=certificate_of(net, given.target, given.certificate, files) if files else None,
+    )
+
+
+def main() -> None:
     words = Words("report", ABOUT)
     words.add_argument("net", metavar="NET")
     words.add_argument("stream", metavar="STREAM")
@@ -117,9 +140,4 @@ def main():
     given = words.parse_args()
     if given.target and not given.certificate:
         words.error("TGT wants a CERT behind it")
-
-    def work():
-        certificate = (again(given.target), again(given.certificate)) if given.certificate else None
-        write(given.to, page(again(given.net), again(given.stream), certificate))
-
-    ended("report", work)
+    write(given.to, page(given))

@@ -2,9 +2,10 @@
 from __future__ import annotations
 
 import re
+from bisect import bisect_left, bisect_right
 from concurrent.futures import ThreadPoolExecutor
 from dataclasses import dataclass, field
-from typing import Any, Iterable, Iterator
+from typing import Any, Iterable, Iterator, Optional
 
 from model.texts import network_text
 from model.trees import children, head, is_network
@@ -39,31 +40,34 @@ class Signal:
 
 @dataclass
 class Run:
-    """A run of a network on a stream: the times, inputs and outputs of its samples, and what ended it, if a fault did."""
+    """A run of a network on a stream: the times, inputs and outputs of its samples, of those in a window of them, and what ended it, if
+    a fault did."""
 
     times: list
     inputs: list
     outputs: list
     fault: str
-    stream: bytes = field(repr=False, default=b"")
+    stream: bytes
+    window: slice
 
 
 def refused(told: Told) -> Refused:
     return Refused(told.fault() or f"the program ended with status {told.status}", told.status if told.status in (1, 2, 3) else UNREADABLE)
 
 
-def run_of(net: str, stream: bytes) -> Run:
-    """The run of a network's file."""
+def run_of(net: str, stream: bytes, start: Optional[int] = None, stop: Optional[int] = None) -> Run:
+    """The run of a network's file, from one time to another."""
     told = call(["run", net], stream)
     if told.status and not told.fault().startswith("stream: line"):
         raise refused(told)
-    outputs = values_of(lines_of(told.output))
-    times, values = samples_of(stream, len(outputs))
-    return Run(times, values, outputs, told.fault(), stream)
+    outputs = lines_of(told.output)
+    times, inputs = samples_of(stream, len(outputs))
+    window = slice(0 if start is None else bisect_left(times, start), len(times) if stop is None else bisect_right(times, stop))
+    return Run(times[window], values_of(inputs[window]), values_of(outputs[window]), told.fault(), stream, window)
 
 
 def samples_of(stream: bytes, count: int) -> tuple:
-    """The times and the values of the stream's first lines, which the program took."""
+    """The times and the spellings of the values of the stream's first lines, which the program took."""
     times, spellings, now = [], [], 0
     for line in stream.split(b"\n", count)[:count]:
         if spellings:
@@ -71,7 +75,7 @@ def samples_of(stream: bytes, count: int) -> tuple:
             now += int(step)
         spellings.append(spellings[-1] if line == b"=" else line)
         times.append(now)
-    return times, values_of(spellings)
+    return times, spellings
 
 
 def watchable(whole: Network) -> Iterator[Position]:
@@ -143,7 +147,7 @@ def together(whole: Network, run: Run, positions: list, refusals: list) -> Watch
         return Watched(left.signals | right.signals, left.runs + right.runs, left.missing | right.missing)
     if told.status and told.fault() != run.fault:
         raise refused(told)
-    return Watched(signals_in(whole, made.signals, positions, values_of(lines_of(told.output))), 1)
+    return Watched(signals_in(whole, made.signals, positions, values_of(lines_of(told.output)[run.window])), 1)
 
 
 def signals_in(whole: Network, pack: Pack, positions: list, values: list) -> dict:

@@ -5,10 +5,10 @@ import shutil
 import sys
 from typing import Callable, Iterator
 
-from workbench.ending import Refused, Words, read, write
-from workbench.parts import Look, Track, add_choice, looked_at, tell_rest
+from workbench.ending import Refused, Words, stream_bytes, write
+from workbench.parts import Look, Track, add_choice, stepped, tell_rest
 from workbench.signals import ABSENT, Several, spelt
-from workbench.watching import add_position, position_in
+from workbench.watching import add_position
 
 ABOUT = """Shows a run of NET on STREAM sample by sample: input, output, and what each part outputs, by its name in a
 file with names, else by its form and position. In a terminal:
@@ -130,9 +130,7 @@ def main() -> None:
     add_position(words, "only what stands at this position and below", default=[])
     words.add_argument("-o", metavar="FILE", dest="to", help="writes the lines there")
     given = words.parse_args()
-    below = position_in(words, given.at)
-
-    look = looked_at(given.net, read(given.stream), given.everything, below)
+    look = stepped(given.net, stream_bytes(given.stream), given.everything, given.at)
     if given.lines or given.to or not (sys.stdin and sys.stdin.isatty() and sys.stdout and sys.stdout.isatty()):
         write(given.to, "".join(lines_of(look)))
         tell_rest("step", look)

@@ -6,7 +6,7 @@ from typing import Any, NamedTuple
 
 from model.texts import network_text
 from model.trees import at_text, children, head, is_network
-from workbench.ending import Refused, Words, write
+from workbench.ending import WRONG_WORDS, Refused, Words, write
 from workbench.instrument import Instrument, absent, arr, default, fst, seq, snd
 from workbench.layout import laid_out
 from workbench.outline import Network, network_of
@@ -60,9 +60,6 @@ class Watch(NamedTuple):
 
 def watched(whole: Network, position: Position) -> Watch:
     """The network that outputs what the part at a position outputs."""
-    why = refusal(whole, position)
-    if why:
-        raise Refused(why)
     if not position:
         return Watch(whole.tree, whole.output(()))
     made = Instrument(whole, {told_by(whole, position)}).made()
@@ -109,15 +106,30 @@ def file_text(given: Tree, tree: Tree) -> str:
     return "\n".join([*head_lines, *laid_out(node_of(shortened(tree)))]) + "\n"
 
 
-def position_in(words: Words, given: list) -> Position:
-    """The position that the words behind `--at` name, as 0 1 or '(at 0 1)'."""
-    numbers = [number for part in given for number in re.findall(r"[^ ()]+", part) if number != "at"]
+def position_in(whole: Network, given: list) -> Position:
+    """The position that the words behind `--at` name, as 0 1, or '(at 0 1)', or the name of a network."""
+    text = " ".join(given)
+    for name, position in whole.program.signals:
+        if name == text:
+            return position
+    numbers = [number for number in re.findall(r"[^ ()]+", text) if number != "at"]
     if not all(re.fullmatch(r"[0-9]{1,5}", number) for number in numbers):
-        words.error("a position is made of numbers: --at 0 1")
+        names = [name for name, _ in whole.program.signals]
+        known = f", or one of the names {', '.join(names[:12])}{' ..' * (len(names) > 12)}" if names else ""
+        raise Refused(f"--at {text}: a position is made of numbers, as --at 0 1{known}", WRONG_WORDS)
     return tuple(map(int, numbers))
 
 
-def add_position(words: Words, about: str = "a part's position, child by child", **how: Any) -> None:
+def watched_at(whole: Network, given: list) -> Position:
+    """The same, of a part that can be watched."""
+    position = position_in(whole, given)
+    why = refusal(whole, position)
+    if why:
+        raise Refused(why)
+    return position
+
+
+def add_position(words: Words, about: str = "a part's position, child by child, or its name", **how: Any) -> None:
     words.add_argument("--at", nargs="*", metavar="N", help=about, **how)
 
 
@@ -127,7 +139,5 @@ def main() -> None:
     add_position(words, default=[])
     words.add_argument("-o", metavar="FILE", dest="to", help="writes the network there")
     given = words.parse_args()
-    position = position_in(words, given.at)
-
     whole = network_of(given.net)
-    write(given.to, file_text(whole.input, watched(whole, position).net))
+    write(given.to, file_text(whole.input, watched(whole, watched_at(whole, given.at)).net))

@@ -5,10 +5,10 @@ import re
 from typing import Any, Iterator
 
 from model.trees import is_form
-from workbench.ending import Refused, Words, read, write
-from workbench.parts import Look, Track, add_choice, looked_at, tell_rest, tracks
+from workbench.ending import Refused, Words, stream_bytes, write
+from workbench.parts import Look, Track, add_choice, stepped, tell_rest, tracks
 from workbench.signals import ABSENT, Several
-from workbench.watching import add_position, position_in
+from workbench.watching import add_position
 
 ABOUT = """Writes a run of NET on STREAM as a value change dump (VCD), which GTKWave shows: input, output, and what each
 part outputs, by its name in a file with names, else by its form and position.
@@ -128,9 +128,7 @@ def main() -> None:
     found = re.fullmatch(r"(1|10|100) ?(s|ms|us|ns|ps|fs)", given.timescale)
     if not found:
         words.error("--timescale: 1, 10 or 100, and s, ms, us, ns, ps or fs, as 1ms")
-    below = position_in(words, given.at)
-
-    look = looked_at(given.net, read(given.stream), given.everything, below)
+    look = stepped(given.net, stream_bytes(given.stream), given.everything, given.at)
     if not look.run.times:
         raise Refused(look.run.fault or "the stream has no samples")
     write(given.to, dump(look, " ".join(found.groups())))
