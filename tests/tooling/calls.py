@@ -5,7 +5,7 @@ import subprocess
 
 from tooling.common import NUMBERS, TOOLS, TOP, in_files, own_folder, tool, want
 
-NEEDS = ["dot", "matplotlib", "z3"]
+NEEDS = ["dot", "matplotlib", "jinja2", "z3"]
 
 SHIM = """#!/bin/bash
 if grep -q "^$1 " {top}/tools/list; then exec {top}/tools/tool "$@"; fi

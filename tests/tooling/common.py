@@ -24,7 +24,7 @@ from model.trees import is_network  # noqa: E402
 
 # What is tried with more than Python, and the Debian packages that bring it.
 PACKAGES = {"dot": "graphviz", "matplotlib": "python3-matplotlib", "hypothesis": "python3-hypothesis", "chromium": "chromium"}
-PACKAGES |= {"distributed": "python3-distributed", "z3": "python3-z3"}
+PACKAGES |= {"jinja2": "python3-jinja2", "distributed": "python3-distributed", "z3": "python3-z3"}
 PROGRAMS = ["dot", "chromium"]
 TOOLS = [line.split()[0] for line in (TOP / "tools/list").read_text().splitlines() if not line.startswith("#")]
 EXAMPLES = sorted(path.parent for path in (TOP / "examples").glob("*/net"))

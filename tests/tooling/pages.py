@@ -7,7 +7,7 @@ from workbench.program import call
 
 from tooling.common import EXAMPLES, each, leave_out, own_folder, there, tool, want
 
-NEEDS = ["dot", "matplotlib"]
+NEEDS = ["dot", "matplotlib", "jinja2"]
 
 
 class Tags(HTMLParser):
@@ -45,7 +45,7 @@ def pages_are_written(folder):
         want(f"report {example.name}", not status and is_html(text), error)
         want(f"{example.name}'s page stands alone", "<svg" in text and not re.search(r'(src|href)="(?!#|http://www.w3.org)', text))
         rows = call(["outline", str(example / "net")]).output.count(b"\n")
-        want(f"{example.name}'s page has the outline", text.count("<tr><td>") == rows, rows)
+        want(f"{example.name}'s page has the outline", text.count("<tr><td>") == min(rows, 2_000) and ("these are the first" in text) == (rows > 2_000), rows)
     page = folder / "boiler.html"
     text = page.read_text()
     want("the page has each step", text.count("<details><summary>") >= 21 and "accepted 21" in text)

@@ -181,7 +181,7 @@ def terminal_is_answered(folder):
     """What is typed in a terminal leads from sample to sample."""
     net, file = in_files(folder, net=NUMBERS + "(>>> (iPre 0) (arr (mul x 10)))", stream="5\n+1 6\n+3 7\n+1 8\n")
     ours, theirs = pty.openpty()
-    child = subprocess.Popen([TOP / "tools/yampa-step", net, file], stdin=theirs, stdout=theirs, stderr=theirs, close_fds=True)
+    child = subprocess.Popen([TOP / "tools/tool", "step", net, file], stdin=theirs, stdout=theirs, stderr=theirs, close_fds=True)
     os.close(theirs)
     found = b""
     for typed in (b"\n", b"n\n", b"p\n", b"4\n", b"/arr\n", b"/nothing\n", b"99\n", b"q\n"):

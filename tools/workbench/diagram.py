@@ -5,7 +5,7 @@ import re
 from dataclasses import dataclass, field
 from typing import Any, Optional
 
-from model.trees import SWAP, children, head, shown
+from model.trees import SWAP, at_text, children, head, shown
 from workbench.layout import laid_out
 from workbench.outline import SWITCHES, Network, scope_of
 from workbench.records import shown_type
@@ -17,17 +17,16 @@ Tree = Any
 
 FORKED = ("arr", ("pair", "x", "x"))
 SWAPPED = ("arr", SWAP)
-HOVERED = 4_000
 
 
 @dataclass
 class Box:
-    """A part that is drawn as one box: its text, what is told where one points at it, and whether it stands for a name that has a
-    drawing of its own."""
+    """A part that is drawn as one box: its text, what is told where one points at it, its position where that is shown, and whether it
+    stands for a name that has a drawing of its own (`name`), for what is left out (`cut`), or for a `constant`."""
 
     text: str
     hover: str = ""
-    position: Optional[Position] = None
+    place: str = ""
     kind: str = "part"
 
 
@@ -95,7 +94,8 @@ class Diagram:
     types: bool = False
 
     def __post_init__(self) -> None:
-        self.names = {position: re.sub(r"#\d+$", "", name) for name, position in self.whole.program.signals} if self.folds else {}
+        self.known = {position: re.sub(r"#\d+$", "", name) for name, position in self.whole.program.signals}
+        self.names = self.known if self.folds else {}
 
     def picture(self, position: Position = ()) -> Chain:
         """The picture of what stands at a position, itself unfolded."""
@@ -103,19 +103,22 @@ class Diagram:
 
     # ---- texts
 
+    def place(self, position: Position) -> str:
+        return at_text(position) if self.positions else ""
+
     def label(self, position: Position, text: str) -> str:
-        return f"{text}\n(at{''.join(f' {number}' for number in position)})" if self.positions else text
+        return f"{text} {self.place(position)}".rstrip()
 
     def written(self, position: Position) -> str:
-        """The part at a position as it is written, or as one writes it."""
+        """The part at a position as it is written, or as one writes it; of what a name stands for that."""
         program, tree = self.whole.program, self.whole.at(position)
-        if program.meant_at(position) is not None:
+        if program.meant_at(position) is not None and position not in self.known:
             return program.spelt(position)
         return shown(shortened(tree)) if self.whole.rows[position].weight else shown(tree)
 
     def box(self, position: Position, text: str = "", kind: str = "part") -> Box:
         written = self.written(position)
-        return Box(self.label(position, text or written), written[:HOVERED], position, kind)
+        return Box(text or written, written, self.place(position), kind)
 
     def type(self, type_: Tree) -> str:
         return shown_type(self.whole.program.named_type(type_)) if self.types else ""
@@ -164,7 +167,7 @@ class Diagram:
         _, told, start = self.whole.at(first)
         whole = first[:-1] if first[:-1] == second[:-1] and first[-1:] == (0,) else None
         text = self.written(whole) if whole is not None and self.whole.program.meant_at(whole) else shown(("accumHoldBy", told, start))
-        return Box(self.label(first, text), text[:HOVERED], first)
+        return Box(text, text, self.place(first))
 
     def branch(self, position: Position, depth: int) -> Any:
         part = self.deeper(position, depth)
@@ -176,14 +179,14 @@ class Diagram:
         weight = int(self.whole.rows[position].weight)
         if depth > 0 or weight == 1 or position in self.names:
             return self.part(position, tree, depth - 1)
-        return Box(self.label(position, f"{head(shortened(tree))} .. (weight {weight})"), self.written(position)[:HOVERED], position, "cut")
+        return Box(f"{head(shortened(tree))} .. (weight {weight})", self.written(position), self.place(position), "cut")
 
     # ---- single parts
 
     def single(self, position: Position, tree: Tree, depth: int) -> Any:
         if position in self.names:
             text = self.names[position] + "\n" + "\n".join(laid_out(node_of(shortened(tree))))
-            return Box(self.label(position, self.names[position]), text[:HOVERED], position, "name")
+            return Box(self.names[position], text, self.place(position), "name")
         word = head(tree)
         if tree == ("arr", "x"):
             return Wire()
@@ -198,7 +201,7 @@ class Diagram:
         if word in SWITCHES:
             return self.switch(position, tree, depth)
         if word == "arr" and head(shortened(tree)) == "arr":
-            return Box(self.label(position, self.written((*position, 0))), self.written(position)[:HOVERED], position)
+            return Box(self.written((*position, 0)), self.written(position), self.place(position))
         return self.box(position)
 
     def constant(self, position: Position, behind: str) -> Box:
@@ -206,14 +209,14 @@ class Diagram:
         return self.box(inner, behind + self.written(inner), "constant")
 
     def frame(self, position: Position, label: str, depth: int, dashed: bool = False) -> Frame:
-        return Frame(self.label(position, label).replace("\n", " "), self.deeper(position, depth), dashed)
+        return Frame(self.label(position, label), self.deeper(position, depth), dashed)
 
     def switch(self, position: Position, tree: Tree, depth: int) -> Switch:
         word, last = head(tree), len(children(tree)) - 1
         level, frozen = scope_of(self.whole.tree, position)
         numbers = self.frozen_numbers(word, last, len(frozen))
         takes = self.frame((*position, last), f"from the event on, its value (p {level}){numbers}", depth, True)
-        label = self.label(position, word).replace("\n", " ")
+        label = self.label(position, word)
         if word == "kSwitch":
             runs, watch = self.frame((*position, 0), f"runs, then is (old {len(frozen)})", depth), self.frame((*position, 1), "watches", depth)
             return Switch(label, "watch", runs, watch, takes)

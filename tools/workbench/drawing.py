@@ -32,6 +32,8 @@ WIDTH = 1000
 HIGHEST = {"png": 24_000}
 ENDINGS = ("svg", "png", "pdf", "dot")
 NEW_LINE = "\\n"
+# graphviz reads texts of at most 16,384 bytes, in which an ampersand takes five.
+LONGEST_TEXT = 12_000
 MARGIN, ARROW = 12.0, 20.0
 
 STYLE = """digraph network {
@@ -56,6 +58,7 @@ KINDS = {
 
 def quoted(text: str, line_end: str) -> str:
     """A text in quotes; a backslash and an ampersand are graphviz's own."""
+    text = text if len(text) <= LONGEST_TEXT else text[:LONGEST_TEXT] + " .."
     safe = re.sub(r"[\x00-\x09\x0b-\x1f]", "?", text)
     return '"' + safe.replace("\\", "\\\\").replace('"', '\\"').replace("&", "&amp;").replace("\n", line_end) + '"'
 

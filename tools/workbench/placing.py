@@ -88,7 +88,7 @@ class Place:
 
 def in_lines(text: str) -> list:
     """A text in lines; where it is too long it ends in `..`."""
-    lines = [line for piece in text.split("\n") for line in textwrap.wrap(piece, LONGEST, break_on_hyphens=False)] or [""]
+    lines = textwrap.wrap(text[: LONGEST * (MOST_LINES + 2)], LONGEST, break_on_hyphens=False) or [""]
     return lines if len(lines) <= MOST_LINES else [*lines[: MOST_LINES - 1], ".. (point here for all)"]
 
 
@@ -100,7 +100,7 @@ class PlacedBox(Place):
     arrow = True
 
     def measure(self, width: float) -> None:
-        self.lines = in_lines(self.part.text)
+        self.lines = in_lines(self.part.text) + [self.part.place] * bool(self.part.place)
         room = 8 if self.part.kind == "name" else 0
         self.wide = (max(map(len, self.lines)) + (len(self.lines) > 1)) * LETTER + 14 + room
         self.high = len(self.lines) * LINE + 10 + room

@@ -5,7 +5,7 @@ from workbench.drawing import ending_of
 from workbench.ending import Refused, Words, stream_bytes, write
 from workbench.panels import picture
 from workbench.parts import Look, looked_at, tell_rest
-from workbench.watching import add_position, watched_at
+from workbench.watching import add_position, position_in, seen
 
 ABOUT = """Plots a run of NET on the stream on standard input: its inputs and its outputs over time, each part of
 a pair in a panel of its own. Numbers are steps, truth is a band, events are marks with their values as far
@@ -36,7 +36,7 @@ def main() -> None:
     words.add_argument("-o", metavar="FILE", dest="to", help="writes the plot there: .svg, .png or .pdf")
     given = words.parse_args()
     ending = ending_of(given.to, ENDINGS, words)
-    look = looked_at(given.net, stream_bytes("-"), lambda whole: [watched_at(whole, at) for at in given.at], given.start, given.stop)
+    look = looked_at(given.net, stream_bytes("-"), lambda whole: [seen(whole, position_in(whole, at)) for at in given.at], given.start, given.stop)
     write(given.to, plot_of(look, given.net, ending))
     if not look.run.times:
         raise Refused(look.run.fault or "there are no samples")

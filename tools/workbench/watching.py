@@ -43,6 +43,14 @@ def refusal(whole: Network, position: Position) -> str:
     return ""
 
 
+def seen(whole: Network, position: Position) -> Position:
+    """The position, of a part that can be watched."""
+    why = refusal(whole, position)
+    if why:
+        raise Refused(why)
+    return position
+
+
 def told_by(whole: Network, position: Position) -> Position:
     """The part within one that outputs what it outputs."""
     tree = whole.at(position)
@@ -60,6 +68,7 @@ class Watch(NamedTuple):
 
 def watched(whole: Network, position: Position) -> Watch:
     """The network that outputs what the part at a position outputs."""
+    position = seen(whole, position)
     if not position:
         return Watch(whole.tree, whole.output(()))
     made = Instrument(whole, {told_by(whole, position)}).made()
@@ -120,15 +129,6 @@ def position_in(whole: Network, given: list) -> Position:
     return tuple(map(int, numbers))
 
 
-def watched_at(whole: Network, given: list) -> Position:
-    """The same, of a part that can be watched."""
-    position = position_in(whole, given)
-    why = refusal(whole, position)
-    if why:
-        raise Refused(why)
-    return position
-
-
 def add_position(words: Words, about: str = "a part's position, child by child, or its name", **how: Any) -> None:
     words.add_argument("--at", nargs="*", metavar="N", help=about, **how)
 
@@ -140,4 +140,4 @@ def main() -> None:
     words.add_argument("-o", metavar="FILE", dest="to", help="writes the network there")
     given = words.parse_args()
     whole = network_of(given.net)
-    write(given.to, file_text(whole.input, watched(whole, watched_at(whole, given.at)).net))
+    write(given.to, file_text(whole.input, watched(whole, position_in(whole, given.at)).net))
