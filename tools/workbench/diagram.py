@@ -95,11 +95,12 @@ class Diagram:
 
     def __post_init__(self) -> None:
         self.known = {position: re.sub(r"#\d+$", "", name) for name, position in self.whole.program.signals}
-        self.names = self.known if self.folds else {}
+        self.names = dict(self.known) if self.folds else {}
 
     def picture(self, position: Position = ()) -> Chain:
         """The picture of what stands at a position, itself unfolded."""
-        return self.chain(self.stages(position, self.whole.at(position), True), self.depth)
+        self.names.pop(position, None)
+        return self.chain(self.stages(position, self.whole.at(position)), self.depth)
 
     # ---- texts
 
@@ -125,9 +126,9 @@ class Diagram:
 
     # ---- chains
 
-    def stages(self, position: Position, tree: Tree, unfolded: bool = False) -> list:
+    def stages(self, position: Position, tree: Tree) -> list:
         """The parts of a chain with their positions."""
-        if head(tree) != ">>>" or tree == EDGE or (not unfolded and position in self.names):
+        if head(tree) != ">>>" or tree == EDGE or position in self.names:
             return [(position, tree)]
         return self.stages((*position, 0), tree[1]) + self.stages((*position, 1), tree[2])
 

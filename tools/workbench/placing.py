@@ -404,8 +404,8 @@ class PlacedSwitch(Place):
         pair = canvas.node("bar", left, level, BAR, 20, "", "the pair of the input and the output")
         canvas.line([(bus, level), (left - BAR / 2, level)], self.start, pair, arrow=False)
         right = left + self.runs.wide + PAD
-        tap = canvas.dot(right, leaves)
-        canvas.line([(right, leaves), (right, lane), (left, lane), (left, level - 10)], tap, pair)
+        canvas.dot(right, leaves)
+        canvas.line([(right, leaves), (right, lane), (left, lane), (left, level - 10)], runs, pair)
         canvas.line([(left + BAR / 2, level), (left + GAP, level)], pair, watch)
         self.put_event_of_chosen(canvas, watch, takes)
         self.event_text(canvas)
