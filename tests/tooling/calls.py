@@ -48,7 +48,6 @@ CALLS = {
 
 
 def bad_words_and_files(folder):
-    want("each tool has its call", {*TOOLS} == {*CALLS, "tidy"}, TOOLS)
     for name in TOOLS:
         want(f"{name} --help", tool(name, "--help")[0] == 0)
         want(f"{name} with wrong words", tool(name, "--no-such-flag")[0] == 2)
