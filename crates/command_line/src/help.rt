@@ -56,8 +56,9 @@ pub const TYPES: Told<'static> = Told {
     usage: "yampa types <NET>",
     does: "Checks a network, and prints its types, its weight and its height",
     more: "\
-It prints three lines: the types of the input and of the output, how many networks the network is
-made of, and how many stand in one another. It reads no stream.
+It prints three lines: the types of the input and of the output, what the network weighs (the
+networks that it is made of, counted more often where they may run more than once), and how many
+stand in one another. It reads no stream.
 
 Example: where the file `net` holds `yampa 1 input Int (>>> (arr (less 9 x)) (iPre false))`,
 
@@ -214,7 +215,8 @@ pub const OUTLINE: Told<'static> = Told {
 It prints a line for each network and each expression that stands in the network, in the order in
 which they begin in its text, two blanks deeper for each that it stands in: its position, as steps
 of certificates have it, the word that it begins with, its type (the output's of a network, the
-value's of an expression), and of a network its weight. Tabs part the four. No stream is read.
+value's of an expression), and of a network its own weight, in which an `(old k)` counts 1. Tabs
+part the four. No stream is read.
 
 Example: where the file `net` holds `yampa 1 input Int (>>> (arr (add x 1)) (arr (mul x 2)))`,
 
@@ -263,7 +265,8 @@ It takes the steps of CERT one after the other, from the network of SRC on. With
 for each step its line, `- ` and what stood at its place, and `+ ` and what stands there then. A step
 that can't be taken ends it, and standard error says which. With `--steps` the steps before it stand
 on standard output, and then its own line, `- ` and what stands at its place, where there is one,
-and, where it gives a tree that its law rewrites, `> ` and what that becomes. No stream is read.
+and, where it gives a tree that its law rewrites, `> ` and what that becomes: where both are the
+same, the step should be `backward`. No stream is read.
 
 Example: where the file `net` holds `yampa 1 input Int (>>> (arr (add x 1)) (arr (mul x 2)))`, and
 the file `steps` holds `laws 1 (step L4 forward (at))`,
