@@ -37,6 +37,7 @@ CALLS = {
     "fmt": ["--write", "net"],
     "haskell": ["net", "-o", "out"],
     "batch": ["net", "stream", "--out", "out"],
+    "coverage": ["net", "stream"],
     "falsify": ["net", "-o", "out"],
     "differ": ["net", "net", "-o", "out"],
     "prove": ["net", "-o", "out"],
