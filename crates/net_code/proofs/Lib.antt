@@ -5,3 +5,5 @@ pub mod Emitted
 pub mod Codes
 pub mod Streams
 pub mod Olds
+pub mod CallLinks
+pub mod CallBounds

@@ -8,12 +8,12 @@ use Rattle.net_code.specs.Running.{Body, Code, Linked, body_step, numbered, noth
 abbrev pub Begins : Code → Code → Type 0
 Begins c d = (ds : Code) × (d ≡ c ++ ds)
 
-get-front : {A : Type 0} (xs ys : List A) (k : ℕ) (a : A) → k < length xs → get_or (xs ++ ys) k a ≡ get_or xs k a
+pub get-front : {A : Type 0} (xs ys : List A) (k : ℕ) (a : A) → k < length xs → get_or (xs ++ ys) k a ≡ get_or xs k a
 get-front [] ys k a l = absurd (omega arith)
 get-front (x ∷ xs) ys zero a l = refl
 get-front (x ∷ xs) ys (suc k) a l = get-front xs ys k a (omega arith)
 
-get-next : {A : Type 0} (xs : List A) (y : A) (ys : List A) (a : A) → get_or (xs ++ y ∷ ys) (length xs) a ≡ y
+pub get-next : {A : Type 0} (xs : List A) (y : A) (ys : List A) (a : A) → get_or (xs ++ y ∷ ys) (length xs) a ≡ y
 get-next [] y ys a = refl
 get-next (x ∷ xs) y ys a = get-next xs y ys a
 

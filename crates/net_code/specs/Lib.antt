@@ -4,3 +4,4 @@ pub mod Bodies
 pub mod CodeView
 pub mod CodeOf
 pub mod CodeLaw
+pub mod Calls

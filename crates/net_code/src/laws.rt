@@ -1,10 +1,13 @@
 // The law of code: it does nothing.
 
+ghost use Rattle.net_code.specs.Calls.{CallsLaw};
 ghost use Rattle.net_code.specs.CodeLaw.{CodeLaw, CodeMachineLaw};
 
 /// The code of any network does what the network's machine does; that of a typed network outputs
-/// the network's stream, on any samples and from whatever is kept at the start.
+/// the network's stream, on any samples and from whatever is kept at the start. At each sample it
+/// calls at most as many steps as the network weighs.
 pub fn code_laws()
     ensures machine { CodeMachineLaw }
     ensures outputs { CodeLaw }
+    ensures calls { CallsLaw }
 {}

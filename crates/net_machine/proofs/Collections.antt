@@ -1,7 +1,7 @@
 -- What `rpSwitchB`'s steps answer on samples: its members', each behind the samples that it has got.
-use Rattle.std.proofs.Common.{◌≡◌, ℕ, suc, ◌+◌, Bool, true, false, List, [], ◌∷◌, ◌++◌, map, length, take, drop, inl, inr, refl, sym, ap, ap₂, ◌∙◌, arith, append_assoc, length-append}
+use Rattle.std.proofs.Common.{◌≡◌, ◌≤◌, ℕ, suc, ◌+◌, min, Bool, true, false, List, [], ◌∷◌, ◌++◌, map, length, take, drop, inl, inr, refl, sym, ap, ap₂, ◌∙◌, arith, append_assoc, length-append, length-take, take_all}
 use Rattle.std.proofs.Math.Path.{fun_ext}
-use Rattle.std.proofs.lemmas.List.{drop-drop, take-map, map-append}
+use Rattle.std.proofs.lemmas.List.{drop-drop, length-map, take-map, map-append}
 use Rattle.std.proofs.lemmas.Simd.{map-map}
 use Rattle.sample_core.specs.Datum.{Datum, left, right, list, list_of}
 use Rattle.net_meaning.specs.SignalFunction.{TimedList, SignalFunction, Pieces, put_sample, pieces, heads, tails, gather, Member, items_of, items_named, new_members, chosen, moved, by_members, member_outputs, first_members, rp_switch_function}
@@ -140,30 +140,48 @@ module _ (r : Datum → Datum) (fs : List Stepper) (t : Datum → Stepper) (T : 
   abbrev Holds : Bool → Store → List Standing → Type 0
   Holds b s ls = (d : ℕ) → members_at (moment b d) fs s ≡ map (timed d) ls
 
-  holds-stored : (es : List Entry) → Holds true (stored es) (map old_one es)
-  holds-stored es d = ap (turns (moment true d)) (entries-stored es) ∙ sym (map-map (timed d) old_one es)
+  holds-stored : (es : List Entry) → length es ≤ 64 → Holds true (stored es) (map old_one es)
+  holds-stored es l d =
+      ap (λ fs. turns (moment true d) (take 64 fs)) (entries-stored es) ∙ ap (turns (moment true d)) (take_all 64 es l)
+      ∙ sym (map-map (timed d) old_one es)
 
-  run-on : (b : Bool) (s : Store) (ls : List Standing) → Holds b s ls → (xs : TimedList)
+  length-stepped : (ls : List Standing) (x : ℕ × Datum) → length (stepped ls x).0 ≡ length ls
+  length-stepped [] x = refl
+  length-stepped (l ∷ ls) x = ap suc (length-stepped ls x)
+
+  few-stepped : (ls : List Standing) (x : ℕ × Datum) → length ls ≤ 64 → length (stepped ls x).0 ≤ 64
+  few-stepped ls x l = let e : length (stepped ls x).0 ≡ length ls = length-stepped ls x in omega arith
+
+  few-next : (ls : List Standing) (x : ℕ × Datum) → length ls ≤ 64 → length (next ls x) ≤ 64
+  few-next ls x l =
+      let e : length (next ls x) ≡ length (stepped ls x).0 = length-map (stepped ls x).0 old_one in
+      let k : length (stepped ls x).0 ≤ 64 = few-stepped ls x l in
+      omega arith
+
+  few-taken : {A : Type 0} (xs : List A) → length (take 64 xs) ≤ 64
+  few-taken xs = let e : length (take 64 xs) ≡ min 64 (length xs) = length-take 64 xs in omega arith
+
+  run-on : (b : Bool) (s : Store) (ls : List Standing) → Holds b s ls → length ls ≤ 64 → (xs : TimedList)
       → run (rp_switch_step r fs t) b s xs ≡ by_members member_outputs r T (lifted ls) (pieces xs).0 (pieces xs).1
-  run-on b s ls i [] = refl
-  run-on b s ls i (x ∷ xs) =
+  run-on b s ls i l [] = refl
+  run-on b s ls i l (x ∷ xs) =
       let P : Pieces = pieces xs in
       let on : Store × Datum → List Datum = λ o. o.1 ∷ run (rp_switch_step r fs t) true o.0 xs in
       let whole : Pieces → List Datum = λ p. by_members member_outputs r T (lifted ls) p.0 p.1 in
       let by : Datum → List Turn → List Datum = λ u ms. on (collected (turns_step F ms u)) in
-      let ran : (ls : List Standing) (z : ℕ × Datum) → on (collected (stepped ls z)) ≡ by_members member_outputs r T (lifted ls) (z ∷ P.0) P.1 =
-      λ ls z.
-      ap (λ vs. list (list_of (stepped ls z).1) ∷ vs) (run-on true (stored (stepped ls z).0) (next ls z) (holds-stored (stepped ls z).0) xs)
+      let ran : (ls : List Standing) (z : ℕ × Datum) → length ls ≤ 64 → on (collected (stepped ls z)) ≡ by_members member_outputs r T (lifted ls) (z ∷ P.0) P.1 =
+      λ ls z k.
+      ap (λ vs. list (list_of (stepped ls z).1) ∷ vs) (run-on true (stored (stepped ls z).0) (next ls z) (holds-stored (stepped ls z).0 (few-stepped ls z k)) (few-next ls z k) xs)
       ∙ sym (members-next ls z P.0 P.1) in
       ap (λ ms. by (left x.1) (members_in r ms (event_beside x.1))) (i x.0)
       ∙ elim (quiet_or_cut x.1) [
         | inl q ↦
             ap (λ o. by (left x.1) (members_in r (map (timed x.0) ls) o)) q.0
-            ∙ ran ls (x.0, left x.1) ∙ sym (ap whole (q.1 x.0 P))
+            ∙ ran ls (x.0, left x.1) l ∙ sym (ap whole (q.1 x.0 P))
         | inr e ↦
             ap (λ v. by (left v) (members_in r (map (timed x.0) ls) (event_beside v))) e.2
             ∙ ap (by e.0) (chosen-timed x.0 ls (r e.1))
-            ∙ ran (chosen_ones ls (r e.1)) (x.0, e.0)
+            ∙ ran (chosen_ones ls (r e.1)) (x.0, e.0) (few-taken _)
             ∙ ap (λ ms. by_members member_outputs r T ms ((x.0, e.0) ∷ P.0) P.1) (sym (chosen-lifted ls (r e.1)))
             ∙ sym (ap (λ v. whole (put_sample x.0 v P)) e.2)
       ]
@@ -192,5 +210,5 @@ module _ (r : Datum → Datum) (fs : List Stepper) (t : Datum → Stepper) (T : 
 
   pub run-rp_switch : (s : Store) (xs : TimedList) → run (rp_switch_step r fs t) false s xs ≡ rp_switch_function r (signals fs false nothing) T xs
   run-rp_switch s xs =
-      run-on false s first_ones (holds-first s) xs
+      run-on false s first_ones (holds-first s) (few-taken _) xs
       ∙ ap (λ ms. by_members member_outputs r T ms (pieces xs).0 (pieces xs).1) lifted-first

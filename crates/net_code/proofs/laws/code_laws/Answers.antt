@@ -1,4 +1,5 @@
 use Rattle.net_code.proofs.Streams.{code_law, machine_law}
+use Rattle.net_code.proofs.CallBounds.{calls_law}
 use Rattle.net_code.proofs.laws.code_laws.Goals as goal
 
 pub returns-clause-machine : goal.returns-clause-machine
@@ -6,3 +7,6 @@ returns-clause-machine c = machine_law
 
 pub returns-clause-outputs : goal.returns-clause-outputs
 returns-clause-outputs c = code_law
+
+pub returns-clause-calls : goal.returns-clause-calls
+returns-clause-calls c = calls_law
