@@ -49,7 +49,8 @@ abbrev pub turns_calls : (Origin → Counter) → List Turn → Datum → ℕ
 turns_calls f [] v = 0
 turns_calls f (m ∷ ms) v = f m.1.0 m.1.1 (m.0, v) + turns_calls f ms v
 
-module _ (val : Expr → List Datum → Datum → Datum) (F : ℕ → Linked) (N : ℕ → Counted) (g : Given) where
+module _ (val : Expr → List Datum → Datum → Datum) (F : ℕ → Linked) (N : ℕ → Counted)
+    (g : Given) where
   -- f, or t by the value that has taken over
   abbrev pub going_calls : ℕ → ℕ → Store → Timed → Option Datum → ℕ
   going_calls f t s x None = N f g (front_part s) x
