@@ -3,7 +3,8 @@ import re
 
 from workbench.laws import MEANINGS
 from workbench.program import call
-from workbench.source import SyntaxFault, read_file
+from workbench.source import read_file
+from workbench.written import SyntaxFault
 
 from tooling.common import EXAMPLES, NUMBERS, TOP, WHOLE, each, in_files, in_folder, own_folder, tool, want
 

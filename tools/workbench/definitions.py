@@ -6,7 +6,7 @@ from dataclasses import dataclass, field
 
 from model.texts import FILE_BYTES, OPEN
 from workbench.ending import UNREADABLE, Refused
-from workbench.source import Node, place, readable
+from workbench.written import Node, place, readable
 
 TOKENS = re.compile(rb";[^\n]*|[()]|[^ \t\r\n();]+")
 KEYWORDS = ("include", "record", "def", "input")

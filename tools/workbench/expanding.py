@@ -4,7 +4,8 @@ from workbench.definitions import Fault, is_source, read_text
 from workbench.ending import Refused, Words, ended, read, write
 from workbench.layout import flat, laid_out
 from workbench.origin import Program
-from workbench.source import SyntaxFault, read_file
+from workbench.source import read_file
+from workbench.written import SyntaxFault
 
 EXPAND = """Prints the network that a file with names means, as a network's file.
 

@@ -70,8 +70,6 @@ def path_of(name: str, reading: Callable[[str], bytes] = read) -> str:
         path = again(name, reading)
         with open(path, "rb"):
             return path
-    except InNames as refused:
-        told, status = told_of(refused.fault), refused.status
     except (Refused, OSError) as refused:
-        told, status = unread(name), getattr(refused, "status", UNREADABLE)
-    tell(told, status)
+        told = told_of(refused.fault) if isinstance(refused, InNames) else unread(name)
+        return tell(told, getattr(refused, "status", UNREADABLE))

@@ -10,7 +10,8 @@ from workbench.misread import of_stream
 from workbench.mistyped import of_types
 from workbench.origin import program_of
 from workbench.program import again
-from workbench.source import SyntaxFault, read_steps
+from workbench.source import read_steps
+from workbench.written import SyntaxFault
 from workbench.telling import Told, told_of
 
 

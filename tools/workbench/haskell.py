@@ -8,7 +8,8 @@ from model.trees import is_form
 from workbench.ending import Refused, Words, ended, write
 from workbench.origin import read_source
 from workbench.program import answered
-from workbench.source import SyntaxFault, plain
+from workbench.source import plain
+from workbench.written import SyntaxFault
 
 WIDTH = 100
 # How tightly a text holds together: as an argument, as an application, as an operand of that precedence, or not at all.

@@ -4,7 +4,7 @@ import re
 from model.texts import LINE_BYTES, ValueFault, ValueReader
 from model.trees import is_form
 from workbench.records import RecordType
-from workbench.source import near
+from workbench.written import near
 from workbench.telling import Told, article
 
 

@@ -19,7 +19,7 @@ from model.trees import (
     TYPE_WORDS,
 )
 from workbench.definitions import Definition, Fault, Record, Written
-from workbench.source import near
+from workbench.written import near
 
 FORMS = {*EXPRESSION_FORMS, *EXPRESSION_SUGAR, *NETWORK_FORMS, *NETWORK_SUGAR, *TYPE_FORMS, "col"}
 WORDS = {*EXPRESSION_WORDS, *NETWORK_WORDS, *NETWORK_SUGAR_WORDS, *TYPE_WORDS}

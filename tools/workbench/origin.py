@@ -30,7 +30,8 @@ from workbench.ending import Refused, read, unreadable, write
 from workbench.layout import flat, is_form
 from workbench.names import Expansion, Meant
 from workbench.records import RecordType
-from workbench.source import File, SyntaxFault, place, read_file, readable
+from workbench.source import File, read_file
+from workbench.written import SyntaxFault, place, readable
 
 MOST_KEPT = 200
 

@@ -7,7 +7,8 @@ from model.trees import at, children, head
 from workbench.ending import Refused
 from workbench.origin import Program, program_of
 from workbench.program import again, answered
-from workbench.source import SyntaxFault, tree_of
+from workbench.source import tree_of
+from workbench.written import SyntaxFault
 
 
 @dataclass(frozen=True)

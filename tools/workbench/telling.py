@@ -5,7 +5,7 @@ from model.trees import shown
 from workbench.definitions import Fault
 from workbench.origin import Program
 from workbench.records import shown_type
-from workbench.source import excerpt, place, readable
+from workbench.written import excerpt, place, readable
 
 
 @dataclass

@@ -12,7 +12,7 @@ from workbench.layout import laid_out
 from workbench.outline import Network, network_of
 from workbench.shorter import shortened
 from workbench.signals import Both, Collection, Leaf, Members, Pack, Position, Sometimes, leaves
-from workbench.source import Node
+from workbench.written import Node
 
 ABOUT = """Prints the network whose output is what a part of NET outputs, so that `yampa run` and `yampa plot` show
 signals inside. The part is named by its position, as certificates do: `--at 0 1` is the second child of
