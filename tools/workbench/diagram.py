@@ -161,7 +161,7 @@ class Diagram:
             return 3, fork([Wire(), self.branch((*rest[1][0], 0), depth)], True)
         if len(trees) > 1 and head(trees[0]) == "accumBy" and trees[1] == ("hold", trees[0][2]):
             return 2, self.accumulator(rest[0][0], rest[1][0])
-        return 1, self.single(*stages[0], depth)
+        return 1, self.single(stages[0][0], stages[0][1], depth)
 
     def accumulator(self, first: Position, second: Position) -> Box:
         """The box of `accumHoldBy`, which is a chain of two."""

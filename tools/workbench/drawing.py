@@ -155,7 +155,8 @@ def picture_of(whole: Network, diagram: Diagram, position: Position, width: floa
     ends = ("in", "out")
     if diagram.types:
         ends = (f"in {in_brief(diagram.type(whole.given(position)))}", f"out {in_brief(diagram.type(whole.output(position)))}")
-    return rendered(*drawn(diagram.picture(position), width, diagram.types, ends, links), ending)
+    canvas, wide, high = drawn(diagram.picture(position), width, diagram.types, ends, links)
+    return rendered(canvas, wide, high, ending)
 
 
 def ending_of(name: Optional[str], endings: tuple, words: Words) -> str:

@@ -66,8 +66,8 @@ class Seen:
     """A network with the type of the output in its value and the pack of signals there; where one isn't in it, None."""
 
     net: Tree
-    output: Optional[Tree]
-    signals: Optional[Pack]
+    output: Tree
+    signals: Any
 
     def out(self, value: Tree = "x") -> Optional[Tree]:
         return None if self.output is None else fst(value) if self.signals else value
@@ -81,7 +81,7 @@ class Seen:
         return packed_type(self.output, self.signals)
 
 
-def packed_type(output: Optional[Tree], signals: Optional[Pack]) -> Tree:
+def packed_type(output: Tree, signals: Any) -> Tree:
     if output is None or signals is None:
         return signals.type if output is None else output
     return ("Pair", output, signals.type)
@@ -93,7 +93,7 @@ class Frozen:
 
     out: Callable
     sig: Optional[Callable] = None
-    pack: Optional[Pack] = None
+    pack: Any = None
 
 
 @dataclass(frozen=True)
@@ -126,7 +126,7 @@ class Sides:
         self.at = [number for number, pack in enumerate(packs) if pack is not None]
         self.nested = [pack is not None and isinstance(pack, Sometimes) for pack in packs]
         there = [pack if isinstance(pack, Sometimes) else Sometimes(pack) for pack in packs if pack is not None]
-        self.pack = balanced(there) if there else None
+        self.pack: Any = balanced(there) if there else None
 
     def value(self, number: int, signals: Optional[Tree]) -> Optional[Tree]:
         """The value with the signals of that network alone."""
@@ -149,7 +149,7 @@ class Sides:
         return value
 
 
-def value_with(pack: Pack, events: dict, start: int, count: int) -> Tree:
+def value_with(pack: Any, events: dict, start: int, count: int) -> Tree:
     """The value of so many balanced packs, absent but for those whose events are given by their places."""
     if count == 1:
         return events.get(start) or absent(pack)
@@ -169,12 +169,12 @@ class Instrument:
     def __post_init__(self) -> None:
         self.above = {position[:depth] for position in self.wanted for depth in range(len(position) + 1)}
 
-    def made(self) -> Seen:
+    def made(self) -> Any:
         """The network that outputs the signals alone."""
         return self.part((), self.whole.tree, Scope(), False)
 
-    def part(self, here: Position, tree: Tree, scope: Scope, needs: bool) -> Optional[Seen]:
-        """What stands at a position, with its output where that is needed; None where neither is."""
+    def part(self, here: Position, tree: Tree, scope: Scope, needs: bool) -> Any:
+        """What stands at a position, as a Seen, with its output where that is needed; None where it has neither that nor signals."""
         watched = not scope.quiet and here in self.above
         if not watched and scope.same():
             return Seen(tree, self.whole.output(here), None) if needs else None
@@ -189,15 +189,15 @@ class Instrument:
         pack = leaf if inner.signals is None else Both(leaf, inner.signals)
         return packing(inner, inner.out() if needs else None, signals, pack)
 
-    def child(self, here: Position, tree: Tree, number: int, scope: Scope, needs: bool) -> Optional[Seen]:
+    def child(self, here: Position, tree: Tree, number: int, scope: Scope, needs: bool) -> Any:
         return self.part((*here, number), children(tree)[number], scope, needs)
 
     # ---- networks without switches
 
-    def leaf(self, here: Position, tree: Tree, scope: Scope, needs: bool) -> Optional[Seen]:
+    def leaf(self, here: Position, tree: Tree, scope: Scope, needs: bool) -> Any:
         return Seen(substituted(tree, scope), self.whole.output(here), None) if needs else None
 
-    def old(self, here: Position, tree: Tree, scope: Scope, needs: bool) -> Optional[Seen]:
+    def old(self, here: Position, tree: Tree, scope: Scope, needs: bool) -> Any:
         frozen = scope.frozen[tree[1]]
         signals = None if scope.quiet else frozen.pack
         if not needs and signals is None:
@@ -205,7 +205,7 @@ class Instrument:
         out, sig = frozen.out("x") if needs else None, frozen.sig("x") if signals else None
         return Seen(seq(tree, arr(packed(out, sig))), self.whole.output(here) if needs else None, signals)
 
-    def chain(self, here: Position, tree: Tree, scope: Scope, needs: bool) -> Optional[Seen]:
+    def chain(self, here: Position, tree: Tree, scope: Scope, needs: bool) -> Any:
         return self.stages(self.flattened(here, tree, scope), scope, needs)
 
     def flattened(self, here: Position, tree: Tree, scope: Scope) -> list:
@@ -214,9 +214,9 @@ class Instrument:
             return [(here, tree)]
         return self.flattened((*here, 0), tree[1], scope) + self.flattened((*here, 1), tree[2], scope)
 
-    def stages(self, parts: list, scope: Scope, needs: bool) -> Optional[Seen]:
+    def stages(self, parts: list, scope: Scope, needs: bool) -> Any:
         if len(parts) == 1:
-            return self.part(*parts[0], scope, needs)
+            return self.part(parts[0][0], parts[0][1], scope, needs)
         middle = len(parts) // 2
         right = self.stages(parts[middle:], scope, needs)
         left = self.stages(parts[:middle], scope, right is not None)
@@ -230,14 +230,14 @@ class Instrument:
         signals = ("pair", snd("x"), right.sig(fst("x")))
         return packing(both, right.out(fst("x")), signals, Both(left.signals, right.signals))
 
-    def first(self, here: Position, tree: Tree, scope: Scope, needs: bool) -> Optional[Seen]:
+    def first(self, here: Position, tree: Tree, scope: Scope, needs: bool) -> Any:
         inner = self.child(here, tree, 0, scope, needs)
         if not needs:
             return inner and Seen(seq(arr(("fst", "x")), inner.net), None, inner.signals)
         net = Seen(("first", inner.net), self.whole.output(here), inner.signals)
         return net if inner.signals is None else packing(net, ("pair", inner.out(fst("x")), snd("x")), inner.sig(fst("x")), inner.signals)
 
-    def members(self, here: Position, tree: Tree, scope: Scope, needs: bool) -> Optional[Seen]:
+    def members(self, here: Position, tree: Tree, scope: Scope, needs: bool) -> Any:
         seen = [self.child(here, tree, number, scope, needs) for number in range(len(children(tree)))]
         mute = [one for one in seen if one is not None and one.signals is None]
         loud = [one for one in seen if one is not None and one.signals is not None]
@@ -255,7 +255,7 @@ class Instrument:
         listed = ("list", output[1], *[next(rest if one.signals is None else outs) for one in seen])
         return Seen(seq(net, arr(("pair", listed, signals))), output, pack)
 
-    def loop(self, here: Position, tree: Tree, scope: Scope, needs: bool) -> Optional[Seen]:
+    def loop(self, here: Position, tree: Tree, scope: Scope, needs: bool) -> Any:
         inner = self.child(here, tree, 1, scope, True)
         constant = substituted(tree[1], scope)
         output = self.whole.output(here) if needs else None
@@ -264,7 +264,7 @@ class Instrument:
         value = packed(fst(inner.out()) if needs else None, inner.sig())
         return Seen(("loopPre", constant, seq(inner.net, arr(("pair", value, snd(inner.out()))))), output, inner.signals)
 
-    def first_output(self, here: Position, tree: Tree, scope: Scope, needs: bool) -> Optional[Seen]:
+    def first_output(self, here: Position, tree: Tree, scope: Scope, needs: bool) -> Any:
         inner = self.child(here, tree, 1, scope, needs)
         constant = substituted(tree[1], scope)
         if inner is None or not needs:
@@ -273,7 +273,7 @@ class Instrument:
             return replace(inner, net=("-->", constant, inner.net))
         return replace(inner, net=seq(inner.net, ("first", ("-->", constant, arr("x")))))
 
-    def first_input(self, here: Position, tree: Tree, scope: Scope, needs: bool) -> Optional[Seen]:
+    def first_input(self, here: Position, tree: Tree, scope: Scope, needs: bool) -> Any:
         inner = self.child(here, tree, 1, scope, needs)
         return inner and replace(inner, net=(">--", substituted(tree[1], scope), inner.net))
 
@@ -292,7 +292,7 @@ class Instrument:
             self.olds[here] = frozenset([tree[1]] if head(tree) == "old" else []).union(*inner)
         return self.olds[here]
 
-    def switch(self, here: Position, tree: Tree, scope: Scope, needs: bool) -> Optional[Seen]:
+    def switch(self, here: Position, tree: Tree, scope: Scope, needs: bool) -> Any:
         """What the first network's signals are at the event's sample, and of a `dSwitch` its output too, goes to the template with
         the event's value, where that runs at this sample."""
         delayed = head(tree) == "dSwitch"
@@ -348,7 +348,7 @@ class Instrument:
         """The type of what an event of the pack holds."""
         return pack.inner.type if isinstance(pack, Sometimes) else pack.type
 
-    def restart(self, here: Position, tree: Tree, scope: Scope, needs: bool) -> Optional[Seen]:
+    def restart(self, here: Position, tree: Tree, scope: Scope, needs: bool) -> Any:
         """In a `drSwitch` the signals of what starts are those of an `rSwitch` beside it: at the event's sample both run."""
         word = head(tree)
         if word == "rSwitch" or not self.watches((*here, 1), tree[2], scope.below()):
@@ -362,7 +362,7 @@ class Instrument:
         pack = balanced([one.signals for one in (plain, started) if one.signals])
         return Seen(seq(net, arr(packed(plain.out(left), joined(signals)))), plain.output, pack)
 
-    def restarting(self, word: str, here: Position, tree: Tree, scopes: tuple, needs: bool) -> Optional[Seen]:
+    def restarting(self, word: str, here: Position, tree: Tree, scopes: tuple, needs: bool) -> Any:
         first = self.child(here, tree, 0, scopes[0], needs)
         then = self.child(here, tree, 1, scopes[1], needs)
         sides = Sides([first.signals if first else None, then.signals if then else None])
@@ -371,7 +371,7 @@ class Instrument:
         before = arr(sides.value(0, None)) if first is None else seq(first.net, arr(packed(first.out(), sides.value(0, first.sig()))))
         return Seen((word, before, self.template(then, sides)), self.whole.output(here) if needs else None, sides.pack)
 
-    def template_with(self, here: Position, tree: Tree, scope: Scope, frozen: Callable) -> Optional[Seen]:
+    def template_with(self, here: Position, tree: Tree, scope: Scope, frozen: Callable) -> Seen:
         """The template of a switch that freezes: `frozen` tells what it freezes, from whether the template has signals itself."""
         number = len(children(tree)) - 1
         guess = self.watches((*here, number), children(tree)[number], scope.below(None, frozen(True)))
@@ -380,7 +380,7 @@ class Instrument:
             then = self.child(here, tree, number, scope.below(None, frozen(False)), True)
         return then
 
-    def freezing(self, here: Position, tree: Tree, scope: Scope, needs: bool) -> Optional[Seen]:
+    def freezing(self, here: Position, tree: Tree, scope: Scope, needs: bool) -> Any:
         first = self.child(here, tree, 0, scope, True)
 
         def frozen(loud: bool) -> tuple:
@@ -401,7 +401,7 @@ class Instrument:
         both = Seen(("kSwitch", before, sees, self.template(then, sides)), output, sides.pack)
         return both if needs else Seen(seq(both.net, arr(snd("x"))), None, sides.pack)
 
-    def collection(self, here: Position, tree: Tree, scope: Scope, needs: bool) -> Optional[Seen]:
+    def collection(self, here: Position, tree: Tree, scope: Scope, needs: bool) -> Any:
         """A member's element is the list of its output alone, with its signals; the template's only element has its whole list."""
         _, route, _, _, _ = tree
         count, of = len(children(tree)) - 3, self.whole.output(here)[1]
@@ -446,7 +446,7 @@ class Instrument:
             one, place, count = (one.left, place, half) if place < half else (one.right, place - half, count - half)
         return Frozen(out, lambda value: sides.side(number, snd(value)), one)
 
-    def comings(self, here: Position, tree: Tree, scope: Scope, needs: bool) -> Optional[Seen]:
+    def comings(self, here: Position, tree: Tree, scope: Scope, needs: bool) -> Any:
         """The list of the members' signals comes from a second collection beside the first."""
         count = len(children(tree)) - 2
         numbers = [*range(count), count + 1]
@@ -469,7 +469,7 @@ class Instrument:
         return Seen(fan(outputs[0].net, signals.net), outputs[0].output, signals.signals) if needs else signals
 
 
-def packing(seen: Seen, output: Optional[Tree], signals: Tree, pack: Pack) -> Seen:
+def packing(seen: Seen, output: Optional[Tree], signals: Tree, pack: Any) -> Seen:
     """The network with another value, made of its value."""
     return Seen(seq(seen.net, arr(packed(output, signals))), seen.output if output is not None else None, pack)
 

@@ -166,7 +166,7 @@ def spans(numpy: Any, times: Any, holds: Any, end: float) -> list:
     """Where something holds, from sample to sample: starts and lengths. Spans that one column of dots can't tell apart are one."""
     edges = numpy.flatnonzero(numpy.diff(numpy.concatenate(([False], holds, [False])).astype(int)))
     until = numpy.append(times, end)
-    dot, found = (end - times[0]) / DOTS, []
+    dot, found = (end - times[0]) / DOTS, list[tuple]()
     for start, stop in zip(until[edges[::2]], until[edges[1::2]]):
         if found and start - found[-1][0] - found[-1][1] < dot / 2:
             found[-1] = (found[-1][0], stop - found[-1][0])
@@ -192,7 +192,7 @@ def marks(axis: Axis, there: list, type_: Any, marker: str, span: float) -> None
     if not there:
         return
     dot = span / DOTS
-    kept, texts, free = [], [], -float("inf")
+    kept, texts, free = list[float](), list[tuple](), -float("inf")
     for time, value in there:
         if not kept or time - kept[-1] >= dot:
             kept.append(time)

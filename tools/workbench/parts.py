@@ -105,7 +105,7 @@ def looked_at(net: str, stream: bytes, choose: Callable, start: int | None = Non
     watched = signals_of(whole, run, positions)
     ends = list(tracks(("input",), whole.program.input, run.inputs))
     ends += tracks(("output",), whole.program.output_type(whole.output(())), run.outputs)
-    inside = []
+    inside = list[Track]()
     for position, signal in watched.signals.items():
         name, type_ = (called(whole, position),), whole.program.named_type(signal.type)
         inside += [Track(name, type_, signal.values, True, position)] if signal.members else tracks(name, type_, signal.values, position)

@@ -7,7 +7,7 @@ from __future__ import annotations
 
 import textwrap
 from dataclasses import dataclass, field
-from typing import Any, Optional
+from typing import Any
 
 from workbench.diagram import Box, Chain, Fork, Frame, Loop, Switch, Wire
 
@@ -150,7 +150,8 @@ class PlacedChain(Place):
             at += self.gap(number)
             self.rows[-1].append((number, at))
             at += part.wide
-        self.offsets, self.bottoms = [], []
+        self.offsets: list = []
+        self.bottoms: list = []
         top = 0.0
         for row in self.rows:
             top = self.measure_row(row, top) + ROW
@@ -161,7 +162,7 @@ class PlacedChain(Place):
 
     def measure_row(self, row: list, top: float) -> float:
         """Puts the parts of a row so that their lines are straight, and answers where the row ends."""
-        level, offsets = 0.0, []
+        level, offsets = 0.0, list[float]()
         for number, _ in row:
             part = self.parts[number]
             offsets.append(level - part.enters)
@@ -173,7 +174,8 @@ class PlacedChain(Place):
         return bottom
 
     def put(self, canvas: Canvas, x: float, y: float) -> tuple:
-        first = before = None
+        first: Any = None
+        before: Any = None
         left = (x, y)
         for at_row, row in enumerate(self.rows):
             for place, (number, at) in enumerate(row):

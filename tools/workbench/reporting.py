@@ -94,7 +94,7 @@ def certificate_of(net: str, target: str, name: str, files: tuple) -> dict:
     verdict = said.output.decode().strip() if not said.status else f"refused: {said.fault()}"
     steps = []
     for number, step in enumerate(steps_shown(net, files[1]), 1):
-        law, direction, position = re.match(r"\(step (\w+) (\w+) (\(.*?\))", step.line).groups()
+        law, direction, position = re.findall(r"\(step (\w+) (\w+) (\(.*?\))", step.line)[0]
         told = {"title": f"{number}. {law} {direction} {position}", "left": LAWS[law].left, "right": LAWS[law].right}
         steps.append({**told, "before": laid(step.before), "after": laid(step.after)})
     return {"name": name, "target": target, "verdict": verdict, "steps": steps}

@@ -68,7 +68,7 @@ def run_of(net: str, stream: bytes, start: Optional[int] = None, stop: Optional[
 
 def samples_of(stream: bytes, count: int) -> tuple:
     """The times and the spellings of the values of the stream's first lines, which the program took."""
-    times, spellings, now = [], [], 0
+    times, spellings, now = list[int](), list[bytes](), 0
     for line in stream.split(b"\n", count)[:count]:
         if spellings:
             step, _, line = line.partition(b" ")
@@ -80,7 +80,7 @@ def samples_of(stream: bytes, count: int) -> tuple:
 
 def watchable(whole: Network) -> Iterator[Position]:
     """The positions of the networks whose signals can be had, but not of what watches a switch."""
-    stack = [()]
+    stack: list = [()]
     while stack:
         position = stack.pop()
         yield position
@@ -97,7 +97,8 @@ def size(type_: Tree) -> int:
 
 def groups(whole: Network, positions: Iterable) -> list:
     """The positions in order, as many together as one network may output."""
-    found, room = [[]], PACKED
+    found: list = [[]]
+    room = PACKED
     for position in positions:
         cost = size(whole.output(position)) + 2
         if found[-1] and cost > room:
