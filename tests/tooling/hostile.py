@@ -94,8 +94,8 @@ def tried(case: tuple[str, bytes | Path, bytes | Path]) -> tuple[Ended, list[str
         given = placed(folder, "stream", stream)
         in_files(folder, out="before")
         found = Ended([name, *CALLS[name]], folder, given)
-        # What `step` has up to a fault, it writes.
-        kept = ["changed"] if found.status and name != "step" and (folder / "out").read_text() != "before" else []
+        # What these show of a run up to a fault, they write.
+        kept = ["changed"] if found.status and name not in ("plot", "step") and (folder / "out").read_text() != "before" else []
         return found, kept + [path for path in os.listdir(folder) if path not in ("net", "stream", "out")]
 
 

@@ -21,6 +21,7 @@ MOST_BYTES = 1_048_577
 # What a stream may have: more of it is not read, and what was read is refused for it.
 MOST_LINES, LONGEST_LINE = 1_000_001, 65_536
 PIECE = 1 << 16
+LONGEST_TOLD = 1000
 
 
 class Refused(Exception):
@@ -235,7 +236,7 @@ def end(name: str, line: str | None, status: int = REFUSED) -> NoReturn:
         os.dup2(os.open(os.devnull, os.O_WRONLY), 1)
     with contextlib.suppress(OSError):
         if line is not None:
-            print(f"yampa {name}: {line}", file=sys.stderr, flush=True)
+            print(f"yampa {name}: {line if len(line) <= LONGEST_TOLD else line[:LONGEST_TOLD] + '..'}", file=sys.stderr, flush=True)
     sys.exit(status)
 
 

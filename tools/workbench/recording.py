@@ -116,7 +116,8 @@ def text_in(cell: str, type_, name: str) -> str:
     try:
         read_value(cell.encode(), of)
     except ValueFault:
-        raise Refused(f"column {name}: {cell or 'nothing'} is no {shown(of)}") from None
+        told = cell if len(cell) <= 60 else cell[:60] + ".."
+        raise Refused(f"column {name}: {told or 'nothing'} is no {shown(of)}") from None
     return f"(event {cell})" if is_event else cell
 
 
@@ -215,7 +216,7 @@ def rows_in(raw: Iterable[bytes]) -> Iterator[list[str]]:
         except StopIteration:
             return
         except csv.Error as error:
-            raise Refused(f"row {number}: {error}") from None
+            raise Refused(f"row {number}: {str(error).partition(' - ')[0]}") from None
 
 
 def decoded(raw: Iterable[bytes]) -> Iterator[str]:
