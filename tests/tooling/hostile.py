@@ -4,6 +4,7 @@ import os
 import subprocess
 import tempfile
 from pathlib import Path
+from typing import IO
 
 from tooling.common import NUMBERS, SECONDS, TOOLS, TOP, each, in_files, own_folder, want
 
@@ -52,6 +53,11 @@ STREAMS = {
 MOST_MEMORY = 60_000_000
 
 
+def contents(file: IO[bytes]) -> str:
+    file.seek(0)
+    return file.read().decode(errors="replace")
+
+
 class Ended:
     """How a tool ended: its status, what it printed, and the memory that it took."""
 
@@ -65,7 +71,7 @@ class Ended:
             _, status, used = os.wait4(run.pid, 0)
             run.returncode = self.status = os.waitstatus_to_exitcode(status)
             self.memory = used.ru_maxrss * 1024
-            self.output, self.error = (file.seek(0) or file.read().decode(errors="replace") for file in (out, error))
+            self.output, self.error = contents(out), contents(error)
 
     def is_told(self) -> bool:
         """Whether the end is one line, with a status that says so, and no fault of the tool's own."""

@@ -268,7 +268,7 @@ def beginnings_are_seen() -> None:
         for data, wanted in BEGINNINGS.items():
             in_files(room, net=data)
             ran = subprocess.run(["bash", "-c", script + 'has_names "$0"', str(room / "net")], capture_output=True, timeout=60, check=False)
-            want(f"names in {data[:30]}", (ran.returncode == 0) == wanted and not ran.stderr, ran)
+            want(f"names in {data[:30]!r}", (ran.returncode == 0) == wanted and not ran.stderr, ran)
 
 
 def commands_take_sources() -> None:

@@ -173,8 +173,10 @@ def ended(name: str, work: Callable[[], None]) -> None:
     interrupts = listen()
     make_ready()
     try:
-        work()
-        sys.stdout.flush()
+        try:
+            work()
+        finally:
+            sys.stdout.flush()
     except Refused as refused:
         end(name, str(refused), refused.status)
     except BrokenPipeError:

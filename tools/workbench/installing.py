@@ -2,8 +2,6 @@
 import os
 import re
 import shutil
-import stat
-import subprocess
 import sys
 import tempfile
 from pathlib import Path

@@ -3,10 +3,10 @@ import csv
 import re
 from collections.abc import Iterable, Iterator
 from dataclasses import dataclass
-from typing import IO
+from typing import IO, Any
 
 from model.texts import ValueFault, read_value, step_of
-from model.trees import GREATEST, is_form, shown
+from model.trees import is_form, shown
 from workbench.ending import Refused, Words, ended, writing
 from workbench.program import again
 from workbench.records import columns
@@ -50,7 +50,7 @@ class Column:
     """A part of the type that is no pair, with its name; a list has a column for each of so many elements, where that is given."""
 
     name: str
-    type: object
+    type: Any
     elements: int | None = None
 
     def names(self) -> list[str]:

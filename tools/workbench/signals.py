@@ -10,6 +10,7 @@ from model.trees import is_form
 Tree = Any
 Position = tuple
 
+
 class Absent:
     """What stands for the value of a part where it doesn't run."""
 

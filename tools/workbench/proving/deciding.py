@@ -8,7 +8,7 @@ from typing import Any, Callable, Optional
 from model.texts import read_stream
 from workbench.batches import Observer, Shortening, read_recording
 from workbench.ending import Refused, defect, missing
-from workbench.program import call, kept
+from workbench.program import call
 from workbench.proving.question import Pace, Question
 from workbench.proving.race import raced
 from workbench.proving.told import Hindered, Holds, Search, Searched, Tried, Unfair, Wrong

@@ -4,7 +4,7 @@ from typing import Callable, Optional
 
 import z3
 
-from workbench.proving.bounded import Unknown, known, satisfied, solver_of
+from workbench.proving.bounded import known, satisfied, solver_of
 from workbench.proving.system import System
 from workbench.proving.terms import Leaf, both, formula, negation
 

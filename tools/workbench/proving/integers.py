@@ -1,11 +1,11 @@
 """Proofs over unbounded integers by z3's Spacer, which finds invariants by itself, and that no number leaves 64 bits."""
 import time
-from typing import Any, Optional
+from typing import Any
 
 import z3
 
 from workbench.proving.system import System
-from workbench.proving.terms import Leaf, both, formula, is_known, is_truth, negation
+from workbench.proving.terms import Leaf, both, formula, is_truth, negation
 
 
 def unknowns(found: list[z3.ExprRef]) -> list[z3.ExprRef]:
