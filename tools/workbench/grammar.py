@@ -100,7 +100,7 @@ class Reader:
             raise self.no_number(token, kind, form)
         least, greatest = NUMBERS[kind]
         if not re.fullmatch(r"0|-?[1-9][0-9]*", text):
-            raise SyntaxFault(token.at, f"a number is written without leading zeros, and 0 without a sign", f"write {int(text)}", "number", len(text))
+            raise SyntaxFault(token.at, "a number is written without leading zeros, and 0 without a sign", f"write {int(text)}", "number", len(text))
         if not least <= int(text) <= greatest:
             raise SyntaxFault(token.at, f"this number is from {least} to {greatest}", kind="number", length=len(text))
         return Node(int(text), [], token.at, token.end(), "number")
