@@ -14,6 +14,7 @@ OBSERVER = NUMBERS + "(arr (equal x x))"
 CALLS = {
     "batch": ["net", "stream"],
     "compare": ["net", "net"],
+    "coverage": ["net", "stream"],
     "csv": ["net", "-o", "out"],
     "differ": ["net", "net", "--seconds", "1", "-o", "out"],
     "draw": ["net", "-o", "out"],
@@ -23,6 +24,7 @@ CALLS = {
     "fmt": ["net"],
     "haskell": ["net", "-o", "out"],
     "plot": ["net", "-o", "out"],
+    "prove": ["net", "--seconds", "2"],
     "report": ["net", "stream", "-o", "out"],
     "step": ["net", "stream", "-o", "out"],
     "tidy": ["-o", "out"],
@@ -76,7 +78,7 @@ class Ended:
     def is_told(self) -> bool:
         """Whether the end is one line, with a status that says so, and no fault of the tool's own."""
         lines = self.error.count("\n")
-        return self.status in (0, 1, 3) and lines <= (1 if self.status else 9) and "Traceback" not in self.error and "defect" not in self.error
+        return self.status in (0, 1, 3, 4) and lines <= (1 if self.status else 9) and "Traceback" not in self.error and "defect" not in self.error
 
     def __str__(self) -> str:
         return f"{self.status} {self.error[-300:]} {self.output[:200]}"
@@ -105,9 +107,14 @@ def tried(case: tuple[str, bytes | Path, bytes | Path]) -> tuple[Ended, list[str
         return found, kept + [path for path in os.listdir(folder) if path not in ("net", "stream", "out")]
 
 
+def network_for(name: str) -> str:
+    """A network that the tool takes."""
+    return OBSERVER if name in ("falsify", "prove") else INCREMENT
+
+
 def files_are_told() -> None:
     cases = [(kind, (name, held, b"5\n+1 6\n")) for name in CALLS if name != "tidy" for kind, held in FILES.items()]
-    good = {name: OBSERVER if name == "falsify" else INCREMENT for name in CALLS}
+    good = {name: network_for(name) for name in CALLS}
     cases += [(f"stream {kind}", (name, good[name].encode(), held)) for name in CALLS for kind, held in STREAMS.items()]
     for (kind, case), (found, left) in each(lambda case: tried(case[1]), cases):
         want(f"{case[0]}: {kind}", found.is_told() and not left, f"{found} {left}")
@@ -117,21 +124,21 @@ def outputs_are_told() -> None:
     """A full disk, and a standard stream that is closed, are told; a pipe that nobody reads is not."""
     for name, words in CALLS.items():
         with own_folder() as folder:
-            in_files(folder, net=OBSERVER if name == "falsify" else INCREMENT, stream="time,x\n0,5\n" if name == "csv" else "5\n+1 6\n")
+            in_files(folder, net=network_for(name), stream="time,x\n0,5\n" if name == "csv" else "5\n+1 6\n")
             plain = words[: words.index("-o")] if "-o" in words else words
             found = Ended([name, *plain], folder, folder / "stream", "/dev/full")
-            want(f"{name} on a full disk", found.is_told() and found.status in (0, 3), found)
+            want(f"{name} on a full disk", found.is_told() and found.status in (0, 3, 4), found)
             if "-o" in words:
                 found = Ended([name, *plain, "-o", "/dev/full"], folder, folder / "stream")
-                want(f"{name} into a full disk", found.is_told() and found.status in (0, 3), found)
+                want(f"{name} into a full disk", found.is_told() and found.status in (0, 3, 4), found)
             for closed in ("<&-", ">&-", "2>&-"):
                 line = f'exec "$@" {closed}'
                 ran = subprocess.run(["bash", "-c", line, "bash", TOP / "tools/tool", name, *plain], cwd=folder, input=b"5\n", capture_output=True, timeout=SECONDS, check=False)
                 told = ran.stderr.decode()
-                want(f"{name} {closed}", ran.returncode in (0, 1, 3) and told.count("\n") <= 2 and "Traceback" not in told and "defect" not in told, ran)
+                want(f"{name} {closed}", ran.returncode in (0, 1, 3, 4) and told.count("\n") <= 2 and "Traceback" not in told and "defect" not in told, ran)
             line = '"$@" < stream | true; echo ${PIPESTATUS[0]}'
             ran = subprocess.run(["bash", "-c", line, "bash", TOP / "tools/tool", name, *plain], cwd=folder, capture_output=True, timeout=SECONDS, check=False)
-            want(f"{name} | true", ran.stdout in (b"141\n", b"0\n", b"1\n") and ran.stderr.count(b"\n") <= 1, ran)
+            want(f"{name} | true", ran.stdout in (b"141\n", b"0\n", b"1\n", b"3\n", b"4\n") and ran.stderr.count(b"\n") <= 1, ran)
 
 
 def streams_pass_through() -> None:
