@@ -29,7 +29,7 @@ Needs graphviz (Debian's package `graphviz`)."""
 
 SECONDS = 20
 WIDTH = 1000
-HIGHEST = {"png": 24_000}
+LONGEST_SIDE = {"png": 24_000}
 ENDINGS = ("svg", "png", "pdf", "dot")
 NEW_LINE = "\\n"
 # graphviz reads texts of at most 16,384 bytes, in which an ampersand takes five.
@@ -129,8 +129,8 @@ def rendered(canvas: Canvas, wide: float, high: float, ending: str) -> bytes:
         return text.encode()
     if not shutil.which("neato"):
         raise Refused("graphviz is missing: install graphviz (Debian: apt-get install graphviz)", UNREADABLE)
-    if high > HIGHEST.get(ending, high):
-        raise Refused(f"the drawing is {high:,.0f} points high, too high for a {ending}: {SMALLER}, or an svg")
+    if max(wide, high) > LONGEST_SIDE.get(ending, wide + high):
+        raise Refused(f"the drawing is {wide:,.0f} by {high:,.0f} points, too large for a {ending}: {SMALLER}, or an svg")
     try:
         ran = subprocess.run(["neato", "-n2", f"-T{ending}"], input=text.encode(), capture_output=True, timeout=SECONDS)
     except subprocess.TimeoutExpired:

@@ -9,7 +9,7 @@ from workbench.watching import add_position, position_in, seen
 
 ABOUT = """Plots a run of NET on the stream on standard input: its inputs and its outputs over time, each part of
 a pair in a panel of its own. Numbers are steps, truth is a band, events are marks with their values as far
-as these have room, lists are a line for each of their places, lists of pairs a panel for each part.
+as these have room, lists are a line for each of their first 16 places, lists of pairs a panel for each part.
 
   yampa plot NET < STREAM -o FILE.svg             or FILE.png, FILE.pdf
   yampa plot NET --at 0 1 < STREAM                the output of the part at that position too, or --at NAME

@@ -17,7 +17,7 @@ part outputs, by its name in a file with names, else by its form and position.
 
 An Int is a vector of 64 bits (its decimal form is what GTKWave calls signed), a Bool a wire, a pair or a
 record a scope, an event a scope with a wire `valid` and its value, a list one with its length and its
-elements; of a part of an rpSwitchB there is an element for each member. Where a part doesn't run its value is
+first 64 elements; of a part of an rpSwitchB there is an element for each member. Where a part doesn't run its value is
 x. One run of the program gives all signals, or as few as the limits of types let be."""
 
 LETTERS = [chr(code) for code in range(33, 127)]
