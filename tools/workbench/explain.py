@@ -1,4 +1,5 @@
 """Explains each fault: the place in the file, what is wanted and what is found, and how to mend it."""
+import os
 import sys
 from collections.abc import Callable
 from typing import NoReturn
@@ -71,5 +72,6 @@ def path_of(name: str, reading: Callable[[str], bytes] = read) -> str:
         with open(path, "rb"):
             return path
     except (Refused, OSError) as refused:
-        told = told_of(refused.fault) if isinstance(refused, InNames) else unread(name)
+        told = Told(str(refused)) if os.path.isfile(name) else unread(name)
+        told = told_of(refused.fault) if isinstance(refused, InNames) else told
         return tell(told, getattr(refused, "status", UNREADABLE))
