@@ -10,13 +10,14 @@ import time
 from model.texts import network_text
 from model.trees import expanded, shown
 from model.typed import WEIGHT, weight
-from workbench.instrument import Instrument, Scope, arr, seq
+from workbench.instrument import Instrument
 from workbench.outline import network_of
 from workbench.program import call, kept
 from workbench.recording import lines_of
 from workbench.running import groups, run_of, signals_of, watchable
 from workbench.signals import ABSENT, values_of
 from workbench.watching import told_by
+from workbench.wiring import Scope, arr, seq
 
 from tooling.common import EXAMPLES, NUMBERS, TOP, WHOLE, each, in_files, own_folder, stream_of, tool, want
 

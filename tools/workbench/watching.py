@@ -7,12 +7,13 @@ from typing import Any, NamedTuple
 from model.texts import network_text
 from model.trees import at_text, children, head, is_network
 from workbench.ending import WRONG_WORDS, Refused, Words, write
-from workbench.instrument import Instrument, absent, arr, default, fst, seq, snd
+from workbench.instrument import Instrument
 from workbench.layout import laid_out
 from workbench.outline import Network, network_of
 from workbench.shorter import shortened
 from workbench.signals import Both, Collection, Leaf, Members, Pack, Position, Sometimes, leaves
 from workbench.written import Node
+from workbench.wiring import absent, arr, default, fst, seq, snd
 
 ABOUT = """Prints the network whose output is what a part of NET outputs, so that `yampa run` and `yampa plot` show
 signals inside. The part is named by its position, as certificates do: `--at 0 1` is the second child of
