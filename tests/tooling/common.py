@@ -23,7 +23,7 @@ sys.setrecursionlimit(20_000)
 from model.trees import is_network  # noqa: E402
 
 # What is tried with more than Python, and the Debian packages that bring it.
-PACKAGES = {"dot": "graphviz", "matplotlib": "python3-matplotlib", "hypothesis": "python3-hypothesis", "chromium": "chromium"}
+PACKAGES = {"dot": "graphviz", "matplotlib": "python3-matplotlib", "chromium": "chromium"}
 PACKAGES |= {"jinja2": "python3-jinja2", "distributed": "python3-distributed", "z3": "python3-z3"}
 PROGRAMS = ["dot", "chromium"]
 TOOLS = [line.split()[0] for line in (TOP / "tools/list").read_text().splitlines() if not line.startswith("#")]

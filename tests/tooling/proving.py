@@ -70,6 +70,7 @@ BUGS = [
     ("(goes 2 true)", "(goes 3 false)", "red"),
     ("(equal (phase x) 3))", "(less 0 (phase x)))", "safe"),
 ]
+EXAMPLES_GOALS = [("junction", ["parted", "alone", "steady"]), ("boiler", ["apart", "power", "off", "warm"]), ("elevator", ["floors"])]
 
 
 def told_of(case):
@@ -115,11 +116,13 @@ def files_say_what_is_to_hold(folder):
     for path, (status, output, error) in each(lambda path: tool("prove", path, "--goal", path.name, "--seconds", "60"), paths):
         observed = re.search(rf"^false +{path.name} .*at sample \d+: (\S+)\n1 false, 0 not known, 0 hold$", output, re.M)
         want(f"the junction with {path.name} broken", status == 1 and observed and os.path.exists(observed.group(1)), output + error)
-    for name, goals in (("junction", ["parted", "alone", "steady"]), ("boiler", ["apart", "power", "off", "warm"]), ("elevator", ["floors"])):
-        words = [word for goal in goals for word in ("--goal", goal)]
-        status, output, error = tool("prove", TOP / "examples" / name / "source", "--seconds", "60", *words)
+    (net,) = in_files(folder, whole=JUNCTION)
+    examples = [(TOP / "examples" / name / "source", goals) for name, goals in EXAMPLES_GOALS]
+    for path, goals in [(net, ["soon"]), *examples]:
+        words = [word for goal in goals for word in ("--goal", goal)] + ["--step", "1"] * (path == net)
+        status, output, error = tool("prove", path, "--seconds", "110", *words)
         count = f"0 false, 0 not known, {len(goals)} hold"
-        want(f"prove examples/{name}", status == 0 and count in output and output.count("\n") == len(goals) + 1, output + error)
+        want(f"prove {path}", status == 0 and count in output and output.count("\n") == len(goals) + 1, output + error)
 
 
 def bad_lines_are_told():

@@ -52,21 +52,23 @@ def kept(system: System, candidates: list[Candidate], until: float) -> list[Cand
 
 
 def pruned(system: System, candidates: list, given: list, before: Optional[list], after: list, until: float) -> list:
-    """Drops what a model refutes until none does."""
-    terms: dict = {candidate: candidate.of(after) for candidate in candidates}
-    left = [candidate for candidate in candidates if terms[candidate] is not False]
+    """Drops what a model refutes, or takes what is weaker, until none is refuted."""
+    made: dict = {}
+    left = candidates
     while True:
-        terms = {candidate: terms[candidate] if candidate in terms else candidate.of(after) for candidate in left}
-        open_ = [candidate for candidate in left if terms[candidate] is not True]
+        for candidate in left:
+            if candidate not in made:
+                made[candidate] = formula(candidate.of(before)) if before else None, candidate.of(after)
+        left = [candidate for candidate in left if made[candidate][1] is not False]
+        open_ = [candidate for candidate in left if made[candidate][1] is not True]
         if not open_:
             return left
         solver = solver_of(system.terms, until)
-        for leaf in [*given, *([candidate.of(before) for candidate in left] if before else [])]:
-            solver.add(formula(leaf))
-        solver.add(z3.Or([formula(negation(terms[candidate])) for candidate in open_]))
+        solver.add([formula(leaf) for leaf in given] + [made[candidate][0] for candidate in left if before])
+        solver.add(z3.Or([formula(negation(made[candidate][1])) for candidate in open_]))
         if not satisfied(solver):
             return left
         model = solver.model()
-        refuted = {candidate for candidate in open_ if not known(model, terms[candidate])}
+        refuted = {candidate for candidate in open_ if not known(model, made[candidate][1])}
         weaker = [candidate.weaker(after, lambda leaf: known(model, leaf)) for candidate in left if candidate in refuted]
         left = [candidate for candidate in left if candidate not in refuted] + [candidate for candidate in weaker if candidate]

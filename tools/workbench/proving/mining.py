@@ -12,7 +12,7 @@ from workbench.proving.values import encoded
 from workbench.streams import Streams, Wishes
 
 RUNS, LENGTH, ROWS, SEED = 40, 100, 1_500, 7
-GROUP, FEW, MODES, MOST, RAISED = 40, 12, 24, 4_000, 12
+GROUP, FEW, MODES, MOST, RAISED = 40, 12, 20, 2_000, 12
 
 
 @dataclass(frozen=True)
@@ -26,7 +26,7 @@ class Bound(Candidate):
 
 
 def simulated(system: System) -> list[tuple]:
-    """The leaves of states behind samples of random recordings, each state once."""
+    """The leaves of states behind samples of random recordings, each state once; a sample that isn't fair is tried with a step of 1."""
     question, pace = system.question, system.pace
     wishes = Wishes(LENGTH, [pace.step] if pace.step else None, pace.most or 2**63 - 1, pace.lists)
     streams = Streams(question.given, question.numbers, random.Random(SEED), wishes)
@@ -34,11 +34,13 @@ def simulated(system: System) -> list[tuple]:
     for _ in range(RUNS):
         state = system.start
         for number, (step, value) in enumerate(streams.recording()):
-            step = 0 if number == 0 else step if system.timed else 1
-            frame = system.step(state, step, encoded(value.value, question.given))
-            state = frame.state
-            if frame.fair is not True or frame.inside is not True:
+            sample = encoded(value.value, question.given)
+            steps = [0] if number == 0 else [step, 1] if system.timed and not pace.step else [pace.step or 1]
+            frames = (system.step(state, step, sample) for step in steps)
+            frame = next((frame for frame in frames if frame.fair is True and frame.inside is True), None)
+            if frame is None:
                 break
+            state = frame.state
             rows[tuple(system.leaves(state))] = None
         if len(rows) > ROWS:
             break
@@ -139,15 +141,15 @@ class Templates:
 
     def differences(self) -> Iterator[Candidate]:
         for pair in self.pairs:
-            yield from self.apart(pair, self.rows, "", lambda s: True)
+            yield from self.apart(pair, self.rows, ())
 
-    def apart(self, pair: tuple, rows: Any, told: str, given: Any) -> Iterator[Candidate]:
-        """How far two numbers are apart where something is given, if nearer than everywhere, and not too far."""
+    def apart(self, pair: tuple, rows: Any, modes: tuple) -> Iterator[Candidate]:
+        """How far two numbers are apart in some modes, if nearer than in fewer of them, and not too far."""
         apart = self.distance(pair)
-        most = max(apart[row] for row in rows)
-        if told and most == self.farthest[pair] or not -self.far <= most <= self.far:
-            return
-        yield self.within(pair, most, told, given, 0)
+        most = self.farthest[pair, modes] = max(apart[row] for row in rows)
+        fewer = [self.farthest.get((pair, tuple(mode for mode in modes if mode != one))) for one in modes]
+        if most not in fewer and -self.far <= most <= self.far:
+            yield self.within(pair, most, self.told(modes), self.given(modes), 0)
 
     def within(self, pair: tuple, most: int, told: str, given: Any, raised: int) -> Candidate:
         """That one number is at most so much greater than another; what a model refutes is raised a few times."""
@@ -171,29 +173,34 @@ class Templates:
         """How far two numbers are apart in each row."""
         if pair not in self.distances:
             self.distances[pair] = [a - b for a, b in zip(pair[0].column, pair[1].column)]
-            self.farthest[pair] = max(self.distances[pair])
         return self.distances[pair]
 
     def modes(self) -> list[tuple]:
         """A truth with what it is, or a number that is one of few; each with its rows."""
-        places = [*self.bools, *[place for place in self.ints if len(set(self.columns[place])) <= FEW]]
+        few = [*self.bools, *[place for place in self.ints if len(set(self.columns[place])) <= FEW]]
+        places = [place for place in few if not any(self.tells(other, place) for other in few)]
         rows: dict = {}
         for place in places:
             for number, value in enumerate(self.columns[place]):
                 rows.setdefault((place, value), []).append(number)
         return sorted(rows.items(), key=lambda item: item[0])
 
+    def tells(self, one: int, other: int) -> bool:
+        """Whether a leaf told, in all rows, what another one is, and more than that."""
+        together = set(zip(self.columns[one], self.columns[other]))
+        return len(together) == len(set(self.columns[one])) > len(set(self.columns[other]))
+
     def in_modes(self) -> Iterator[Candidate]:
         modes = self.modes()
         for mode, rows in modes:
-            yield from self.in_mode([mode], rows)
+            yield from self.in_mode((mode,), rows)
         if len(modes) <= MODES:
             for (first, rows), (second, others) in combinations(modes, 2):
                 rows = sorted({*rows} & {*others})
                 if first[0] != second[0] and rows:
-                    yield from self.apart_in([first, second], rows)
+                    yield from self.apart_in((first, second), rows)
 
-    def in_mode(self, modes: list[tuple], rows: list[int]) -> Iterator[Candidate]:
+    def in_mode(self, modes: tuple, rows: list[int]) -> Iterator[Candidate]:
         given, told = self.given(modes), self.told(modes)
         for place in [*self.bools, *self.ints]:
             values = {self.columns[place][row] for row in rows}
@@ -206,12 +213,12 @@ class Templates:
                 yield from self.bounded(place, values, told, given)
         yield from self.apart_in(modes, rows)
 
-    def apart_in(self, modes: list[tuple], rows: list[int]) -> Iterator[Candidate]:
+    def apart_in(self, modes: tuple, rows: list[int]) -> Iterator[Candidate]:
         for pair in self.pairs:
             if all(mode not in (pair[0].place, pair[1].place) for mode, _ in modes):
-                yield from self.apart(pair, rows, self.told(modes), self.given(modes))
+                yield from self.apart(pair, rows, modes)
 
-    def given(self, modes: list[tuple]) -> Any:
+    def given(self, modes: tuple) -> Any:
         """Whether a state is in these modes."""
 
         def holds(s: list) -> Leaf:
@@ -222,8 +229,8 @@ class Templates:
 
         return holds
 
-    def told(self, modes: list[tuple]) -> str:
-        return "where " + " and ".join(f"{self.names[place]} is {said(value)}" for place, value in modes) + ": "
+    def told(self, modes: tuple) -> str:
+        return "" if not modes else "where " + " and ".join(f"{self.names[place]} is {said(value)}" for place, value in modes) + ": "
 
 
 def said(value: Any) -> str:
