@@ -1,7 +1,6 @@
 """What may hold of a system's states: guessed from the states of random recordings, by templates."""
 import random
 from dataclasses import dataclass
-from functools import cached_property
 from itertools import combinations, permutations
 from typing import Any, Iterator, Optional
 
@@ -47,19 +46,6 @@ def simulated(system: System) -> list[tuple]:
     return list(rows)
 
 
-@dataclass(frozen=True, eq=False)
-class Quantity:
-    """A number of each row: that of a leaf, or where `total` is one, that one's without it."""
-
-    name: str
-    column: tuple
-    place: int
-    total: Optional[int] = None
-
-    def of(self, terms: Terms, s: list) -> Leaf:
-        return s[self.place] if self.total is None else terms.minus(s[self.total], s[self.place])
-
-
 class Templates:
     """The candidates that some states leave."""
 
@@ -77,8 +63,6 @@ class Templates:
             groups.setdefault((self.truths[place], column), []).append(place)
         self.groups = list(groups.values())
         varied = [place for place in range(len(self.truths)) if place not in system.learned and len(set(self.columns[place])) > 1]
-        last = len(self.truths) - 1
-        self.total = system.stands_for(last)
         self.ints = [place for place in varied if not self.truths[place]]
         self.bools = [place for place in varied if self.truths[place]]
 
@@ -126,21 +110,8 @@ class Templates:
         for number in above:
             yield Candidate(f"{told}{self.names[place]} <= {number}", lambda s, c=number: implied(given(s), negation(terms.less(c, s[place]))))
 
-    @cached_property
-    def pairs(self) -> list[tuple["Quantity", "Quantity"]]:
-        """What is compared: numbers, and of each how long ago its time is, as a start is of a duration."""
-        plain = [Quantity(self.names[place], self.columns[place], place) for place in self.ints]
-        since = [self.ago(place) for place in self.ints if place != self.total and self.total in self.ints]
-        mixed = [(one, other) for one in plain for other in since if one.place not in (other.place, self.total)]
-        return [*permutations(plain, 2), *mixed, *[(other, one) for one, other in mixed]]
-
-    def ago(self, place: int) -> "Quantity":
-        """The sum of all steps without a number."""
-        column = tuple(now - then for now, then in zip(self.columns[self.total], self.columns[place]))
-        return Quantity(f"({self.names[self.total]} - {self.names[place]})", column, place, self.total)
-
     def differences(self) -> Iterator[Candidate]:
-        for pair in self.pairs:
+        for pair in permutations(self.ints, 2):
             yield from self.apart(pair, self.rows, ())
 
     def apart(self, pair: tuple, rows: Any, modes: tuple) -> Iterator[Candidate]:
@@ -156,23 +127,22 @@ class Templates:
         terms, (one, other) = self.terms, pair
 
         def holds(s: list) -> Leaf:
-            first, second = one.of(terms, s), other.of(terms, s)
             if most == 0:
-                return implied(given(s), negation(terms.less(second, first)))
-            return implied(given(s), negation(terms.less(most, terms.minus(first, second))))
+                return implied(given(s), negation(terms.less(s[other], s[one])))
+            return implied(given(s), negation(terms.less(most, terms.minus(s[one], s[other]))))
 
         def weaker(after: list, value: Any) -> Optional[Candidate]:
-            more = value(one.of(terms, after)) - value(other.of(terms, after))
+            more = value(after[one]) - value(after[other])
             if raised == RAISED or not most < more <= self.far:
                 return None
             return self.within(pair, more, told, given, raised + 1)
 
-        return Bound(f"{told}{one.name} - {other.name} <= {most}", holds, raise_=weaker)
+        return Bound(f"{told}{self.names[one]} - {self.names[other]} <= {most}", holds, raise_=weaker)
 
     def distance(self, pair: tuple) -> list[int]:
         """How far two numbers are apart in each row."""
         if pair not in self.distances:
-            self.distances[pair] = [a - b for a, b in zip(pair[0].column, pair[1].column)]
+            self.distances[pair] = [a - b for a, b in zip(*[self.columns[place] for place in pair])]
         return self.distances[pair]
 
     def modes(self) -> list[tuple]:
@@ -214,8 +184,8 @@ class Templates:
         yield from self.apart_in(modes, rows)
 
     def apart_in(self, modes: tuple, rows: list[int]) -> Iterator[Candidate]:
-        for pair in self.pairs:
-            if all(mode not in (pair[0].place, pair[1].place) for mode, _ in modes):
+        for pair in permutations(self.ints, 2):
+            if all(mode not in pair for mode, _ in modes):
                 yield from self.apart(pair, rows, modes)
 
     def given(self, modes: tuple) -> Any:

@@ -82,11 +82,6 @@ class System:
         place, other = equal if fixed else (max(equal), min(equal))
         self.learned.setdefault(place, (None, other) if fixed else (other, None))
 
-    def stands_for(self, place: int) -> int:
-        """The first leaf that is always equal to one, as far as that was learned."""
-        other, _ = self.learned.get(place, (None, None))
-        return place if other is None else self.stands_for(other)
-
     # ---- unknowns
 
     def unknown(self, name: str) -> tuple:
