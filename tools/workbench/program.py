@@ -7,11 +7,13 @@ import tempfile
 from pathlib import Path
 from typing import IO
 
-from workbench.ending import UNREADABLE, Refused, read, unreadable
+from workbench.ending import UNREADABLE, Refused, called, read, unreadable
 from workbench.origin import network_path
 
 TOP = Path(__file__).resolve().parents[2]
 SECONDS = 600
+# The names of what was copied, by the paths of the copies.
+COPIES: dict[str, str] = {}
 
 
 def path():
@@ -31,6 +33,14 @@ class Told:
         from workbench.speaking import spoken  # pylint: disable=import-outside-toplevel  # it calls the program itself
 
         return spoken(self.words, self.line())
+
+    def refusal(self):
+        """The one line of a refusal behind the name of the file that it tells of."""
+        from workbench.speaking import files_in  # pylint: disable=import-outside-toplevel  # it calls the program itself
+
+        fault, line = self.fault(), self.line()
+        name = files_in(self.words).names.get(line.partition(": ")[0])
+        return f"{COPIES.get(name, name)}: {line}" if name and fault == line else fault
 
     def line(self):
         """The one line of a refusal as the program tells it; what the wrapper says besides is left out."""
@@ -77,7 +87,7 @@ def answered(words, stream=b""):
     """What the program prints where it accepts; else its own line is the refusal."""
     told = call(words, stream)
     if told.status:
-        raise Refused(told.fault() or f"the program ended with status {told.status}", told.status if told.status in (1, 2, 3) else 3)
+        raise Refused(told.refusal() or f"the program ended with status {told.status}", told.status if told.status in (1, 2, 3) else 3)
     return told.output
 
 
@@ -96,4 +106,6 @@ def again(name, reading=read):
         return network_path(name, name)
     stack = contextlib.ExitStack()
     atexit.register(stack.close)
-    return network_path(stack.enter_context(kept(reading(name))), name)
+    copy = stack.enter_context(kept(reading(name)))
+    COPIES[copy] = called(name)
+    return network_path(copy, name)

@@ -112,7 +112,7 @@ def timed_main() -> None:
                 out.flush()
             told = run.told()
         if told.status:
-            raise Refused(told.fault(), told.status)
+            raise Refused(told.refusal(), told.status)
 
     ended("timed", work)
 
