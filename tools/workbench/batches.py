@@ -1,4 +1,5 @@
 """Many recordings in one run of the program, and recordings made short."""
+import contextlib
 import time
 from itertools import islice
 from typing import Any, Callable, Iterator, Optional
@@ -98,12 +99,14 @@ class Shortening:
         self.observer, self.given, self.allowed, self.until = observer, given, allowed, until
 
     def shortest(self, recording: Recording, at: int) -> Recording:
+        """The recording made short; an interrupt ends that, and what is shortest so far is kept."""
         best, before = recording[:at], None
-        while best is not before:
-            before = best
-            for ways in (self.cuts, self.steps, self.values):
-                while (better := self.better(best, ways(best))) is not None:
-                    best = better
+        with contextlib.suppress(KeyboardInterrupt):
+            while best is not before:
+                before = best
+                for ways in (self.cuts, self.steps, self.values):
+                    while (better := self.better(best, ways(best))) is not None:
+                        best = better
         return best
 
     def better(self, best: Recording, ways: Iterator[Recording]) -> Optional[Recording]:
