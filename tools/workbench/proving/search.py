@@ -120,7 +120,7 @@ def keeps_to_it(search: Search, system: System) -> bool:
 def proved(search: Search, system: System, rows: list, until: float) -> bool:
     """Tries induction from any state: bare, with equal leaves, with all that is guessed. What is proved is told."""
     try:
-        if by_depths(search, system, (0, 1), [], until):
+        if by_depths(search, system, (0, 1), [], min(until, search.by(0.1))):
             return True
         equal = kept(system, Templates(system, rows).equal_leaves(), until)
         for candidate in equal:
@@ -138,8 +138,11 @@ def proved(search: Search, system: System, rows: list, until: float) -> bool:
 def by_depths(search: Search, system: System, depths: tuple, invariants: list[Candidate], until: float) -> bool:
     """Whether induction over one of these numbers of samples and one more decides it."""
     for depth in depths:
-        if not is_inductive(system, depth, invariants, until):
-            continue
+        try:
+            if not is_inductive(system, depth, invariants, until):
+                continue
+        except Unknown:
+            return False
         terms = Terms(system.terms.width)
         found = Unrolling(System(search.question, terms), strict=True).search(0, depth + 1, search.until)
         if found:
