@@ -1,9 +1,7 @@
 // `then` is carried inwards always, and nothing else is cleared up.
 
-use crate::log::Log;
-use crate::tree::{
-    as_part, beside_second, first_input, is_constant, then_of, then_twice, with_part,
-};
+use crate::log::{Log, with_part};
+use crate::tree::{as_part, beside_second, first_input, is_constant, then_of, then_twice};
 use crate::weight::own_parts;
 use leaf_core::{Expr, ExprChild, part};
 use sample_core::Memory;
@@ -16,7 +14,7 @@ pub(crate) fn carried(
     e: &Expr,
     depth: u32,
 ) -> Result<ExprChild, Memory> {
-    if depth == 0 {
+    if depth == 0 || !log.spend(1) {
         return then_of(log.alloc, f, e);
     }
     match (f.get(), e) {
@@ -80,7 +78,7 @@ fn carried_on(
     log.enter(2);
     let body = carried_body(log, f, body, depth)?;
     log.leave();
-    with_part(log.alloc, new, 2, body)
+    with_part(log, new, 2, body)
 }
 
 /// The body of `on` behind f, at the outer input, and the event beside it.
@@ -123,7 +121,7 @@ fn carried_parts(log: &mut Log, f: &ExprChild, e: &Expr, depth: u32) -> Result<E
             log.enter(k);
             let inner = carried(log, f, inner, depth)?;
             log.leave();
-            new = with_part(log.alloc, new, k, inner)?;
+            new = with_part(log, new, k, inner)?;
         }
     }
     Ok(new)

@@ -5,10 +5,10 @@ use crate::found::Found;
 use crate::log::{Aim, Log};
 use crate::tree::{first_input, second_input, then_of};
 use crate::view::looked_through;
-use crate::weight::{DEPTH, cost_of, size_within};
+use crate::weight::{cost_of, size_of};
+use crate::work::Means;
 use leaf_core::{Expr, ExprChild};
 use sample_core::Memory;
-use std::alloc::Global;
 
 /// What a larger expression has to save, in instructions.
 const MARGIN: u64 = 90;
@@ -22,8 +22,10 @@ pub(crate) fn cheaper(
     f: &ExprChild,
     e: &Expr,
 ) -> Result<ExprChild, Memory> {
-    let kept = kept_before(log.alloc, f, e)?;
-    let grows = size_within(inner.get(), DEPTH) > size_within(kept.expr.get(), DEPTH);
+    let kept = kept_before(&log.means, f, e)?;
+    let size = size_of(inner.get());
+    let grows = size > size_of(kept.expr.get());
+    log.spend(size.saturating_mul(4));
     let margin = if grows { MARGIN } else { 0 };
     if cost_of(inner.get()).saturating_add(margin) <= cost_of(kept.expr.get()) {
         return Ok(inner);
@@ -34,9 +36,10 @@ pub(crate) fn cheaper(
 }
 
 /// The cheaper of `(then f e)` and what that is where e uses one part of its input alone.
-fn kept_before(alloc: Global, f: &ExprChild, e: &Expr) -> Result<Found, Memory> {
+fn kept_before(means: &Means, f: &ExprChild, e: &Expr) -> Result<Found, Memory> {
+    let alloc = means.alloc;
     let expr = then_of(alloc, f, e)?;
-    let narrow = narrowed(alloc, f, e)?;
+    let narrow = narrowed(means, f, e)?;
     match narrow {
         Some(narrow) if cost_of(narrow.expr.get()) < cost_of(expr.get()) => Ok(narrow),
         _ => Ok(Found {
@@ -47,36 +50,37 @@ fn kept_before(alloc: Global, f: &ExprChild, e: &Expr) -> Result<Found, Memory> 
 }
 
 /// `(then (pair a b) e)`, where e uses one part of its input alone: `(then a e')` or `(then b e')`.
-fn narrowed(alloc: Global, f: &ExprChild, e: &Expr) -> Result<Option<Found>, Memory> {
+fn narrowed(means: &Means, f: &ExprChild, e: &Expr) -> Result<Option<Found>, Memory> {
     let Expr::Pair(a, b) = f.get() else {
         return Ok(None);
     };
-    if let Some(found) = narrowed_to(alloc, f, e, a, 7)? {
+    if let Some(found) = narrowed_to(means, f, e, a, 7)? {
         return Ok(Some(found));
     }
-    narrowed_to(alloc, f, e, b, 8)
+    narrowed_to(means, f, e, b, 8)
 }
 
 /// `(then part e')` of `(then (pair a b) e)`, by law E`number`, which picks the part.
 fn narrowed_to(
-    alloc: Global,
+    means: &Means,
     f: &ExprChild,
     e: &Expr,
     part: &ExprChild,
     number: u8,
 ) -> Result<Option<Found>, Memory> {
+    let alloc = means.alloc;
     let look = if number == 7 {
         first_input(alloc)?
     } else {
         second_input(alloc)?
     };
-    let Some(back) = looked_through(alloc, e, &look)? else {
+    let Some(back) = looked_through(means, e, &look)? else {
         return Ok(None);
     };
     let Expr::Then(_, g) = back.expr.get() else {
         return Ok(None);
     };
-    let mut log = Log::new(alloc, Aim::Plain);
+    let mut log = Log::new(means, Aim::Plain)?;
     log.enter(1);
     log.add_all(&back.steps);
     log.leave();

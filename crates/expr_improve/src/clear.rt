@@ -14,7 +14,7 @@ pub(crate) fn cleared(log: &mut Log, e: ExprChild) -> Result<ExprChild, Memory> 
             return Ok(right);
         }
     }
-    if wants_order(log.aim, e.get()) {
+    if wants_order(log, e.get()) {
         summed(log, e, DEPTH)
     } else {
         Ok(e)

@@ -2,47 +2,48 @@
 
 use crate::carry::{carried, opened};
 use crate::found::{Rewriting, rewriting_of, told, way_back};
-use crate::log::{Aim, Log, Step};
+use crate::log::{Aim, Log, Step, with_part};
 use crate::push::{PUSH_DEPTH, pushed, settled};
 use crate::share::shared;
-use crate::tree::{as_part, then_of, with_part};
+use crate::tree::{as_part, then_of};
 use crate::weight::{DEPTH, part_count};
+use crate::work::Means;
 use leaf_core::{Expr, ExprChild, part, same_expr};
 use sample_core::Memory;
-use std::alloc::Global;
 
 /// What costs less than the expression, and the steps to it. `Memory` where a growth was refused.
-pub fn improve_expr(alloc: Global, expr: &Expr) -> Result<Rewriting, Memory> {
-    searched(alloc, expr, Aim::Cheap)
+pub fn improve_expr(means: &Means, expr: &Expr) -> Result<Rewriting, Memory> {
+    searched(means, expr, Aim::Cheap)
 }
 
 /// The expression's normal form, and the steps to it: each `then` carried inwards, the terms of
 /// each sum in order. `Memory` where a growth was refused.
-pub fn normal_expr(alloc: Global, expr: &Expr) -> Result<Rewriting, Memory> {
-    searched(alloc, expr, Aim::Normal)
+pub fn normal_expr(means: &Means, expr: &Expr) -> Result<Rewriting, Memory> {
+    searched(means, expr, Aim::Normal)
 }
 
 /// What a search with this aim comes to.
-fn searched(alloc: Global, expr: &Expr, aim: Aim) -> Result<Rewriting, Memory> {
-    let mut log = Log::new(alloc, aim);
+fn searched(means: &Means, expr: &Expr, aim: Aim) -> Result<Rewriting, Memory> {
+    let mut log = Log::new(means, aim)?;
     let reached = improved(&mut log, expr, DEPTH)?;
-    told(alloc, reached, &log.into_steps()?)
+    told(means.alloc, reached, &log.into_steps()?)
 }
 
 /// `(then f g)` and the steps to it from e, where f, carried into g, leads to e; where it leads to
 /// another expression, what costs less than that, or its normal form, may be e too. Nothing where it
 /// isn't. `Memory` where a growth was refused.
-pub fn as_then(alloc: Global, e: &Expr, f: &Expr, g: &Expr) -> Result<Option<Rewriting>, Memory> {
-    let Some(steps) = steps_from(alloc, f, g, e)? else {
+pub fn as_then(means: &Means, e: &Expr, f: &Expr, g: &Expr) -> Result<Option<Rewriting>, Memory> {
+    let Some(steps) = steps_from(means, f, g, e)? else {
         return Ok(None);
     };
+    let alloc = means.alloc;
     let whole = then_of(alloc, &as_part(alloc, f)?, g)?;
     rewriting_of(alloc, way_back(alloc, whole, &steps)?)
 }
 
 /// The steps from `(then f g)` to e.
-fn steps_from(alloc: Global, f: &Expr, g: &Expr, e: &Expr) -> Result<Option<Vec<Step>>, Memory> {
-    let mut log = Log::new(alloc, Aim::Plain);
+fn steps_from(means: &Means, f: &Expr, g: &Expr, e: &Expr) -> Result<Option<Vec<Step>>, Memory> {
+    let mut log = Log::new(means, Aim::Plain)?;
     if leads_to(&mut log, f, g, e)? {
         Ok(Some(log.into_steps()?))
     } else {
@@ -78,15 +79,19 @@ fn reaches(log: &mut Log, aim: Aim, from: &ExprChild, e: &Expr) -> Result<bool, 
 /// The expression, rewritten from its parts to its root.
 fn improved(log: &mut Log, e: &Expr, depth: u32) -> Result<ExprChild, Memory> {
     let mut new = as_part(log.alloc, e)?;
-    if depth == 0 {
+    let count = part_count(e);
+    if depth == 0 || !log.spend(1) {
         return Ok(new);
     }
-    for k in 0..part_count(e) {
+    for k in 0..count {
         if let Some(inner) = part(e, k) {
+            let mark = log.mark();
             log.enter(k);
             let inner = improved(log, inner, depth - 1)?;
             log.leave();
-            new = with_part(log.alloc, new, k, inner)?;
+            if log.mark() > mark {
+                new = with_part(log, new, k, inner)?;
+            }
         }
     }
     finished(log, new)

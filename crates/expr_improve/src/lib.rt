@@ -1,12 +1,14 @@
 //! Rewriting of expressions by laws E1 to E18: what costs less, a normal form, and the forms that
 //! laws of networks want, each with the steps to it.
 //!
-//!     let better = improve_expr(alloc, &expr)?;
-//!     let normal = normal_expr(alloc, &expr)?;
+//!     let means = Means::new(alloc, nodes)?;
+//!     let better = improve_expr(&means, &expr)?;
+//!     let normal = normal_expr(&means, &expr)?;
 //!
 //! This is a search, and nothing is promised of what it finds: each step is checked again by who
 //! takes it. So its functions have no contracts; they are safe and come to an end, by a depth that
-//! falls. Costs are instructions for each value, about, as they were counted on small networks.
+//! falls. What they visit is taken off their `Means`; where nothing is left, they answer what they
+//! have. They build nothing over the limits of expressions. Costs are instructions for each value, about, as they were counted on small networks.
 //!
 //! First `src/improve.rt`, then `src/push.rt`, the heart of it, and `src/weight.rt`, the costs.
 //! `src/tree.rt` makes expressions, here and for the crates above: each as a part of others, since
@@ -28,6 +30,7 @@ mod tree;
 mod undo;
 mod view;
 mod weight;
+mod work;
 
 pub use found::Rewriting;
 pub use improve::{as_then, improve_expr, normal_expr};
@@ -40,3 +43,4 @@ pub use tree::{
 };
 pub use view::seen_through;
 pub use weight::{arr_cost, is_path, made_of};
+pub use work::Means;

@@ -1,13 +1,16 @@
 // Where a search is, and the steps that it took.
 
+use crate::tree::put_part;
+use crate::weight::part_count;
+use crate::work::Means;
 use expr_laws::apply_expr;
 use leaf_core::{Expr, ExprChild};
 use net_tree::{Direction, Law, LawStep, Position, Tree};
 use sample_core::Memory;
 use std::alloc::Global;
 
-/// How many times a search carries an expression inwards.
-const MOST_PUSHES: u32 = 200_000;
+/// The most steps of a search.
+const MOST_STEPS: usize = 20_000;
 
 /// How far a search goes.
 #[derive(Clone, Copy, PartialEq, Eq)]
@@ -44,21 +47,23 @@ pub(crate) struct Log {
     steps: Vec<Step>,
     /// Whether a growth for these was refused.
     refused: bool,
-    /// How many times it may still carry an expression inwards.
-    left: u32,
+    /// What is left to it.
+    pub(crate) means: Means,
 }
 
 impl Log {
     /// A search at the root, with no step taken.
-    pub(crate) fn new(alloc: Global, aim: Aim) -> Log {
-        Log {
+    pub(crate) fn new(means: &Means, aim: Aim) -> Result<Log, Memory> {
+        let alloc = means.alloc;
+        let means = means.share()?;
+        Ok(Log {
             alloc,
             aim,
             path: Vec::new(alloc),
             steps: Vec::new(alloc),
             refused: false,
-            left: MOST_PUSHES,
-        }
+            means,
+        })
     }
 
     /// Goes to part k.
@@ -83,13 +88,15 @@ impl Log {
         self.steps.truncate(mark);
     }
 
-    /// Whether it may carry another expression inwards; that is counted.
-    pub(crate) fn spend(&mut self) -> bool {
-        if self.left == 0 {
-            return false;
-        }
-        self.left -= 1;
-        true
+    /// Takes off so many nodes, and tells whether it may go on.
+    pub(crate) fn spend(&self, nodes: u64) -> bool {
+        self.means.spend(nodes) && self.steps.len() < MOST_STEPS
+    }
+
+    /// Takes off a node for each number of the path to where it is, and so many more.
+    pub(crate) fn spend_here(&self, nodes: u64) -> bool {
+        let depth = self.path.len() as u64;
+        self.spend(depth.saturating_add(nodes))
     }
 
     /// The steps that it took. `Memory` where a growth for them was refused.
@@ -123,6 +130,7 @@ impl Log {
 
     /// Adds a step at the path below where it is.
     fn add(&mut self, number: u8, below: &[u32], given: Option<ExprChild>) {
+        self.spend_here(1);
         match joined(self.alloc, &self.path, below) {
             Ok(path) => {
                 let step = Step {
@@ -147,6 +155,17 @@ impl Log {
         }
         Ok(right)
     }
+}
+
+/// The expression with the other one as part k; a node is taken off for each of its parts.
+pub(crate) fn with_part(
+    log: &Log,
+    e: ExprChild,
+    k: u32,
+    other: ExprChild,
+) -> Result<ExprChild, Memory> {
+    log.spend(u64::from(part_count(e.get())));
+    put_part(log.alloc, e, k, other)
 }
 
 /// The two paths, one behind the other.

@@ -3,17 +3,21 @@
 use crate::carry::{regroup, stands};
 use crate::choose::cheaper;
 use crate::clear::{cleared, is_certain};
-use crate::log::{Aim, Log};
-use crate::tree::{as_part, beside_second, first_input, is_constant, then_of, with_part};
-use crate::weight::{DEPTH, own_parts, size_within};
+use crate::log::{Aim, Log, with_part};
+use crate::tree::{as_part, beside_second, first_input, is_constant, then_of};
+use crate::weight::{extent_of, own_parts};
 use leaf_core::{Expr, ExprChild, part};
 use sample_core::Memory;
 
 /// How deep `then` is carried inwards.
 pub(crate) const PUSH_DEPTH: u32 = 1_000;
 
-/// Where the product of two sizes passes this, the one isn't carried into the other.
-const MOST_PRODUCT: u64 = 4_000_000;
+/// Where the product of two sizes passes this, the one isn't carried into the other: what came of it
+/// could be over the limits of expressions.
+const MOST_PRODUCT: u64 = 100_000;
+
+/// Where the sum of two heights passes this, it isn't either.
+const MOST_SUM: u32 = 240;
 
 /// What becomes of `(then f e)`, whose parts are as good as they get, with the steps from it.
 #[cycle(push)]
@@ -23,7 +27,7 @@ pub(crate) fn pushed(
     e: &Expr,
     depth: u32,
 ) -> Result<ExprChild, Memory> {
-    if depth == 0 || !log.spend() {
+    if depth == 0 || !log.spend(1) {
         return then_of(log.alloc, f, e);
     }
     match (f.get(), e) {
@@ -55,7 +59,7 @@ fn pushed_twice(
 /// aimed at.
 #[cycle(push)]
 fn pushed_inwards(log: &mut Log, f: &ExprChild, e: &Expr, depth: u32) -> Result<ExprChild, Memory> {
-    if size_within(f.get(), DEPTH).saturating_mul(size_within(e, DEPTH)) > MOST_PRODUCT {
+    if !may_be_carried(log, f.get(), e) {
         return then_of(log.alloc, f, e);
     }
     let mark = log.mark();
@@ -64,6 +68,14 @@ fn pushed_inwards(log: &mut Log, f: &ExprChild, e: &Expr, depth: u32) -> Result<
         Aim::Cheap => cheaper(log, mark, inner, f, e),
         Aim::Normal | Aim::Plain => Ok(inner),
     }
+}
+
+/// Whether what becomes of `(then f e)` is within the limits of expressions wherever f goes.
+fn may_be_carried(log: &Log, f: &Expr, e: &Expr) -> bool {
+    let (f, e) = (extent_of(f), extent_of(e));
+    log.spend(f.size.saturating_add(e.size))
+        && f.size.saturating_mul(e.size) <= MOST_PRODUCT
+        && f.height.saturating_add(e.height) <= MOST_SUM
 }
 
 /// What becomes of `(then f e)` where f goes to each part of e.
@@ -113,7 +125,7 @@ fn through_on(
     log.enter(2);
     let body = pushed_body(log, f, body, depth)?;
     log.leave();
-    let new = with_part(log.alloc, new, 2, body)?;
+    let new = with_part(log, new, 2, body)?;
     settled(log, new, depth)
 }
 
@@ -157,7 +169,7 @@ fn pushed_parts(log: &mut Log, f: &ExprChild, e: &Expr, depth: u32) -> Result<Ex
             log.enter(k);
             let inner = pushed(log, f, inner, depth)?;
             log.leave();
-            new = with_part(log.alloc, new, k, inner)?;
+            new = with_part(log, new, k, inner)?;
         }
     }
     Ok(new)

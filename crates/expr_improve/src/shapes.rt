@@ -5,20 +5,21 @@ use crate::improve::as_then;
 use crate::log::{Aim, Log};
 use crate::tree::{beside_second, first_input, input, on_right, pair_of, put, second_input};
 use crate::view::looked_through;
+use crate::work::Means;
 use leaf_core::{Expr, ExprChild, part_at, same_expr};
 use sample_core::Memory;
 use std::alloc::Global;
 
 /// `(pair (then (fst x) g) (snd x))` and the steps to it. Nothing where the expression isn't that.
 /// `Memory` where a growth was refused.
-pub fn as_left(alloc: Global, e: &Expr) -> Result<Option<Rewriting>, Memory> {
-    let second = second_input(alloc)?;
+pub fn as_left(means: &Means, e: &Expr) -> Result<Option<Rewriting>, Memory> {
+    let second = second_input(means.alloc)?;
     match e {
         Expr::Pair(_, b) if same_expr(b.get(), second.get()) => looked_at(
-            Log::new(alloc, Aim::Plain),
+            Log::new(means, Aim::Plain)?,
             e,
             &[0],
-            first_input(alloc)?,
+            first_input(means.alloc)?,
         ),
         _ => Ok(None),
     }
@@ -26,48 +27,49 @@ pub fn as_left(alloc: Global, e: &Expr) -> Result<Option<Rewriting>, Memory> {
 
 /// `(pair (fst x) (then (snd x) g))` and the steps to it. Nothing where the expression isn't that.
 /// `Memory` where a growth was refused.
-pub fn as_right(alloc: Global, e: &Expr) -> Result<Option<Rewriting>, Memory> {
-    let first = first_input(alloc)?;
+pub fn as_right(means: &Means, e: &Expr) -> Result<Option<Rewriting>, Memory> {
+    let first = first_input(means.alloc)?;
     match e {
         Expr::Pair(a, _) if same_expr(a.get(), first.get()) => looked_at(
-            Log::new(alloc, Aim::Plain),
+            Log::new(means, Aim::Plain)?,
             e,
             &[1],
-            second_input(alloc)?,
+            second_input(means.alloc)?,
         ),
-        Expr::Input => input_as_right(alloc, first),
+        Expr::Input => input_as_right(means, first),
         _ => Ok(None),
     }
 }
 
 /// `(pair (fst x) (then (snd x) g))` and the steps to it, of `x`.
-fn input_as_right(alloc: Global, first: ExprChild) -> Result<Option<Rewriting>, Memory> {
-    let both = beside_second(alloc, first)?;
-    let mut log = Log::new(alloc, Aim::Plain);
+fn input_as_right(means: &Means, first: ExprChild) -> Result<Option<Rewriting>, Memory> {
+    let both = beside_second(means.alloc, first)?;
+    let mut log = Log::new(means, Aim::Plain)?;
     log.backward(9, both.try_copy()?);
-    looked_at(log, both.get(), &[1], second_input(alloc)?)
+    looked_at(log, both.get(), &[1], second_input(means.alloc)?)
 }
 
 /// `(then (pair a x) (pair (fst x) (then (snd x) b)))` and the steps to it, of `(pair a b)`. Nothing
 /// where the expression isn't that. `Memory` where a growth was refused.
-pub fn as_late(alloc: Global, e: &Expr) -> Result<Option<Rewriting>, Memory> {
+pub fn as_late(means: &Means, e: &Expr) -> Result<Option<Rewriting>, Memory> {
     let Expr::Pair(a, b) = e else {
         return Ok(None);
     };
+    let alloc = means.alloc;
     let front = pair_of(alloc, a.try_copy()?, input(alloc)?)?;
     let back = on_right(alloc, b.get())?;
-    as_then(alloc, e, front.get(), back.get())
+    as_then(means, e, front.get(), back.get())
 }
 
 /// `(on x (none T) (event (then (snd x) g)))` and the steps to it. Nothing where the expression
 /// isn't that. `Memory` where a growth was refused.
-pub fn as_map(alloc: Global, e: &Expr) -> Result<Option<Rewriting>, Memory> {
+pub fn as_map(means: &Means, e: &Expr) -> Result<Option<Rewriting>, Memory> {
     if is_mapping(e) {
         looked_at(
-            Log::new(alloc, Aim::Plain),
+            Log::new(means, Aim::Plain)?,
             e,
             &[2, 0],
-            second_input(alloc)?,
+            second_input(means.alloc)?,
         )
     } else {
         Ok(None)
@@ -113,7 +115,7 @@ fn seen_at(
     let Some(inner) = part_at(e, path) else {
         return Ok(None);
     };
-    let Some(back) = looked_through(log.alloc, inner, look)? else {
+    let Some(back) = looked_through(&log.means, inner, look)? else {
         return Ok(None);
     };
     for k in path {

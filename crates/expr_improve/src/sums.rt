@@ -3,17 +3,40 @@
 use crate::log::{Aim, Log};
 use crate::order::is_after;
 use crate::tree::add_of;
+use crate::weight::extent_of;
 use leaf_core::{Expr, ExprChild};
 use sample_core::Memory;
 
 /// Whether the expression is a sum whose terms are to be put in order: any for the normal form; for
 /// the cheapest one of a literal before another term, or of two literals or more.
-pub(crate) fn wants_order(aim: Aim, e: &Expr) -> bool {
-    match (aim, e) {
+pub(crate) fn wants_order(log: &Log, e: &Expr) -> bool {
+    match (log.aim, e) {
+        (_, Expr::Add(..)) if !may_nest(log, e) => false,
         (Aim::Normal, Expr::Add(..)) => true,
         (Aim::Cheap, Expr::Add(a, b)) => literals_in(e) > 1
             || (is_literal(a.get()) && !matches!(b.get(), Expr::Add(..))),
         _ => false,
+    }
+}
+
+/// The greatest height of a sum whose terms are put in order.
+const MOST_NESTED: u32 = 250;
+
+/// Whether the sum, with its terms nested to the right, is within the limits of expressions.
+fn may_nest(log: &Log, e: &Expr) -> bool {
+    let (terms, tallest) = terms_in(e);
+    log.spend(u64::from(terms)) && terms.saturating_add(tallest) <= MOST_NESTED
+}
+
+/// How many terms the sum has, and the height of the tallest.
+fn terms_in(e: &Expr) -> (u32, u32) {
+    match e {
+        Expr::Add(a, b) => {
+            let (count, tallest) = terms_in(a.get());
+            let (more, taller) = terms_in(b.get());
+            (count.saturating_add(more), tallest.max(taller))
+        }
+        _ => (1, extent_of(e).height),
     }
 }
 
@@ -36,7 +59,7 @@ pub(crate) fn summed(log: &mut Log, e: ExprChild, depth: u32) -> Result<ExprChil
     let Expr::Add(a, b) = e.get() else {
         return Ok(e);
     };
-    if depth == 0 {
+    if depth == 0 || !log.spend(1) {
         return Ok(e);
     }
     if let Some(nested) = log.take(17, &e)? {
@@ -63,7 +86,7 @@ fn inserted(
     let joined = is_literal(term.get()) && is_literal(next.get());
     let stays = !joined && !is_after(log.aim, term.get(), next.get());
     match last {
-        _ if stays || depth == 0 => add_of(log.alloc, term, rest),
+        _ if stays || depth == 0 || !log.spend(1) => add_of(log.alloc, term, rest),
         None => paired(log, if joined { 15 } else { 16 }, term, rest),
         Some(last) if joined => joined_before(log, term, next, last, depth - 1),
         Some(last) => inserted_behind(log, term, next, last, depth - 1),

@@ -91,7 +91,7 @@ pub(crate) fn add_of(alloc: Global, a: &ExprChild, b: &ExprChild) -> Result<Expr
 }
 
 /// The expression with the other one as part k; as it is where it has no such part.
-pub(crate) fn with_part(
+pub(crate) fn put_part(
     alloc: Global,
     e: ExprChild,
     k: u32,

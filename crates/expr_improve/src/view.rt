@@ -4,9 +4,10 @@ use crate::carry::carried;
 use crate::found::{Found, way_back};
 use crate::log::{Aim, Log, Step};
 use crate::tree::{
-    as_part, first_input, first_of, input, is_constant, second_input, second_of, then_of, with_part,
+    as_part, first_input, first_of, input, is_constant, put_part, second_input, second_of, then_of,
 };
 use crate::weight::{DEPTH, part_count};
+use crate::work::Means;
 use leaf_core::{Expr, ExprChild, part, same_expr};
 use sample_core::Memory;
 use std::alloc::Global;
@@ -22,45 +23,46 @@ struct View {
 
 /// The g for which `(then f g)` is e, where e uses its input by f and by the parts alone of which f
 /// is a pair. Nothing where it uses it in another way. `Memory` where a growth was refused.
-pub fn seen_through(alloc: Global, e: &Expr, f: &Expr) -> Result<Option<ExprChild>, Memory> {
+pub fn seen_through(means: &Means, e: &Expr, f: &Expr) -> Result<Option<ExprChild>, Memory> {
+    let alloc = means.alloc;
     let mut views = Vec::new(alloc);
     add_views(alloc, &mut views, f, input(alloc)?, DEPTH)?;
-    replaced(alloc, e, &views, DEPTH)
+    replaced(means, e, &views, DEPTH)
 }
 
 /// The steps from e back to `(then f g)`, for that g.
 pub(crate) fn looked_through(
-    alloc: Global,
+    means: &Means,
     e: &Expr,
     f: &ExprChild,
 ) -> Result<Option<Found>, Memory> {
-    match seen_through(alloc, e, f.get())? {
-        Some(g) => back_to_then(alloc, e, f, &g),
+    match seen_through(means, e, f.get())? {
+        Some(g) => back_to_then(means, e, f, &g),
         None => Ok(None),
     }
 }
 
 /// The steps from e back to `(then f g)`, where f carried into g leads to e.
 pub(crate) fn back_to_then(
-    alloc: Global,
+    means: &Means,
     e: &Expr,
     f: &ExprChild,
     g: &ExprChild,
 ) -> Result<Option<Found>, Memory> {
-    match steps_to(alloc, e, f, g)? {
-        Some(steps) => way_back(alloc, then_of(alloc, f, g.get())?, &steps),
+    match steps_to(means, e, f, g)? {
+        Some(steps) => way_back(means.alloc, then_of(means.alloc, f, g.get())?, &steps),
         None => Ok(None),
     }
 }
 
 /// The steps by which f, carried into g, leads to e.
 fn steps_to(
-    alloc: Global,
+    means: &Means,
     e: &Expr,
     f: &ExprChild,
     g: &ExprChild,
 ) -> Result<Option<Vec<Step>>, Memory> {
-    let mut log = Log::new(alloc, Aim::Plain);
+    let mut log = Log::new(means, Aim::Plain)?;
     let reached = carried(&mut log, f, g.get(), DEPTH)?;
     if same_expr(reached.get(), e) {
         Ok(Some(log.into_steps()?))
@@ -94,12 +96,12 @@ fn add_views(
 /// The expression with what is seen written in its place; nothing where the input is left.
 #[cycle(replace)]
 fn replaced(
-    alloc: Global,
+    means: &Means,
     e: &Expr,
     views: &[View],
     depth: u32,
 ) -> Result<Option<ExprChild>, Memory> {
-    if depth == 0 {
+    if depth == 0 || !means.spend(views.len() as u64 + 1) {
         return Ok(None);
     }
     for view in views {
@@ -109,22 +111,27 @@ fn replaced(
     }
     match e {
         Expr::Input => Ok(None),
-        _ => replaced_parts(alloc, e, views, depth - 1),
+        _ => replaced_parts(means, e, views, depth - 1),
     }
 }
 
 /// The expression with each of its parts so replaced.
 #[cycle(replace)]
 fn replaced_parts(
-    alloc: Global,
+    means: &Means,
     e: &Expr,
     views: &[View],
     depth: u32,
 ) -> Result<Option<ExprChild>, Memory> {
+    let alloc = means.alloc;
+    let count = part_count(e);
     let mut new = as_part(alloc, e)?;
-    for k in 0..part_count(e) {
-        match replaced_part(alloc, e, k, views, depth)? {
-            Some(inner) => new = with_part(alloc, new, k, inner)?,
+    for k in 0..count {
+        if !means.spend(u64::from(count)) {
+            return Ok(None);
+        }
+        match replaced_part(means, e, k, views, depth)? {
+            Some(inner) => new = put_part(alloc, new, k, inner)?,
             None => return Ok(None),
         }
     }
@@ -135,7 +142,7 @@ fn replaced_parts(
 /// own under `fst`.
 #[cycle(replace)]
 fn replaced_part(
-    alloc: Global,
+    means: &Means,
     e: &Expr,
     k: u32,
     views: &[View],
@@ -145,21 +152,22 @@ fn replaced_part(
         return Ok(None);
     };
     match (e, k) {
-        (Expr::Then(..), 1) => Ok(Some(as_part(alloc, inner)?)),
+        (Expr::Then(..), 1) => Ok(Some(as_part(means.alloc, inner)?)),
         (Expr::On(..), 2) => {
-            let lifted = lifted_views(alloc, views)?;
-            replaced(alloc, inner, &lifted, depth)
+            let lifted = lifted_views(means, views)?;
+            replaced(means, inner, &lifted, depth)
         }
-        _ => replaced(alloc, inner, views, depth),
+        _ => replaced(means, inner, views, depth),
     }
 }
 
 /// The views in the body of `on`: each behind `fst`, and the event as it is.
-fn lifted_views(alloc: Global, views: &[View]) -> Result<Vec<View>, Memory> {
+fn lifted_views(means: &Means, views: &[View]) -> Result<Vec<View>, Memory> {
+    let alloc = means.alloc;
     let mut lifted = Vec::new(alloc);
     for view in views {
-        let from = lifted_part(alloc, &view.from)?;
-        let to = lifted_part(alloc, &view.to)?;
+        let from = lifted_part(means, &view.from)?;
+        let to = lifted_part(means, &view.to)?;
         lifted.push(View { from, to })?;
     }
     let from = second_input(alloc)?;
@@ -169,8 +177,8 @@ fn lifted_views(alloc: Global, views: &[View]) -> Result<Vec<View>, Memory> {
 }
 
 /// The expression behind `(fst x)`.
-fn lifted_part(alloc: Global, e: &ExprChild) -> Result<ExprChild, Memory> {
-    let first = first_input(alloc)?;
-    let mut log = Log::new(alloc, Aim::Plain);
+fn lifted_part(means: &Means, e: &ExprChild) -> Result<ExprChild, Memory> {
+    let first = first_input(means.alloc)?;
+    let mut log = Log::new(means, Aim::Plain)?;
     carried(&mut log, &first, e.get(), DEPTH)
 }

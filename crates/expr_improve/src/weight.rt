@@ -133,18 +133,47 @@ pub(crate) fn is_simple(expr: &Expr) -> bool {
     }
 }
 
-/// How many expressions the expression is made of, itself counted, no deeper than so many.
-pub(crate) fn size_within(expr: &Expr, depth: u32) -> u64 {
+/// How large an expression is.
+#[derive(Clone, Copy)]
+pub(crate) struct Extent {
+    /// How many expressions it is made of, itself counted.
+    pub(crate) size: u64,
+    /// How many of them stand inside one another.
+    pub(crate) height: u32,
+}
+
+/// How many expressions are counted.
+const MOST_COUNTED: u64 = 200_000;
+
+/// How large the expression is, where it is no larger than is counted.
+pub(crate) fn extent_of(expr: &Expr) -> Extent {
+    extent_within(expr, DEPTH)
+}
+
+/// How many expressions the expression is made of, itself counted, as far as they are counted.
+pub(crate) fn size_of(expr: &Expr) -> u64 {
+    extent_of(expr).size
+}
+
+/// How large the expression is, no deeper than so many.
+fn extent_within(expr: &Expr, depth: u32) -> Extent {
     let mut size = 1u64;
+    let mut height = 0u32;
     if depth == 0 {
-        return size;
+        return Extent { size, height: 1 };
     }
     for k in 0..part_count(expr) {
+        if size > MOST_COUNTED {
+            break;
+        }
         if let Some(inner) = part(expr, k) {
-            size = size.saturating_add(size_within(inner, depth - 1));
+            let inner = extent_within(inner, depth - 1);
+            size = size.saturating_add(inner.size);
+            height = height.max(inner.height);
         }
     }
-    size
+    let height = height.saturating_add(1);
+    Extent { size, height }
 }
 
 /// The sum of costs, at most the largest number.

@@ -1,7 +1,7 @@
 // Moves to the normal form, of `arr`s, of `first`s and of cells.
 
 use expr_improve::{
-    Rewriting, as_late, as_part, as_then, first_input, first_of, is_path, on_right, pair_of,
+    Means, Rewriting, as_late, as_part, as_then, first_input, first_of, is_path, on_right, pair_of,
     second_input, second_of, seen_through, then_of,
 };
 use leaf_core::{Expr, ExprChild, same_expr};
@@ -129,7 +129,7 @@ fn nested(w: &mut Sketch) -> Result<(), NoMove> {
     };
     let given = seq(w.alloc, w.net.try_copy()?, identity(w.alloc)?)?;
     w.backward(2, &[], given)?;
-    let found = there_and_back(w.alloc, w.arr_at(&[1])?)?;
+    let found = there_and_back(&w.means, w.arr_at(&[1])?)?;
     w.part_by(&[1], found)?;
     w.regroup(&[])?;
     w.forward(9, &[0])?;
@@ -137,15 +137,15 @@ fn nested(w: &mut Sketch) -> Result<(), NoMove> {
 }
 
 /// The input as UNASSOC behind ASSOC.
-fn there_and_back(alloc: Global, input: &Expr) -> Result<Option<Rewriting>, Memory> {
-    let there = assoc(alloc)?;
-    let back = unassoc(alloc)?;
-    as_then(alloc, input, there.get(), back.get())
+fn there_and_back(means: &Means, input: &Expr) -> Result<Option<Rewriting>, Memory> {
+    let there = assoc(means.alloc)?;
+    let back = unassoc(means.alloc)?;
+    as_then(means, input, there.get(), back.get())
 }
 
 /// `(arr (pair a b))` and `(first f)` are `(arr (pair a x))`, `(first f)` and b of the right part.
 fn late(w: &mut Sketch) -> Result<(), NoMove> {
-    let found = right_late(w.alloc, w.arr_at(&[0])?)?;
+    let found = right_late(&w.means, w.arr_at(&[0])?)?;
     w.part_by(&[0], found)?;
     w.forward(3, &[])?;
     w.exchange(&[1])?;
@@ -153,9 +153,9 @@ fn late(w: &mut Sketch) -> Result<(), NoMove> {
 }
 
 /// `(pair a b)` as `(pair a x)`, and b of the right part behind it, where b is no path.
-fn right_late(alloc: Global, e: &Expr) -> Result<Option<Rewriting>, Memory> {
+fn right_late(means: &Means, e: &Expr) -> Result<Option<Rewriting>, Memory> {
     match e {
-        Expr::Pair(_, b) if !is_path(b.get()) => as_late(alloc, e),
+        Expr::Pair(_, b) if !is_path(b.get()) => as_late(means, e),
         _ => Ok(None),
     }
 }
@@ -179,7 +179,7 @@ fn narrow(w: &mut Sketch, part: &Expr) -> Result<(), NoMove> {
     let count = length(w.net.get()).saturating_sub(2);
     are_firsts(w, count)?;
     let way = behind(w.alloc, &[1], count)?;
-    let found = narrowed(w.alloc, w.arr_at(&way)?, part)?;
+    let found = narrowed(&w.means, w.arr_at(&way)?, part)?;
     w.part_by(&way, found)?;
     for j in (0..count).rev() {
         pass_first(w, j)?;
@@ -210,22 +210,23 @@ fn pass_first(w: &mut Sketch, stages: usize) -> Result<(), NoMove> {
 }
 
 /// The expression as one that leaves this of the right part, and another behind it.
-fn narrowed(alloc: Global, e: &Expr, part: &Expr) -> Result<Option<Rewriting>, Memory> {
-    match behind_part(alloc, e, part)? {
+fn narrowed(means: &Means, e: &Expr, part: &Expr) -> Result<Option<Rewriting>, Memory> {
+    match behind_part(means, e, part)? {
         Some(g) if !same_expr(g.get(), e) => {
-            let front = on_right(alloc, part)?;
-            as_then(alloc, e, front.get(), g.get())
+            let front = on_right(means.alloc, part)?;
+            as_then(means, e, front.get(), g.get())
         }
         _ => Ok(None),
     }
 }
 
 /// What is left of the expression where the left part and this of the right part alone are there.
-fn behind_part(alloc: Global, e: &Expr, part: &Expr) -> Result<Option<ExprChild>, Memory> {
+fn behind_part(means: &Means, e: &Expr, part: &Expr) -> Result<Option<ExprChild>, Memory> {
+    let alloc = means.alloc;
     let first = first_input(alloc)?;
     let second = part_of_right(alloc, part)?;
     let seen = pair_of(alloc, first, second)?;
-    seen_through(alloc, e, seen.get())
+    seen_through(means, e, seen.get())
 }
 
 /// The part of the right part of the input: `(fst (snd x))` or `(snd (snd x))`.

@@ -4,8 +4,8 @@ ghost use Rattle.std.specs.Prelude.{◌≡◌, IfOk};
 ghost use Rattle.net_certify.specs.Certifying.{CertifyAnswer};
 
 use crate::difference::{Difference, first_difference};
-use crate::forming::normal_steps;
-use net_edit::{Draft, undo};
+use crate::ways::{formed, shortest, steps_of};
+use net_edit::Draft;
 use net_improve::count_fitting;
 use net_syntax::TypedNet;
 use net_tree::{LawStep, Position, Tree, same_net};
@@ -44,19 +44,42 @@ pub fn certify(alloc: Global, source: &TypedNet, target: &TypedNet) -> Result<Ce
     if same_net(there.net().net(), target.net()) {
         return Ok(found(there, target));
     }
-    let mut back = Draft::new(alloc, target)?;
-    to_normal_form(alloc, &mut there)?;
-    to_normal_form(alloc, &mut back)?;
-    let differs = first_difference(alloc, there.net().net(), back.net().net())?;
-    if let Some(difference) = differs {
-        return Ok(differ(difference, source, target));
-    }
-    let steps = undone_steps(alloc, target, back.steps())?;
+    let steps = shortest(alloc, source, target)?;
+    let is_found = !steps.is_empty();
     let _took = there.take_all(alloc, steps)?;
     if same_net(there.net().net(), target.net()) && has_room(alloc, there.steps())? {
         return Ok(found(there, target));
     }
-    Ok(Certified::TooLong)
+    if is_found {
+        return Ok(Certified::TooLong);
+    }
+    none_found(alloc, source, target)
+}
+
+/// That nothing was found: where the two normal forms differ, first.
+fn none_found(alloc: Global, source: &TypedNet, target: &TypedNet) -> Result<Certified, Memory>
+    requires { source.now.input ≡ target.now.input }
+    ensures { IfOk result (CertifyAnswer source.now target.now) }
+{
+    let first = form_of(alloc, source)?;
+    let second = form_of(alloc, target)?;
+    match first_difference(alloc, first.net(), second.net())? {
+        Some(difference) => Ok(differ(difference, source, target)),
+        None => Ok(Certified::TooLong),
+    }
+}
+
+/// The normal form, as far as the steps to it may be taken.
+fn form_of(alloc: Global, net: &TypedNet) -> Result<TypedNet, Memory> {
+    let mut draft = Draft::new(alloc, net)?;
+    for step in steps_of(formed(alloc, net)?) {
+        if !draft.take(alloc, step)? {
+            break;
+        }
+    }
+    let (form, steps) = draft.into_parts();
+    drop(steps);
+    Ok(form)
 }
 
 /// Whether a certificate has room for the steps.
@@ -89,51 +112,4 @@ fn differ(difference: Difference, source: &TypedNet, target: &TypedNet) -> Certi
         first,
         second,
     }
-}
-
-/// Takes the steps to the normal form, as far as they may be taken.
-fn to_normal_form(alloc: Global, draft: &mut Draft) -> Result<(), Memory>
-    ensures { draft.new.source ≡ draft.old.source }
-{
-    let steps = normal_steps(alloc, draft.net().net())?;
-    for step in steps {
-        if !draft.take(alloc, step)? {
-            return Ok(());
-        }
-    }
-    Ok(())
-}
-
-/// The steps that undo these, which were taken from the source on, last first.
-fn undone_steps(
-    alloc: Global,
-    source: &TypedNet,
-    steps: &[LawStep],
-) -> Result<Vec<LawStep>, Memory> {
-    let mut draft = Draft::new(alloc, source)?;
-    let mut undone = Vec::new(alloc);
-    for step in steps {
-        if let Some(back) = undo(alloc, draft.net(), step)? {
-            undone.push(back)?;
-        }
-        let copy = copied_step(alloc, step)?;
-        let _took = draft.take(alloc, copy)?;
-    }
-    undone.reverse();
-    Ok(undone)
-}
-
-/// A copy of the step.
-fn copied_step(alloc: Global, step: &LawStep) -> Result<LawStep, Memory> {
-    let position = step.position.try_copy(alloc)?;
-    let given = match &step.given {
-        Some(tree) => Some(tree.try_copy(alloc)?),
-        None => None,
-    };
-    Ok(LawStep {
-        law: step.law,
-        direction: step.direction,
-        position,
-        given,
-    })
 }

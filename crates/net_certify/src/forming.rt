@@ -1,7 +1,7 @@
 // The normal form of a network, by steps.
 
 use crate::table::{MoveRow, SOURCE, TABLE, row_fits};
-use expr_improve::joined;
+use expr_improve::{Means, joined};
 use leaf_core::Expr;
 use net_improve::{
     Built, Clearing, MOST_DEPTH, NoMove, Sketch, behind, copied, front, head, length, rest,
@@ -49,12 +49,23 @@ struct Former {
     moves: u32,
 }
 
-/// The steps that lead from the network to its normal form, at most some thousands. They are only
-/// proposed: types aren't looked at. `Memory` where a growth was refused.
-pub(crate) fn normal_steps(alloc: Global, net: &Net<Expr>) -> Result<Vec<LawStep>, Memory> {
-    let mut former = Former::new(alloc, net)?;
+/// A normal form, with the steps to it.
+#[derive(Drop)]
+pub(crate) struct Formed {
+    /// The network.
+    pub(crate) net: NetChild<Expr>,
+    /// The steps.
+    pub(crate) steps: Vec<LawStep>,
+    /// Whether it is the normal form, which nothing kept the search from.
+    pub(crate) is_done: bool,
+}
+
+/// The normal form of the network, where so many frozen networks are in scope, as far as the search
+/// comes. It is only proposed: types aren't looked at. `Memory` where a growth was refused.
+pub(crate) fn normal_form(means: &Means, net: &Net<Expr>, olds: u32) -> Result<Formed, Memory> {
+    let mut former = Former::new(means, net, olds)?;
     former.perform_all()?;
-    Ok(former.into_steps())
+    Ok(former.into_formed())
 }
 
 /// To bring the whole to its normal form.
@@ -66,21 +77,33 @@ fn first_tasks(alloc: Global) -> Result<Vec<Task>, Memory> {
 
 impl Former {
     /// The network, of which all is still to be done.
-    fn new(alloc: Global, net: &Net<Expr>) -> Result<Former, Memory> {
-        let whole = copied(alloc, net)?;
-        let tasks = first_tasks(alloc)?;
+    fn new(means: &Means, net: &Net<Expr>, olds: u32) -> Result<Former, Memory> {
+        let whole = copied(means.alloc, net)?;
+        let sketch = Sketch::new(means, whole, olds, Clearing::Always)?;
+        let tasks = first_tasks(means.alloc)?;
         Ok(Former {
-            sketch: Sketch::new(alloc, whole, 0, Clearing::Always),
+            sketch,
             tasks,
             moves: MOST_MOVES,
         })
     }
 
-    /// The steps so far.
-    fn into_steps(self) -> Vec<LawStep> {
-        let Former { sketch, .. } = self;
-        let Sketch { steps, .. } = sketch;
-        steps
+    /// Where it came, with the steps so far.
+    fn into_formed(self) -> Formed {
+        let Former { sketch, moves, .. } = self;
+        let Sketch {
+            net,
+            steps,
+            means,
+            ..
+        } = sketch;
+        let is_done = moves > 0 && means.left() > 0;
+        drop(means);
+        Formed {
+            net,
+            steps,
+            is_done,
+        }
     }
 
     /// Does all that is to be done.
@@ -104,6 +127,9 @@ impl Former {
 
     /// Does what is to be done.
     fn perform(&mut self, task: Task) -> Result<(), NoMove> {
+        if !self.sketch.means.spend(1) {
+            return Ok(());
+        }
         match task {
             Task::Form(path) => self.form(&path),
             Task::DropFront(path, stage) => self.drop_front(&path, stage),
@@ -236,8 +262,11 @@ impl Former {
         if !row_fits(row, length(chain), head(chain), second) {
             return Ok(None);
         }
+        if !self.sketch.means.spend(row.1 as u64) {
+            return Ok(None);
+        }
         let window = front(self.sketch.alloc, chain, row.1)?;
-        tried(self.sketch.alloc, row, &window, spot.olds)
+        tried(&self.sketch.means, row, &window, spot.olds)
     }
 
     /// Puts what was made of some stages in their place, and what it built is to be formed.
@@ -289,12 +318,12 @@ impl Former {
 
 /// What the row's move makes of the stages, where it fits and changes them.
 fn tried(
-    alloc: Global,
+    means: &Means,
     row: &MoveRow,
     window: &NetChild<Expr>,
     olds: u32,
 ) -> Result<Option<Made>, NoMove> {
-    let mut sketch = Sketch::new(alloc, window.try_copy()?, olds, Clearing::Always);
+    let mut sketch = Sketch::new(means, window.try_copy()?, olds, Clearing::Always)?;
     match row.0.make(&mut sketch) {
         Ok(built) if !same_net(sketch.net.get(), window.get()) => Ok(Some(Made {
             stages: row.1,

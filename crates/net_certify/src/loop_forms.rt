@@ -1,8 +1,8 @@
 // Moves to the normal form, of loops.
 
 use expr_improve::{
-    Rewriting, as_part, as_then, beside_second, first_input, input, on_left, pair_of, second_input,
-    seen_through,
+    Means, Rewriting, as_part, as_then, beside_second, first_input, input, on_left, pair_of,
+    second_input, seen_through,
 };
 use leaf_core::{Expr, ExprChild, part, same_expr};
 use net_improve::{Built, LoopMove, NoMove, Sketch, identity, seq};
@@ -65,7 +65,7 @@ fn merge(w: &mut Sketch) -> Result<Built, NoMove> {
 }
 
 fn front_in(w: &mut Sketch) -> Result<Built, NoMove> {
-    let found = left_behind(w.alloc, w.arr_at(&[0])?)?;
+    let found = left_behind(&w.means, w.arr_at(&[0])?)?;
     w.part_by(&[0], found)?;
     w.forward(3, &[])?;
     w.first_arr(&[1, 0])?;
@@ -77,19 +77,20 @@ fn front_in(w: &mut Sketch) -> Result<Built, NoMove> {
 }
 
 /// `(pair a b)` as `(pair x b)`, and a of the left part behind it, where a isn't x.
-fn left_behind(alloc: Global, e: &Expr) -> Result<Option<Rewriting>, Memory> {
+fn left_behind(means: &Means, e: &Expr) -> Result<Option<Rewriting>, Memory> {
+    let alloc = means.alloc;
     match e {
         Expr::Pair(a, b) if !is_input(a.get()) => {
             let front = pair_of(alloc, input(alloc)?, b.try_copy()?)?;
             let back = on_left(alloc, a.get())?;
-            as_then(alloc, e, front.get(), back.get())
+            as_then(means, e, front.get(), back.get())
         }
         _ => Ok(None),
     }
 }
 
 fn back_in(w: &mut Sketch) -> Result<Built, NoMove> {
-    let found = left_before(w.alloc, w.arr_at(&[1])?)?;
+    let found = left_before(&w.means, w.arr_at(&[1])?)?;
     w.part_by(&[1], found)?;
     w.regroup(&[])?;
     w.first_arr(&[0, 1])?;
@@ -102,28 +103,28 @@ fn back_in(w: &mut Sketch) -> Result<Built, NoMove> {
 
 /// The expression as its largest part of the left part alone, in the place of that, and what is
 /// left of it behind that.
-fn left_before(alloc: Global, e: &Expr) -> Result<Option<Rewriting>, NoMove> {
-    let largest = largest_left(alloc, e)?;
-    let front = left_alone(alloc, largest.get())?;
-    let behind = behind_left(alloc, e, largest)?;
-    Ok(as_then(alloc, e, front.get(), behind.get())?)
+fn left_before(means: &Means, e: &Expr) -> Result<Option<Rewriting>, NoMove> {
+    let largest = largest_left(means.alloc, e)?;
+    let front = left_alone(means, largest.get())?;
+    let behind = behind_left(means, e, largest)?;
+    Ok(as_then(means, e, front.get(), behind.get())?)
 }
 
 /// The part, which uses the left part alone, in the place of that, beside the right part.
-fn left_alone(alloc: Global, e: &Expr) -> Result<ExprChild, NoMove> {
-    let inside = through(alloc, e, first_input(alloc)?)?;
-    Ok(on_left(alloc, inside.get())?)
+fn left_alone(means: &Means, e: &Expr) -> Result<ExprChild, NoMove> {
+    let inside = through(means, e, first_input(means.alloc)?)?;
+    Ok(on_left(means.alloc, inside.get())?)
 }
 
 /// What is left of the expression where its part stands in the place of the left part.
-fn behind_left(alloc: Global, e: &Expr, part: ExprChild) -> Result<ExprChild, NoMove> {
-    let seen = beside_second(alloc, part)?;
-    through(alloc, e, seen)
+fn behind_left(means: &Means, e: &Expr, part: ExprChild) -> Result<ExprChild, NoMove> {
+    let seen = beside_second(means.alloc, part)?;
+    through(means, e, seen)
 }
 
 /// What is left of the expression behind f, where it sees no more of the input than f does.
-fn through(alloc: Global, e: &Expr, f: ExprChild) -> Result<ExprChild, NoMove> {
-    match seen_through(alloc, e, f.get())? {
+fn through(means: &Means, e: &Expr, f: ExprChild) -> Result<ExprChild, NoMove> {
+    match seen_through(means, e, f.get())? {
         Some(g) => Ok(g),
         None => Err(NoMove::Unfit),
     }

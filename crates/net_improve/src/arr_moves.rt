@@ -1,14 +1,13 @@
 // Moves of stages that are an `arr`.
 
 use crate::build::{arr_pair, unit};
-use crate::cost::cost;
+use crate::cost::net_cost;
 use crate::moves::Built;
 use crate::sketch::{Clearing, NoMove, Sketch};
-use expr_improve::{Rewriting, as_then, shared_at};
+use expr_improve::{Means, Rewriting, as_then, shared_at};
 use leaf_core::Expr;
 use net_tree::Net;
 use sample_core::Memory;
-use std::alloc::Global;
 
 /// A move of stages that are an `arr`.
 #[derive(Clone, Copy)]
@@ -52,7 +51,7 @@ fn drop_front(w: &mut Sketch) -> Result<(), NoMove> {
     match w.net_at(&[1])? {
         Net::After(..) | Net::Repeatedly(..) | Net::Time => w.forward(20, &[]),
         Net::Arr(e) if !hears(e) => {
-            let found = behind_unit(w.alloc, e)?;
+            let found = behind_unit(&w.means, e)?;
             w.rewrite_arr(&[1], found)?;
             w.forward(25, &[])?;
             w.clear(&[0])
@@ -62,9 +61,9 @@ fn drop_front(w: &mut Sketch) -> Result<(), NoMove> {
 }
 
 /// The expression, which doesn't use its input, as itself behind `unit`.
-fn behind_unit(alloc: Global, e: &Expr) -> Result<Option<Rewriting>, Memory> {
-    let unit = unit(alloc)?;
-    as_then(alloc, e, unit.get(), e)
+fn behind_unit(means: &Means, e: &Expr) -> Result<Option<Rewriting>, Memory> {
+    let unit = unit(means.alloc)?;
+    as_then(means, e, unit.get(), e)
 }
 
 /// Whether the expression may use its input.
@@ -113,7 +112,7 @@ fn split(w: &mut Sketch, path: &[u32]) -> Result<(), NoMove> {
             return Ok(());
         };
         let two = arr_pair(w.alloc, f.get(), g.get())?;
-        if cost(two.get()) >= cost(one) {
+        if net_cost(two.get()) >= net_cost(one) {
             return Ok(());
         }
         w.backward(4, &way, two)?;
@@ -124,6 +123,6 @@ fn split(w: &mut Sketch, path: &[u32]) -> Result<(), NoMove> {
 
 /// What the `arr` computes twice, in one before it.
 fn share(w: &mut Sketch) -> Result<(), NoMove> {
-    let found = shared_at(w.alloc, w.arr_at(&[])?)?;
+    let found = shared_at(&w.means, w.arr_at(&[])?)?;
     w.part_by(&[], found)
 }

@@ -2,8 +2,10 @@
 
 use crate::build::{arr, arr_pair, first};
 use crate::sketch::{Clearing, NoMove, Sketch};
-use expr_improve::{Rewriting, as_left, as_then, improve_expr, joined, normal_expr, seen_through};
-use leaf_core::Expr;
+use expr_improve::{
+    Means, Rewriting, as_left, as_then, improve_expr, joined, normal_expr, seen_through,
+};
+use leaf_core::{Expr, expr_fits};
 use net_syntax::TreeRef;
 use net_tree::NetChild;
 use sample_core::Memory;
@@ -13,8 +15,12 @@ impl Sketch {
     /// Improves the expression at the path.
     pub fn clear(&mut self, path: &[u32]) -> Result<(), NoMove> {
         let clearing = self.clearing;
-        let found = cleared(self.alloc, clearing, self.expr_at(path)?)?;
-        self.rewrite(path, found)
+        let found = cleared(&self.means, clearing, self.expr_at(path)?)?;
+        if expr_fits(found.result.get()) {
+            self.rewrite(path, found)
+        } else {
+            Err(NoMove::Unfit)
+        }
     }
 
     /// Rewrites the expression at the path as it was found.
@@ -52,13 +58,13 @@ impl Sketch {
 
     /// Parts the `arr` at the path in `(arr f)` and what is left of it behind that.
     pub fn part_behind(&mut self, path: &[u32], f: &Expr) -> Result<(), NoMove> {
-        let found = behind_other(self.alloc, self.arr_at(path)?, f)?;
+        let found = behind_other(&self.means, self.arr_at(path)?, f)?;
         self.part_by(path, found)
     }
 
     /// Makes the `arr` at the path, of the left part alone, `(first (arr h))`.
     pub fn left_at(&mut self, path: &[u32]) -> Result<(), NoMove> {
-        let found = as_left(self.alloc, self.arr_at(path)?)?;
+        let found = as_left(&self.means, self.arr_at(path)?)?;
         self.rewrite_arr(path, found)?;
         self.first_arr(path)
     }
@@ -71,17 +77,17 @@ impl Sketch {
 }
 
 /// The expression cleared up, with the steps.
-fn cleared(alloc: Global, clearing: Clearing, expr: &Expr) -> Result<Rewriting, Memory> {
+fn cleared(means: &Means, clearing: Clearing, expr: &Expr) -> Result<Rewriting, Memory> {
     match clearing {
-        Clearing::ByCost => improve_expr(alloc, expr),
-        Clearing::Always => normal_expr(alloc, expr),
+        Clearing::ByCost => improve_expr(means, expr),
+        Clearing::Always => normal_expr(means, expr),
     }
 }
 
 /// The expression as f and what is left of it behind that.
-fn behind_other(alloc: Global, e: &Expr, f: &Expr) -> Result<Option<Rewriting>, Memory> {
-    match seen_through(alloc, e, f)? {
-        Some(g) => as_then(alloc, e, f, g.get()),
+fn behind_other(means: &Means, e: &Expr, f: &Expr) -> Result<Option<Rewriting>, Memory> {
+    match seen_through(means, e, f)? {
+        Some(g) => as_then(means, e, f, g.get()),
         None => Ok(None),
     }
 }

@@ -62,7 +62,7 @@ fn map_back(w: &mut Sketch) -> Result<(), NoMove> {
         Net::Repeatedly(..) => 22,
         _ => return Err(NoMove::Unfit),
     };
-    let found = as_map(w.alloc, w.arr_at(&[1])?)?;
+    let found = as_map(&w.means, w.arr_at(&[1])?)?;
     w.rewrite_arr(&[1], found)?;
     w.forward(number, &[])?;
     w.clear(&[0])
@@ -72,7 +72,7 @@ fn map_front(w: &mut Sketch) -> Result<(), NoMove> {
     let Net::AccumBy(..) = w.net_at(&[1])? else {
         return Err(NoMove::Unfit);
     };
-    let found = as_map(w.alloc, w.arr_at(&[0])?)?;
+    let found = as_map(&w.means, w.arr_at(&[0])?)?;
     w.rewrite_arr(&[0], found)?;
     w.forward(24, &[])?;
     w.clear(&[0])

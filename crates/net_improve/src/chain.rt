@@ -1,10 +1,15 @@
 // Chains of stages, nested to the right.
 
 use crate::build::{copied, first, seq};
+use crate::cost::MOST_DEPTH;
 use crate::sketch::{NoMove, Sketch};
 use leaf_core::Expr;
+use net_syntax::{TreeRef, child};
 use net_tree::{Net, NetChild};
 use std::alloc::Global;
+
+/// The most children of a network.
+pub(crate) const MOST_CHILDREN: u32 = 65_536;
 
 /// How many stages a chain may have to be looked at.
 const MOST_STAGES: usize = 100_000;
@@ -78,6 +83,64 @@ pub fn length(chain: &Net<Expr>) -> usize {
     match chain {
         Net::Seq(_, rest) => length(rest.get()).saturating_add(1),
         _ => 1,
+    }
+}
+
+/// The stages of a chain, however they are nested.
+#[derive(Clone, Copy)]
+pub struct Stages {
+    /// How many there are.
+    pub count: u32,
+    /// The height of the highest.
+    pub highest: u32,
+}
+
+impl Stages {
+    /// The height of the chain where they are nested to the right.
+    pub fn height(self) -> u32 {
+        self.count.saturating_add(self.highest)
+    }
+}
+
+/// The stages of the network, however they are nested.
+pub fn stages_of(net: &Net<Expr>) -> Stages {
+    match net {
+        Net::Seq(f, g) => {
+            let (f, g) = (stages_of(f.get()), stages_of(g.get()));
+            Stages {
+                count: f.count.saturating_add(g.count),
+                highest: f.highest.max(g.highest),
+            }
+        }
+        _ => Stages {
+            count: 1,
+            highest: height_of(net, MOST_DEPTH),
+        },
+    }
+}
+
+/// How many networks stand inside one another in the network, no deeper than so many.
+#[cycle(height)]
+fn height_of(net: &Net<Expr>, depth: u32) -> u32 {
+    if depth == 0 {
+        return 0;
+    }
+    let mut highest = 0u32;
+    for k in 0..MOST_CHILDREN {
+        match child(net, k) {
+            Some(TreeRef::Net(inner)) => highest = highest.max(height_of(inner, depth - 1)),
+            Some(TreeRef::Expr(_)) => {}
+            None => break,
+        }
+    }
+    highest.saturating_add(1)
+}
+
+/// Whether no stage of the chain is itself a chain.
+pub fn is_flat(chain: &Net<Expr>) -> bool {
+    match chain {
+        Net::Seq(f, rest) => !matches!(f.get(), Net::Seq(..)) && is_flat(rest.get()),
+        _ => true,
     }
 }
 

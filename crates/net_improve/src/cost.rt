@@ -9,7 +9,7 @@ use net_tree::{Members, Net, NetChild};
 pub const MOST_DEPTH: u32 = 1_000;
 
 /// What a network costs for a sample, in instructions, about.
-pub(crate) fn cost(net: &Net<Expr>) -> u64 {
+pub(crate) fn net_cost(net: &Net<Expr>) -> u64 {
     cost_to(net, MOST_DEPTH)
 }
 
@@ -120,5 +120,5 @@ pub(crate) fn is_cell(net: &Net<Expr>) -> bool {
 
 /// What a chain costs where this stands behind it, or where it is the body of a loop.
 pub(crate) fn cost_before(chain: &Net<Expr>, next: Option<&Net<Expr>>, in_loop: bool) -> u64 {
-    sum(&[cost(chain), cost_kept(last(chain), next, in_loop)])
+    sum(&[net_cost(chain), cost_kept(last(chain), next, in_loop)])
 }

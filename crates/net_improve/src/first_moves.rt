@@ -5,7 +5,7 @@ use crate::chain::length;
 use crate::moves::Built;
 use crate::sketch::{NoMove, Sketch};
 use expr_improve::{
-    Rewriting, as_late, as_right, as_then, first_input, on_left, second_input, seen_through,
+    Means, Rewriting, as_late, as_right, as_then, first_input, on_left, second_input, seen_through,
     then_of,
 };
 use leaf_core::{Expr, ExprChild};
@@ -123,7 +123,7 @@ fn heard_apart(w: &mut Sketch) -> Result<(), NoMove> {
 
 fn unheard(w: &mut Sketch) -> Result<(), NoMove> {
     w.first_at(&[0])?;
-    let found = behind_unit_left(w.alloc, w.arr_at(&[1])?)?;
+    let found = behind_unit_left(&w.means, w.arr_at(&[1])?)?;
     w.part_by(&[1], found)?;
     w.regroup(&[])?;
     w.first_arr(&[0, 1])?;
@@ -136,18 +136,18 @@ fn unheard(w: &mut Sketch) -> Result<(), NoMove> {
 
 /// The expression, where it uses the right part alone, as itself behind what makes the left part
 /// `unit`.
-fn behind_unit_left(alloc: Global, e: &Expr) -> Result<Option<Rewriting>, Memory> {
-    if !is_of_right(alloc, e)? {
+fn behind_unit_left(means: &Means, e: &Expr) -> Result<Option<Rewriting>, Memory> {
+    if !is_of_right(means, e)? {
         return Ok(None);
     }
-    let front = unit_left(alloc)?;
-    as_then(alloc, e, front.get(), e)
+    let front = unit_left(means.alloc)?;
+    as_then(means, e, front.get(), e)
 }
 
 /// Whether the expression uses the right part alone.
-fn is_of_right(alloc: Global, e: &Expr) -> Result<bool, Memory> {
-    let second = second_input(alloc)?;
-    Ok(seen_through(alloc, e, second.get())?.is_some())
+fn is_of_right(means: &Means, e: &Expr) -> Result<bool, Memory> {
+    let second = second_input(means.alloc)?;
+    Ok(seen_through(means, e, second.get())?.is_some())
 }
 
 /// `(pair (then (fst x) (then unit unit)) (snd x))`.
@@ -186,7 +186,7 @@ fn pull_back(w: &mut Sketch) -> Result<Built, NoMove> {
 fn right_front(w: &mut Sketch) -> Result<(), NoMove> {
     w.arr_at(&[0])?;
     w.first_at(&[1, 0])?;
-    let found = as_right(w.alloc, w.arr_at(&[1, 1])?)?;
+    let found = as_right(&w.means, w.arr_at(&[1, 1])?)?;
     w.rewrite_arr(&[1, 1], found)?;
     w.forward(7, &[1])?;
     w.forward(10, &[])?;
@@ -196,7 +196,7 @@ fn right_front(w: &mut Sketch) -> Result<(), NoMove> {
 fn right_back(w: &mut Sketch) -> Result<(), NoMove> {
     w.first_at(&[1, 0])?;
     w.arr_at(&[1, 1])?;
-    let found = as_right(w.alloc, w.arr_at(&[0])?)?;
+    let found = as_right(&w.means, w.arr_at(&[0])?)?;
     w.rewrite_arr(&[0], found)?;
     w.regroup(&[])?;
     w.exchange(&[0])?;
@@ -208,7 +208,7 @@ fn right_back(w: &mut Sketch) -> Result<(), NoMove> {
 fn late(w: &mut Sketch) -> Result<(), NoMove> {
     w.first_at(&[1, 0])?;
     w.arr_at(&[1, 1])?;
-    let found = as_late(w.alloc, w.arr_at(&[0])?)?;
+    let found = as_late(&w.means, w.arr_at(&[0])?)?;
     w.part_by(&[0], found)?;
     w.forward(3, &[])?;
     w.regroup(&[1])?;
@@ -223,7 +223,7 @@ fn nested(w: &mut Sketch) -> Result<(), NoMove> {
     let Net::First(_) = w.first_at(&[1, 0])? else {
         return Err(NoMove::Unfit);
     };
-    let found = behind_assoc(w.alloc, w.arr_at(&[1, 1])?)?;
+    let found = behind_assoc(&w.means, w.arr_at(&[1, 1])?)?;
     w.part_by(&[1, 1], found)?;
     w.regroup(&[1])?;
     w.forward(9, &[1, 0])?;
@@ -234,10 +234,11 @@ fn nested(w: &mut Sketch) -> Result<(), NoMove> {
 }
 
 /// The expression as itself behind UNASSOC, and that behind ASSOC.
-fn behind_assoc(alloc: Global, e: &Expr) -> Result<Option<Rewriting>, Memory> {
+fn behind_assoc(means: &Means, e: &Expr) -> Result<Option<Rewriting>, Memory> {
+    let alloc = means.alloc;
     let there = assoc(alloc)?;
     let back = then_of(alloc, &unassoc(alloc)?, e)?;
-    as_then(alloc, e, there.get(), back.get())
+    as_then(means, e, there.get(), back.get())
 }
 
 fn push_front(w: &mut Sketch) -> Result<Built, NoMove> {

@@ -3,12 +3,13 @@
 //!     let (net, steps) = improve(alloc, &source)?;
 //!
 //! The steps derive the answer from the source (`Improved`), at most 10,000. That it is faster isn't
-//! promised: what is tried is a search, in which nothing is proved but that it is safe and ends. A
-//! `Sketch` is a network that it rewrites, with the steps so far; a `Move` is what it may do to a few
-//! stages that stand behind one another, which it does where the cost falls. Each step that it finds
-//! is checked again before it is taken; a move with one that is refused is left out.
+//! promised: what is tried is a search, in which nothing is proved but that it is safe and ends; it
+//! visits at most so many nodes (`Means`), and builds no expression over the limits. A `Sketch` is a
+//! network that it rewrites, with the steps so far; a `Move` is what it may do to a few stages that
+//! stand behind one another, which it does where the cost falls. Each step that it finds is checked
+//! again before it is taken; a move with one that is refused is left out.
 //!
-//! First `src/driver.rt`, then `src/search.rt` and `src/settle.rt`, then `src/moves.rt`, the moves,
+//! First `src/driver.rt` and `src/proposing.rt`, then `src/search.rt` and `src/settle.rt`, then `src/moves.rt`, the moves,
 //! and `src/cost.rt`, what they are compared by.
 #![tactic(auto)]
 
@@ -23,6 +24,7 @@ mod first_moves;
 mod laws;
 mod loop_moves;
 mod moves;
+mod proposing;
 mod room;
 mod search;
 mod settle;
@@ -33,7 +35,7 @@ mod types;
 pub use arr_moves::ArrMove;
 pub use build::{assoc, copied, identity, map_before_hold, seq, unassoc};
 pub use cell_moves::CellMove;
-pub use chain::{behind, front, head, length, rest, stage_way};
+pub use chain::{Stages, behind, front, head, is_flat, length, rest, stage_way, stages_of};
 pub use cost::MOST_DEPTH;
 pub use driver::improve;
 pub use first_moves::FirstMove;

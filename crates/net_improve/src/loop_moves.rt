@@ -71,7 +71,7 @@ fn turn(w: &mut Sketch) -> Result<(), NoMove> {
     let Net::Arr(_) = last(body.get()) else {
         return Err(NoMove::Unfit);
     };
-    let found = as_right(w.alloc, w.arr_at(&[1, 0])?)?;
+    let found = as_right(&w.means, w.arr_at(&[1, 0])?)?;
     w.rewrite_arr(&[1, 0], found)?;
     w.forward(15, &[])?;
     w.clear(&[0])

@@ -1,6 +1,6 @@
 // The search: each network's parts, then the chain that it is.
 
-use crate::chain::{length, stage_way};
+use crate::chain::{MOST_CHILDREN, is_flat, length, stage_way, stages_of};
 use crate::settle::{Search, settle};
 use crate::sketch::{NoMove, Sketch};
 use net_syntax::{TreeRef, child};
@@ -12,10 +12,8 @@ const MOST_BUILT: u32 = 3;
 /// How often what moves build is improved in all.
 pub(crate) const MOST_TRIES: u32 = 3_000;
 
-/// The most children of a network.
-const MOST_CHILDREN: u32 = 65_536;
-
-/// Improves the network, which a loop repeats or not, and what stands in it so deep.
+/// Improves the network, which a loop repeats or not, and what stands in it so deep. A chain that
+/// would be too high where it is nested to the right is improved in the two parts that it is made of.
 #[cycle(search)]
 pub(crate) fn improve_net(
     sketch: &mut Sketch,
@@ -24,11 +22,20 @@ pub(crate) fn improve_net(
     tries: &mut u32,
 ) -> Result<(), NoMove> {
     match sketch.net.get() {
-        Net::Seq(..) => improve_stages(sketch, depth, tries)?,
+        Net::Seq(..) if may_flatten(sketch) => improve_stages(sketch, depth, tries)?,
         _ => improve_children(sketch, depth, tries)?,
+    }
+    if !may_flatten(sketch) {
+        return Ok(());
     }
     let depth = MOST_BUILT;
     settle(sketch, Search { in_loop, depth }, tries)
+}
+
+/// Whether the network's stages may be nested to the right: they are, or it stays low enough.
+fn may_flatten(sketch: &Sketch) -> bool {
+    let net = sketch.net.get();
+    is_flat(net) || stages_of(net).height() <= sketch.room
 }
 
 /// Improves the stages of the chain, from the last to the first.
@@ -44,7 +51,7 @@ fn improve_stages(chain: &mut Sketch, depth: u32, tries: &mut u32) -> Result<(),
     Ok(())
 }
 
-/// Improves the children of the network, which is no chain.
+/// Improves the children of the network.
 #[cycle(search)]
 fn improve_children(sketch: &mut Sketch, depth: u32, tries: &mut u32) -> Result<(), NoMove> {
     let in_loop = matches!(sketch.net.get(), Net::LoopPre(..));
@@ -70,7 +77,7 @@ fn improve_part(
     depth: u32,
     tries: &mut u32,
 ) -> Result<(), NoMove> {
-    if depth == 0 {
+    if depth == 0 || !sketch.means.spend(1) {
         return Ok(());
     }
     let mut inner = sketch.inner(path)?;

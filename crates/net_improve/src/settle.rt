@@ -7,6 +7,9 @@ use crate::sketch::{NoMove, Sketch};
 use leaf_core::Expr;
 use net_tree::Net;
 
+/// What an expression costs at least.
+const LEAST_COST: u64 = 12;
+
 /// How many places of a chain are looked at.
 const MOST_PLACES: u32 = 100_000;
 
@@ -35,7 +38,7 @@ pub(crate) fn settle(chain: &mut Sketch, search: Search, tries: &mut u32) -> Res
     let mut count = length(chain.net.get());
     let mut next = count;
     for _ in 0..MOST_PLACES {
-        if next == 0 {
+        if next == 0 || !chain.means.spend(next as u64) {
             return Ok(());
         }
         let place = next - 1;
@@ -109,8 +112,12 @@ fn attempt(
     tries: &mut u32,
 ) -> Result<Option<Sketch>, NoMove> {
     let stages = reach(moved, here);
+    if !chain.means.spend(stages as u64) {
+        return Ok(None);
+    }
     let window = front(chain.alloc, here, stages)?;
-    let mut made = Sketch::new(chain.alloc, window, chain.olds, chain.clearing);
+    let mut made = Sketch::new(&chain.means, window, chain.olds, chain.clearing)?;
+    made.room = chain.room;
     build(&mut made, moved, search.depth, tries)?;
     if pays(&made, here, stages, search.in_loop)? {
         Ok(Some(made))
@@ -132,7 +139,9 @@ fn pays(made: &Sketch, here: &Net<Expr>, stages: usize, in_loop: bool) -> Result
     let window = front(made.alloc, here, stages)?;
     let next = rest(here, stages).map(head);
     let before = cost_before(window.get(), next, in_loop);
-    Ok(cost_before(made.net.get(), next, in_loop) < before)
+    let after = cost_before(made.net.get(), next, in_loop);
+    made.means.spend(before.saturating_add(after) / LEAST_COST);
+    Ok(after < before)
 }
 
 /// Puts what was found in the place of the stages, where so many stand before.

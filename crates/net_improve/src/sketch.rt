@@ -1,12 +1,12 @@
 // A network that is rewritten, with the steps so far.
 
 use crate::build::copied;
-use expr_improve::joined;
+use expr_improve::{Means, joined};
 use expr_laws::apply_expr;
 use law_rules::apply_law;
 use leaf_core::{Expr, part};
 use net_syntax::{TreeRef, child, replace};
-use net_tree::{Direction, Law, LawStep, Net, NetChild, Position, Tree};
+use net_tree::{Direction, Law, LawStep, MOST_HEIGHT, Net, NetChild, Position, Tree};
 use sample_core::{Memory, OutOfMemory};
 use std::alloc::Global;
 
@@ -38,10 +38,14 @@ pub enum Clearing {
 pub struct Sketch {
     /// What its parts are allocated by.
     pub alloc: Global,
+    /// What is left to the search.
+    pub means: Means,
     /// The network.
     pub net: NetChild<Expr>,
     /// How many frozen networks are in scope.
     pub olds: u32,
+    /// How high it may be.
+    pub(crate) room: u32,
     /// How far expressions are cleared up.
     pub clearing: Clearing,
     /// The steps, in the order in which they were taken.
@@ -58,16 +62,25 @@ pub struct Spot<'n> {
 }
 
 impl Sketch {
-    /// The network, with no step yet.
-    pub fn new(alloc: Global, net: NetChild<Expr>, olds: u32, clearing: Clearing) -> Sketch {
-        Sketch {
+    /// The network, with no step yet. `Memory` only where a count of references is full.
+    pub fn new(
+        means: &Means,
+        net: NetChild<Expr>,
+        olds: u32,
+        clearing: Clearing,
+    ) -> Result<Sketch, Memory> {
+        let alloc = means.alloc;
+        let means = means.share()?;
+        Ok(Sketch {
             alloc,
+            means,
             net,
             olds,
+            room: MOST_HEIGHT,
             clearing,
             steps: Vec::new(alloc),
             ends: Vec::new(alloc),
-        }
+        })
     }
 
     /// What stands at the path.
@@ -91,7 +104,9 @@ impl Sketch {
         match spot.tree {
             TreeRef::Net(net) => {
                 let net = copied(self.alloc, net)?;
-                Ok(Sketch::new(self.alloc, net, spot.olds, self.clearing))
+                let mut inner = Sketch::new(&self.means, net, spot.olds, self.clearing)?;
+                inner.room = self.room.saturating_sub(depth_of(path));
+                Ok(inner)
             }
             TreeRef::Expr(_) => Err(NoMove::Unfit),
         }
@@ -144,6 +159,12 @@ impl Sketch {
         }
     }
 
+    /// Goes on to where a step leads, where its law has an answer, and keeps no step.
+    pub fn follow(&mut self, step: &LawStep) -> Result<(), NoMove> {
+        self.net = self.after(step)?;
+        Ok(())
+    }
+
     /// The network with what the step's law answers.
     fn after(&self, step: &LawStep) -> Result<NetChild<Expr>, NoMove> {
         let new = self.answer(step)?;
@@ -186,6 +207,17 @@ impl Sketch {
         let position = Position::of_node(self.alloc, path)?;
         self.take(LawStep {
             law: Law::L(number),
+            direction: Direction::Forward,
+            position,
+            given: None,
+        })
+    }
+
+    /// Takes a law of expressions forward at the path.
+    pub fn forward_in(&mut self, number: u8, path: &[u32]) -> Result<(), NoMove> {
+        let position = Position::of_node(self.alloc, path)?;
+        self.take(LawStep {
+            law: Law::E(number),
             direction: Direction::Forward,
             position,
             given: None,
@@ -277,6 +309,11 @@ impl Sketch {
         self.net = net?;
         Ok(())
     }
+}
+
+/// How many numbers the path has.
+fn depth_of(path: &[u32]) -> u32 {
+    u32::try_from(path.len()).unwrap_or(MOST_HEIGHT)
 }
 
 /// A copy of the tree.

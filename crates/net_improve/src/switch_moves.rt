@@ -5,7 +5,7 @@ use crate::chain::{behind, length};
 use crate::moves::Built;
 use crate::sketch::{NoMove, Sketch};
 use crate::types::type_told;
-use expr_improve::{Rewriting, as_then, input, pair_of};
+use expr_improve::{Means, Rewriting, as_then, input, pair_of};
 use leaf_core::{Expr, Exprs};
 use net_tree::{Members, Net, NetChild, same_net};
 use sample_core::{Memory, Ty};
@@ -129,20 +129,20 @@ fn never(w: &mut Sketch) -> Result<Built, NoMove> {
 
 /// Parts `(arr (pair e (none C)))` at the path in `(arr e)` and what makes the pair of that.
 fn part_never(w: &mut Sketch, path: &[u32]) -> Result<(), NoMove> {
-    let found = never_apart(w.alloc, w.arr_at(path)?)?;
+    let found = never_apart(&w.means, w.arr_at(path)?)?;
     w.part_by(path, found)
 }
 
 /// The way from `(pair e (none C))` back to `(then e (pair x (none C)))`.
-fn never_apart(alloc: Global, e: &Expr) -> Result<Option<Rewriting>, Memory> {
+fn never_apart(means: &Means, e: &Expr) -> Result<Option<Rewriting>, Memory> {
     let Expr::Pair(value, none) = e else {
         return Ok(None);
     };
     let Expr::NoEvent(_) = none.get() else {
         return Ok(None);
     };
-    let g = pair_of(alloc, input(alloc)?, none.try_copy()?)?;
-    as_then(alloc, e, value.get(), g.get())
+    let g = pair_of(means.alloc, input(means.alloc)?, none.try_copy()?)?;
+    as_then(means, e, value.get(), g.get())
 }
 
 fn members_front(w: &mut Sketch) -> Result<Built, NoMove> {

@@ -1,0 +1,42 @@
+// What a search allocates by, and what is left to it.
+
+use sample_core::Memory;
+use std::alloc::Global;
+use std::cell::Cell;
+use std::rc::Rc;
+
+/// Where a search allocates, and the work that is left to it, reckoned in nodes that it visits.
+/// Copies share what is left.
+#[derive(Drop)]
+pub struct Means {
+    /// Where it allocates.
+    pub alloc: Global,
+    left: Rc<Cell<u64>>,
+}
+
+impl Means {
+    /// So many nodes are left to be visited. `Memory` where a growth was refused.
+    pub fn new(alloc: Global, nodes: u64) -> Result<Means, Memory> {
+        let left = Rc::new(alloc, Cell::new(nodes))?;
+        Ok(Means { alloc, left })
+    }
+
+    /// The same means, shared. `Memory` only where a count of references is full.
+    pub fn share(&self) -> Result<Means, Memory> {
+        let left = self.left.clone()?;
+        let alloc = self.alloc;
+        Ok(Means { alloc, left })
+    }
+
+    /// Takes off so many nodes, and tells whether some are left.
+    pub fn spend(&self, nodes: u64) -> bool {
+        let left = self.left.get().saturating_sub(nodes);
+        self.left.set(left);
+        left > 0
+    }
+
+    /// How many nodes are left to be visited.
+    pub fn left(&self) -> u64 {
+        self.left.get()
+    }
+}
