@@ -120,7 +120,7 @@ def all_there(address: str, net: str, recordings: list[Recording], folder: Path)
         raise missing("python3-distributed", error) from None
     cloudpickle.register_pickle_by_value(remote)
     # A worker that is gone, and a program of a megabyte, are nothing to tell of.
-    logging.getLogger("distributed").setLevel(logging.ERROR)
+    logging.disable(logging.WARNING)
     warnings.simplefilter("ignore", UserWarning)
     program = Path(path()).read_bytes()
     if not program.startswith(b"\x7fELF"):
