@@ -28,6 +28,10 @@ def parts_are_counted(folder):
     want("coverage --all", tool("coverage", "--all", "net", "c", folder=folder)[0] == 1)
     told = tool("coverage", "--all", "net", "a", "b", folder=folder)
     want("coverage of two recordings", told[0] == 0 and "never" not in told[1], told)
+    in_files(folder, few="1\n+1 2\n")
+    status, _, told_of = tool("draw", "net", "--coverage", "few", "-o", "net.dot", folder=folder)
+    dot = (folder / "net.dot").read_text() if status == 0 else told_of
+    want("draw --coverage", "2 times" in dot and "time" in dot and "never" in dot and dot.count("#f6e0e0") == 2, dot)
     in_files(folder, bad="1\n+0 2\n")
     told = tool("coverage", "net", "bad", folder=folder)
     want("coverage of a faulty recording", told[0] == 1 and told[2] == "bad: stream: line 2: step\n" and told[1].endswith("net:5:9\n"), told)

@@ -122,6 +122,16 @@ class Run:
         return word in ("arr", "pSwitch", "rpSwitchB") or (word == "accumBy" and number == 0)
 
 
+def counts_of(program: Program, recordings: list[str]) -> dict[Position, int]:
+    """How often the recordings run each network, by its position."""
+    run = Run(program)
+    for recording in recordings:
+        fault = run.hear(recording)
+        if fault:
+            raise Refused(fault)
+    return {position: run.total(position) for position, tree in preorder(run.tree) if is_network(tree)}
+
+
 # ---- what is told
 
 

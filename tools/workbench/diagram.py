@@ -92,6 +92,7 @@ class Diagram:
     depth: int = 1_000_000
     positions: bool = False
     types: bool = False
+    counts: Optional[dict] = None
 
     def __post_init__(self) -> None:
         self.known = {position: re.sub(r"#\d+$", "", name) for name, position in self.whole.program.signals}
@@ -105,7 +106,11 @@ class Diagram:
     # ---- texts
 
     def place(self, position: Position) -> str:
-        return at_text(position) if self.positions else ""
+        """The position, and how often what stands there was run, where these are shown."""
+        shown_here = [at_text(position)] if self.positions else []
+        if self.counts is not None and position in self.counts:
+            shown_here.append(f"{self.counts[position]} times" if self.counts[position] else "never")
+        return ", ".join(shown_here)
 
     def label(self, position: Position, text: str) -> str:
         return f"{text} {self.place(position)}".rstrip()
@@ -119,7 +124,11 @@ class Diagram:
 
     def box(self, position: Position, text: str = "", kind: str = "part") -> Box:
         written = self.written(position)
-        return Box(text or written, written, self.place(position), kind)
+        return Box(text or written, written, self.place(position), self.kind(position) if kind == "part" else kind)
+
+    def kind(self, position: Position) -> str:
+        """How the box of a part looks: one that was never run is marked, where that is counted."""
+        return "never" if self.counts is not None and self.counts.get(position) == 0 else "part"
 
     def type(self, type_: Tree) -> str:
         return shown_type(self.whole.program.named_type(type_)) if self.types else ""
@@ -202,7 +211,7 @@ class Diagram:
         if word in SWITCHES:
             return self.switch(position, tree, depth)
         if word == "arr" and head(shortened(tree)) == "arr":
-            return Box(self.written((*position, 0)), self.written(position), self.place(position))
+            return Box(self.written((*position, 0)), self.written(position), self.place(position), self.kind(position))
         return self.box(position)
 
     def constant(self, position: Position, behind: str) -> Box:

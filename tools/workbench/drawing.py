@@ -45,6 +45,7 @@ KINDS = {
     "part": 'style="rounded,filled"',
     "name": 'style=filled, fillcolor="#e6eef8", peripheries=2',
     "cut": 'style="filled,dashed", fillcolor="#eeeeee"',
+    "never": 'style="rounded,filled,dashed", fillcolor="#f6e0e0"',
     "constant": 'style=filled, fillcolor="#fff4dd"',
     "frame": 'style="rounded", color="#888888"',
     "dashed": 'style="rounded,dashed", color="#666666"',
@@ -159,6 +160,13 @@ def picture_of(whole: Network, diagram: Diagram, position: Position, width: floa
     return rendered(canvas, wide, high, ending)
 
 
+def run_counts(whole: Network, recordings: list) -> dict:
+    """How often recordings run each network."""
+    from workbench.coverage import counts_of
+
+    return counts_of(whole.program, recordings)
+
+
 def ending_of(name: Optional[str], endings: tuple, words: Words) -> str:
     """What kind of file is wanted, by the ending of its name; where it has none, an svg."""
     ending = os.path.splitext(name or "")[1].lower()
@@ -176,6 +184,7 @@ def main() -> None:
     words.add_argument("--depth", type=int, default=1_000_000, metavar="N", help="what stands deeper is a box")
     words.add_argument("--open", action="store_true", dest="opened", help="what names stand for is drawn in their place")
     add_position(words, "draws what stands at this position", default=[])
+    words.add_argument("--coverage", metavar="FILE", action="append", default=[], help="tells how often this recording runs each part; may come again")
     words.add_argument("-o", metavar="FILE", dest="to", help="writes the drawing there: .svg, .png, .pdf or .dot")
     given = words.parse_args()
     if not 200 <= given.width <= 100_000:
@@ -188,5 +197,6 @@ def main() -> None:
     row = whole.rows.get(position)
     if row is None or not row.weight:
         raise Refused(f"(at{''.join(f' {number}' for number in position)}): no network stands there")
-    diagram = Diagram(whole, not given.opened, given.depth, given.positions, given.types)
+    counts = run_counts(whole, given.coverage) if given.coverage else None
+    diagram = Diagram(whole, not given.opened, given.depth, given.positions, given.types, counts)
     write(given.to, picture_of(whole, diagram, position, given.width, ending))
