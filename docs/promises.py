@@ -36,7 +36,7 @@ class Call:
 
 
 def exported(crate):
-    """The names that a crate's `lib.rt` passes on, or None where a whole module is public."""
+    """The names that a crate's `lib.rt` passes on, and its modules that are public as a whole."""
     text = (TOP / "crates" / crate / "src/lib.rt").read_text()
     names = {name.strip().split(" as ")[-1] for found in EXPORT.finditer(text) for name in (found[2] or found[3]).split(",")}
     return names, set(re.findall(r"^pub mod (\w+);", text, re.M))
