@@ -6,7 +6,7 @@ ghost use Rattle.clap.specs.declared.builder.command.Command.TheViews.{out-Comma
 ghost use Rattle.command_line.specs.CommandRows.{RequestRows, OptimiseRows, DerivationRows, PlaceRows, StepsRows, HelpRows, VersionRows, NothingRows, NoOptimiseRows, NoStepsRows};
 ghost use Rattle.command_line.specs.CommandLine.{IsNothing, ReadsWords, RepliesTo, and_command, and_rewriting, apply_in, certify_in, command_line, command_taking, derivation_in, derivation_view, file_name, flag, is_given, laws_in, leading_view, request_by, request_on, request_view, valued, wanted_by, wanted_in, types, run, outline, optimise, improve, check, run_checked};
 
-use crate::help::{self, Told};
+use crate::help::{self, HelpText};
 use clap::error::{Error, ErrorKind};
 use clap::{Arg, ArgAction, ArgMatches, Command};
 use std::alloc::{AllocError, Global};
@@ -29,7 +29,7 @@ pub struct Leading<'a> {
     pub source: &'a str,
     /// The steps.
     pub certificate: &'a str,
-    /// The word that tells how many of them are taken; all where there is none.
+    /// The word that says how many of them are taken; all if there is none.
     pub first: Option<&'a str>,
     /// Whether the steps are shown, in place of the network that they lead to.
     pub shows: bool,
@@ -53,8 +53,8 @@ pub enum Request<'a> {
     Run { net: &'a str },
     /// What stands where in the network in a file.
     Outline { net: &'a str },
-    /// The steps that may be taken in the network in a file, at the place that a word tells and
-    /// below; at any where there is none.
+    /// The steps that are possible in the network in a file, at the position that a word names and
+    /// below; at any position if there is none.
     Laws { net: &'a str, at: Option<&'a str> },
     /// What the optimiser makes of the network in a file.
     Optimise { net: &'a str, wanted: Wanted },
@@ -94,7 +94,7 @@ pub enum Reply {
     Help(String),
     /// What is wrong with the words.
     Wrong(String),
-    /// A growth was refused.
+    /// Allocation failed.
     Memory,
 }
 
@@ -108,69 +108,69 @@ impl From<AllocError> for Reply {
     }
 }
 
-/// The name of a file, which must be there, and what help tells of it.
-fn named_file<'a>(alloc: Global, id: &'a str, tells: &'a str) -> Arg<'a>
+/// The name of a file, which must be given, with its help text.
+fn named_file<'a>(alloc: Global, id: &'a str, text: &'a str) -> Arg<'a>
     ensures rule { rule_of result ≡ file_name id.entry.now }
     ensures local { result.global ≡ false }
 {
     Arg::new(alloc, id)
         .required(true)
         .action(ArgAction::Set)
-        .help(tells)
+        .help(text)
 }
 
-/// A flag, which may stand before and behind the name of a file, and what help tells of it.
-fn flag<'a>(alloc: Global, id: &'a str, tells: &'a str) -> Arg<'a>
+/// A flag, which may stand before or after the name of a file, with its help text.
+fn flag<'a>(alloc: Global, id: &'a str, text: &'a str) -> Arg<'a>
     ensures rule { rule_of result ≡ flag id.entry.now }
     ensures local { result.global ≡ false }
 {
     Arg::new(alloc, id)
         .long(id)
         .action(ArgAction::SetTrue)
-        .help(tells)
+        .help(text)
 }
 
-/// An option with one value, which may stand before and behind the names of files, and what help
-/// tells of it.
-fn valued<'a>(alloc: Global, id: &'a str, name: &'a str, tells: &'a str) -> Arg<'a>
+/// An option with one value, which may stand before or after the names of files, with its help
+/// text.
+fn valued<'a>(alloc: Global, id: &'a str, name: &'a str, text: &'a str) -> Arg<'a>
     ensures rule { rule_of result ≡ valued id.entry.now name.entry.now }
     ensures local { result.global ≡ false }
 {
     Arg::new(alloc, id)
         .long(name)
         .action(ArgAction::Set)
-        .help(tells)
+        .help(text)
 }
 
-/// The subcommand, which takes the file of that name too, and what help tells of it.
+/// The subcommand, which takes the file of that name too, with its help text.
 fn and_file<'a>(
     alloc: Global,
     command: Command<'a>,
     id: &'a str,
-    tells: &'a str,
+    text: &'a str,
 ) -> Result<Command<'a>, AllocError>
     requires { (out-Command command).has_globals ≡ false }
     ensures app { IfOk result
         (λ c. app_of c ≡ with_rule (app_of command.entry) (file_name id.entry.now)) }
     ensures local { IfOk result (λ c. (out-Command c).has_globals ≡ false) }
 {
-    command.arg(named_file(alloc, id, tells))
+    command.arg(named_file(alloc, id, text))
 }
 
-/// A subcommand of that name that takes so much, and what help tells of it.
+/// A subcommand of that name that takes so much, with its help text.
 fn command_taking<'a>(
     alloc: Global,
     takes: Takes,
     name: &'a str,
-    told: Told<'a>,
+    text: HelpText<'a>,
 ) -> Result<Command<'a>, AllocError>
     ensures app { IfOk result (λ c. app_of c ≡ command_taking takes name.entry.now) }
     ensures local { IfOk result (λ c. (out-Command c).has_globals ≡ false) }
 {
     let command = Command::new(alloc, name)
-        .about(told.does)
-        .after_help(told.more)
-        .override_usage(told.usage);
+        .about(text.does)
+        .after_help(text.more)
+        .override_usage(text.usage);
     match takes {
         Takes::Network => and_file(alloc, command, "NET", help::NET),
         Takes::Wanted => and_file(alloc, command, "NET", help::NET)?.arg(flag(
@@ -222,12 +222,12 @@ fn and_command<'a>(
     command: Command<'a>,
     takes: Takes,
     name: &'a str,
-    told: Told<'a>,
+    text: HelpText<'a>,
 ) -> Result<Command<'a>, AllocError>
     ensures app { IfOk result
         (λ c. app_of c ≡ and_command (app_of command.entry) takes name.entry.now) }
 {
-    match command_taking(alloc, takes, name, told) {
+    match command_taking(alloc, takes, name, text) {
         Ok(subcommand) => command.subcommand(subcommand),
         Err(refused) => {
             drop(command);

@@ -1,13 +1,13 @@
-// What help tells of the program and of its commands.
+// The help texts of the program and of its commands.
 
-/// What help tells of a subcommand.
+/// The help text of a subcommand.
 #[derive(Clone, Copy)]
-pub struct Told<'a> {
+pub struct HelpText<'a> {
     /// How it is called.
     pub usage: &'a str,
-    /// What it does, in a line.
+    /// What it does, in one line.
     pub does: &'a str,
-    /// What help on it ends with.
+    /// The text behind its arguments and options.
     pub more: &'a str,
 }
 
@@ -20,91 +20,86 @@ pub const VERSION: &str = "\
 language 2, and 1
 proved with rattle-kit-13f, logic dac8208d650f15bf";
 
-/// What help on the program ends with.
+/// The text behind the program's commands and options.
 pub const PROGRAM_MORE: &str = "\
-A network is a text file: its input's type, and how each sample of a timed stream leads to an
-output. `yampa types NET` tells what goes in and what comes out, `yampa run NET < STREAM` runs it.
-`yampa check SRC TGT CERT` checks that two networks output the same, by a certificate that says why;
-`yampa optimise NET` finds such a network, and the certificate that leads there, by itself, and
-`yampa improve NET` mostly a faster one. To write one by hand, `yampa outline NET` shows what stands
-where, `yampa laws NET` which steps may be taken, and `yampa apply SRC CERT` where steps lead;
-`yampa certify SRC TGT` looks for them itself.
-The pages stand in the folder `docs` of the repository that it was built in: LANGUAGE.md teaches the
-language, LAWS.md the laws, and TOOLS.md the tools that `./yampa` calls there beside these commands,
-each with a --help of its own: explain, expand, fmt, draw, plot, watch, csv, timed, tidy, falsify,
-differ, compare and report. A small file NET, which outputs 0, and then each number plus one, a
-sample late:
+A network is a text file: the type of its input, and a signal function, which maps each sample of a
+timed stream to an output. `yampa types NET` prints its types, `yampa run NET < STREAM` runs it.
+`yampa check SRC TGT CERT` checks a certificate, a list of rewrite steps from one network to another:
+if it is accepted, both output the same on every stream. `yampa optimise NET` rewrites a network by
+itself and can print the certificate too; `yampa improve NET` does the same by more laws, and makes
+more networks faster. `yampa certify SRC TGT` looks for the steps between two networks. To write
+steps by hand, `yampa outline NET` prints the position of each part, `yampa laws NET` the steps that
+are possible, and `yampa apply SRC CERT` the network that steps lead to.
+The pages are in the folder `docs` of the repository: LANGUAGE.md teaches the language, LAWS.md the
+laws, and TOOLS.md the tools that `./yampa` adds to these commands. A small file NET, which outputs
+0, and then each number plus one, one sample late:
 
   yampa 1
   input Int
   (>>> (arr (add x 1)) (iPre 0))
 
 Exit status:
-  0  all is done
-  1  a file, a step or the stream is refused, no certificate is found, there is no position P, or
-     the network has over 4,096 different expressions
-  2  the words of the command line are wrong
-  3  something can't be read or written, or memory is short
-Where it isn't 0, standard error says why.";
+  0  success, or help was asked for
+  1  a file, a step or the stream is rejected, no certificate is found, the network has no position
+     P, or the network to run has more than 4,096 different expressions
+  2  the command line is wrong; this includes a P that is no position and an N that is no number
+  3  something can't be read or written, or there is not enough memory
+If it isn't 0, standard error says why.";
 
-/// What the file of a network is.
+/// Help on NET.
 pub const NET: &str =
     "The network's file: `yampa 1` or `yampa 2`, `input` and a type, and the network";
 
-/// What help tells of `types`.
-pub const TYPES: Told<'static> = Told {
+/// Help on `types`.
+pub const TYPES: HelpText<'static> = HelpText {
     usage: "yampa types <NET>",
-    does: "Checks a network, and prints its types, its weight and its height",
+    does: "Checks a network, and prints its types, weight and height",
     more: "\
-It prints three lines: the types of the input and of the output, what the network weighs (the
-networks that it is made of, counted more often where they may run more than once), and how many
-stand in one another. It reads no stream.
+It prints three lines: the types of the input and the output; the weight, which counts the networks
+that it is made of, more than once where they may run more than once; and the height, the number of
+networks nested in one another. It reads no stream.
 
-Example: where the file `net` holds `yampa 1 input Int (>>> (arr (less 9 x)) (iPre false))`,
+Example: if the file `net` holds `yampa 1 input Int (>>> (arr (less 9 x)) (iPre false))`,
 
   $ yampa types net
   Int -> Bool
   weight 3
   height 2
 
-Exit status: 0 where the network has types, 1 where the file is refused, 2 where the words of the
-command line are wrong, 3 where the file can't be read, the lines can't be written, or memory is
-short. Where it isn't 0, standard error says why.",
+`yampa --help` lists the exit statuses.",
 };
 
-/// What help tells of `run`.
-pub const RUN: Told<'static> = Told {
+/// Help on `run`.
+pub const RUN: HelpText<'static> = HelpText {
     usage: "yampa run <NET> < STREAM",
-    does: "Runs a network on the stream on standard input, and prints an output a sample",
+    does: "Runs a network on the stream on standard input, and prints one output a sample",
     more: "\
-Standard input is lines. The first is a value of the network's input type; each later one is a step
-in time of at least 1 and a value, as `+1 6`, or `+1 =` for the value before. Standard output has a
-line for each, the network's output at it. A faulty line ends the run, behind the outputs before it.
+Standard input has one sample a line. The first line is a value of the network's input type; each
+later one is a step in time, at least 1, and a value: `+1 6`, or `+1 =` for the same value again.
+Standard output has one line for each: the network's output. A faulty line ends the run, after the
+outputs of the lines before it.
 
-Example: where the file `net` holds `yampa 1 input Int (>>> (arr (add x 1)) (iPre 0))`,
+Example: if the file `net` holds `yampa 1 input Int (>>> (arr (add x 1)) (iPre 0))`,
 
   $ printf '5\\n+1 6\\n+1 7\\n' | yampa run net
   0
   6
   7
 
-Exit status: 0 where the whole stream is run, 1 where the file or the stream is refused or the
-network has over 4,096 different expressions, 2 where the words of the command line are wrong, 3
-where something can't be read or written, or memory is short. Where it isn't 0, standard error
-says why.",
+`yampa --help` lists the exit statuses.",
 };
 
-/// What help tells of `optimise`.
-pub const OPTIMISE: Told<'static> = Told {
+/// Help on `optimise`.
+pub const OPTIMISE: HelpText<'static> = HelpText {
     usage: "yampa optimise [OPTIONS] <NET>",
-    does: "Rewrites a network by laws, and prints the one that they lead to",
+    does: "Rewrites a network by laws, and prints the result",
     more: "\
-It takes the first step that may be taken by a law, forward, and then the next one, until there is
-none or 1,000 are taken. Within the limits of files, `yampa check` accepts the certificate from NET
-to the network that is printed, so both output the same on every stream. It is meant to be faster,
-but that isn't promised. No stream is read. docs/LAWS.md has the laws.
+It takes the first possible step forward by one of its laws, and then the next, until there is none
+or 1,000 are taken. `yampa check` accepts the certificate from NET to the network that is printed, if
+the files are within their limits: so both output the same on every stream. The result is meant to be
+faster, but that isn't promised. No stream is read. docs/LAWS.md has the laws.
 
-Example: where the file `net` holds `yampa 1 input Int (>>> (arr (add x 1)) (arr (mul x 2)))`,
+Example: if the file `net` holds `yampa 1 input Int (>>> (arr (add x 1)) (arr (mul x 2)))`,
 
   $ yampa optimise net
   yampa 1
@@ -114,23 +109,21 @@ Example: where the file `net` holds `yampa 1 input Int (>>> (arr (add x 1)) (arr
   laws 1
   (step L4 forward (at))
 
-Exit status: 0 where the network or the certificate is printed, 1 where the file is refused, 2 where
-the words of the command line are wrong, 3 where the file can't be read, nothing can be written, or
-memory is short. Where it isn't 0, standard error says why.",
+`yampa --help` lists the exit statuses.",
 };
 
-/// What help tells of `improve`.
-pub const IMPROVE: Told<'static> = Told {
+/// Help on `improve`.
+pub const IMPROVE: HelpText<'static> = HelpText {
     usage: "yampa improve [OPTIONS] <NET>",
-    does: "Rewrites a network by more laws than `optimise`, and prints the one that it ends with",
+    does: "Rewrites a network by more laws than `optimise`, and prints the result",
     more: "\
-It tries more laws than `optimise`, in both directions, at most 10,000 steps, and reckons what a
-sample costs: where nothing is cheaper, it prints the network as it is, and no step. Within the
-limits of files, `yampa check` accepts the certificate from NET to the network that is printed, so
-both output the same on every stream. It is meant to be faster, but that isn't promised. No stream
-is read. docs/LAWS.md has the laws.
+It tries more laws than `optimise`, in both directions, and estimates the cost of a sample. It takes
+at most 10,000 steps. If it finds nothing cheaper, it prints the network as it is, and no step.
+`yampa check` accepts the certificate from NET to the network that is printed, if the files are
+within their limits: so both output the same on every stream. The result is meant to be faster, but
+that isn't promised. No stream is read. docs/LAWS.md has the laws.
 
-Example: where the file `net` holds
+Example: if the file `net` holds
 `yampa 1 input (Pair Int Int) (>>> (first (arr (add x 1))) (arr (fst x)))`,
 
   $ yampa improve net
@@ -138,87 +131,79 @@ Example: where the file `net` holds
   input (Pair Int Int)
   (arr (add (fst x) 1))
 
-Exit status: 0 where the network or the certificate is printed, 1 where the file is refused, 2 where
-the words of the command line are wrong, 3 where the file can't be read, nothing can be written, or
-memory is short. Where it isn't 0, standard error says why.",
+`yampa --help` lists the exit statuses.",
 };
 
-/// What the flag for the certificate does.
-pub const CERTIFICATE: &str = "Prints the certificate that leads there, in the network's place";
+/// Help on `--certificate`.
+pub const CERTIFICATE: &str = "Prints the certificate instead of the network";
 
-/// What the option for a place does.
-pub const AT: &str = "The place at which it begins, as `'(at 1 0)'`, in place of the whole network";
+/// Help on `--at`.
+pub const AT: &str = "The position to begin at, such as `'(at 1 0)'`, instead of the whole network";
 
-/// What the option for the number of steps does.
-pub const FIRST: &str = "Takes the first N steps alone, or all where there are fewer";
+/// Help on `--first`.
+pub const FIRST: &str = "Takes only the first N steps, or all if there are fewer";
 
-/// What the flag for the steps does.
-pub const STEPS: &str = "Prints what each step does, in place of the network that they lead to";
+/// Help on `--steps`.
+pub const STEPS: &str = "Prints what each step does, instead of the network that they lead to";
 
-/// What the file of a certificate's source is.
+/// Help on SRC.
 pub const SRC: &str = "The file of the network that the certificate begins with";
 
-/// What the file of a certificate's target is.
+/// Help on TGT.
 pub const TGT: &str = "The file of the network that the certificate leads to";
 
-/// What the file of a certificate is.
+/// Help on CERT.
 pub const CERT: &str =
-    "The certificate's file: `laws 1` or `laws 2`, and its steps, as `(step L4 forward (at))`";
+    "The certificate's file: `laws 1` or `laws 2`, and steps, such as `(step L4 forward (at))`";
 
-/// What help tells of `check`.
-pub const CHECK: Told<'static> = Told {
+/// Help on `check`.
+pub const CHECK: HelpText<'static> = HelpText {
     usage: "yampa check <SRC> <TGT> <CERT>",
     does: "Checks that a certificate leads from one network to another",
     more: "\
-A certificate is a text file of steps. A step names a law, its direction and a place in the network,
-and, where the direction is `backward`, the tree that then stands there. Where the steps lead from
-the network of SRC to that of TGT, both output the same on every stream, and one line is printed,
-with the number of steps. No stream is read. docs/LAWS.md has the laws.
+A certificate is a text file of steps. A step names a law, its direction and a position in the
+network; a `backward` step also gives the tree that then stands there. If the steps lead from SRC to
+TGT, both networks output the same on every stream, and one line with the number of steps is printed.
+No stream is read. docs/LAWS.md has the laws.
 
-Example: where the file `source` holds `yampa 1 input Int (>>> (arr (add x 1)) (arr (mul x 2)))`,
+Example: if the file `source` holds `yampa 1 input Int (>>> (arr (add x 1)) (arr (mul x 2)))`,
 the file `target` holds `yampa 1 input Int (arr (then (add x 1) (mul x 2)))`, and the file `steps`
 holds `laws 1 (step L4 forward (at))`,
 
   $ yampa check source target steps
   accepted 1
 
-Exit status: 0 where the certificate is accepted, 1 where it or a file is refused, 2 where the words
-of the command line are wrong, 3 where a file can't be read, the line can't be written, or memory is
-short. Where it isn't 0, standard error says why.",
+`yampa --help` lists the exit statuses.",
 };
 
-/// What help tells of `run-checked`.
-pub const RUN_CHECKED: Told<'static> = Told {
+/// Help on `run-checked`.
+pub const RUN_CHECKED: HelpText<'static> = HelpText {
     usage: "yampa run-checked <SRC> <TGT> <CERT> < STREAM",
     does: "Checks a certificate, and runs the network that it leads to",
     more: "\
-It checks as `yampa check SRC TGT CERT` does, but prints nothing of that. Where the certificate is
-accepted, it runs the network of TGT on standard input, as `yampa run TGT` does.
+It checks the certificate as `yampa check SRC TGT CERT` does, but prints no line for it. If it is
+accepted, the network of TGT is run on standard input, as by `yampa run TGT`.
 
-Example: with the three files of the example that `yampa check --help` has,
+Example: with the three files of the example in `yampa check --help`,
 
   $ printf '5\\n+1 6\\n' | yampa run-checked source target steps
   12
   14
 
-Exit status: 0 where the whole stream is run, 1 where a file, the certificate or the stream is
-refused or the network has over 4,096 different expressions, 2 where the words of the command line
-are wrong, 3 where something can't be read or written, or memory is short. Where it isn't 0,
-standard error says why.",
+`yampa --help` lists the exit statuses.",
 };
 
-/// What help tells of `outline`.
-pub const OUTLINE: Told<'static> = Told {
+/// Help on `outline`.
+pub const OUTLINE: HelpText<'static> = HelpText {
     usage: "yampa outline <NET>",
-    does: "Prints what stands where in a network",
+    does: "Prints the parts of a network with their positions and types",
     more: "\
-It prints a line for each network and each expression that stands in the network, in the order in
-which they begin in its text, two blanks deeper for each that it stands in: its position, as steps
-of certificates have it, the word that it begins with, its type (the output's of a network, the
-value's of an expression), and of a network its own weight, in which an `(old k)` counts 1. Tabs
-part the four. No stream is read.
+It prints one line for each network and each expression in it, in the order of the text, indented by
+two blanks a level. Four columns, with tabs between them: its position, as steps of certificates have
+it; its first word; its type (of a network that of its output); and, of a network, its own weight, in
+which an `(old k)` counts 1. No stream is read.
 
-Example: where the file `net` holds `yampa 1 input Int (>>> (arr (add x 1)) (arr (mul x 2)))`,
+Example: if the file `net` holds `yampa 1 input Int (>>> (arr (add x 1)) (arr (mul x 2)))`,
 
   $ yampa outline net | head -5 | expand -t 22
   (at)                  >>>                   Int                   3
@@ -227,22 +212,20 @@ Example: where the file `net` holds `yampa 1 input Int (>>> (arr (add x 1)) (arr
         (at 0 0 0)      x                     Int
         (at 0 0 1)      1                     Int
 
-Exit status: 0 where the network is printed so, 1 where the file is refused, 2 where the words of
-the command line are wrong, 3 where the file can't be read, the lines can't be written, or memory is
-short. Where it isn't 0, standard error says why.",
+`yampa --help` lists the exit statuses.",
 };
 
-/// What help tells of `laws`.
-pub const LAWS: Told<'static> = Told {
+/// Help on `laws`.
+pub const LAWS: HelpText<'static> = HelpText {
     usage: "yampa laws [OPTIONS] <NET>",
-    does: "Prints the steps that may be taken in a network",
+    does: "Prints the steps that are possible in a network",
     more: "\
-It prints each step that may be taken forward, as a certificate has it, at P and at each place below
-it, and under each step `+ ` and what then stands at its place. A step may be taken where its law
-fits what stands there and the network that it leads to has types within the limits. No stream is
-read. docs/LAWS.md has the laws.
+It prints each possible forward step, as a certificate has it, at P and at each position below it,
+and under each step `+ ` and what then stands at its position. A step is possible if its law fits
+what stands there and the resulting network is typed within the limits. No stream is read.
+docs/LAWS.md has the laws.
 
-Example: where the file `net` holds `yampa 1 input Int (>>> (arr (add x 1)) (arr (mul x 2)))`,
+Example: if the file `net` holds `yampa 1 input Int (>>> (arr (add x 1)) (arr (mul x 2)))`,
 
   $ yampa laws net
   (step L4 forward (at))
@@ -250,25 +233,22 @@ Example: where the file `net` holds `yampa 1 input Int (>>> (arr (add x 1)) (arr
   (step E16 forward (at 0 0))
   + (add 1 x)
 
-Exit status: 0 where the steps are printed, also where there is none, 1 where the file is refused or
-the network has no position P, 2 where the words of the command line are wrong or P is no position,
-3 where the file can't be read, the steps can't be written, or memory is short. Where it isn't 0,
-standard error says why.",
+`yampa --help` lists the exit statuses.",
 };
 
-/// What help tells of `apply`.
-pub const APPLY: Told<'static> = Told {
+/// Help on `apply`.
+pub const APPLY: HelpText<'static> = HelpText {
     usage: "yampa apply [OPTIONS] <SRC> <CERT>",
     does: "Takes the steps of a certificate, and prints the network that they lead to",
     more: "\
-It takes the steps of CERT one after the other, from the network of SRC on. With `--steps` it prints
-for each step its line, `- ` and what stood at its place, and `+ ` and what stands there then. A step
-that can't be taken ends it, and standard error says which. With `--steps` the steps before it stand
-on standard output, and then its own line, `- ` and what stands at its place, where there is one,
-and, where it gives a tree that its law rewrites, `> ` and what that becomes: where both are the
-same, the step should be `backward`. No stream is read.
+It takes the steps of CERT one by one, beginning with the network of SRC. With `--steps` it prints
+each step, then `- ` and what stood at its position, then `+ ` and what stands there now. The first
+step that can't be taken ends it, and standard error names it. With `--steps` the steps before it are
+printed, then this step, then `- ` and what stands at its position, if there is such a position, and,
+if it gives a tree that its law rewrites, `> ` and what that becomes: if the two are the same, the
+step should be `backward`. No stream is read.
 
-Example: where the file `net` holds `yampa 1 input Int (>>> (arr (add x 1)) (arr (mul x 2)))`, and
+Example: if the file `net` holds `yampa 1 input Int (>>> (arr (add x 1)) (arr (mul x 2)))`, and
 the file `steps` holds `laws 1 (step L4 forward (at))`,
 
   $ yampa apply net steps
@@ -280,30 +260,27 @@ the file `steps` holds `laws 1 (step L4 forward (at))`,
   - (>>> (arr (add x 1)) (arr (mul x 2)))
   + (arr (then (add x 1) (mul x 2)))
 
-Exit status: 0 where the steps are taken, 1 where a file or a step is refused, 2 where the words of
-the command line are wrong or N is no number, 3 where a file can't be read, nothing can be written,
-or memory is short. Where it isn't 0, standard error says why.",
+`yampa --help` lists the exit statuses.",
 };
 
-/// What help tells of `certify`.
-pub const CERTIFY: Told<'static> = Told {
+/// Help on `certify`.
+pub const CERTIFY: HelpText<'static> = HelpText {
     usage: "yampa certify <SRC> <TGT>",
     does: "Looks for a certificate that leads from one network to another",
     more: "\
-It rewrites both networks to a normal form. Where that is one, it prints the steps of SRC, and then
-those of TGT undone, at most 10,000: within the limits of files, `yampa check` accepts them from SRC
-to TGT, so both output the same on every stream. Where the normal forms differ, it prints the first
-position at which they do, `- ` and what that of SRC has there, and `+ ` and what that of TGT has;
-both may output the same nevertheless. No stream is read. docs/LAWS.md has the laws.
+It rewrites both networks until they are the same, in the end to a normal form. Then it prints the
+steps of SRC, and after them those of TGT undone, at most 10,000: `yampa check` accepts them from SRC
+to TGT, if the files are within their limits, so both output the same on every stream. If the normal
+forms differ, it prints the first position at which they do, `- ` and what SRC's has there, and `+ `
+and what TGT's has; both networks may still output the same. No stream is read. docs/LAWS.md has the
+laws.
 
-Example: where the file `source` holds `yampa 1 input Int (>>> (arr (add x 1)) (arr (mul x 2)))`,
+Example: if the file `source` holds `yampa 1 input Int (>>> (arr (add x 1)) (arr (mul x 2)))`,
 and the file `target` holds `yampa 1 input Int (arr (then (add x 1) (mul x 2)))`,
 
   $ yampa certify source target > steps
   $ printf '5\\n' | yampa run-checked source target steps
   12
 
-Exit status: 0 where a certificate is printed, 1 where none is found or a file is refused, 2 where
-the words of the command line are wrong, 3 where a file can't be read, nothing can be written, or
-memory is short. Where it isn't 0, standard error says why.",
+`yampa --help` lists the exit statuses.",
 };
