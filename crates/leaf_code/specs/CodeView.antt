@@ -1,0 +1,55 @@
+-- What the code's steps are.
+use Rattle.std.specs.Prelude.{List, map}
+use Rattle.sample_core.specs.TypeView.{type_of}
+use Rattle.leaf_core.specs.declared.literal.Literal.{Literal}
+use Rattle.leaf_core.specs.declared.literal.Literal.TheVariants as C
+use Rattle.leaf_code.specs.Operation.{Operation}
+use Rattle.leaf_code.specs.Operation as O
+use Rattle.leaf_code.specs.Running as R
+use Rattle.leaf_code.specs.declared.operation.Operation as V
+use Rattle.leaf_code.specs.declared.operation.Operation.TheVariants as P
+use Rattle.leaf_code.specs.declared.operation.Step.{Step}
+use Rattle.leaf_code.specs.declared.operation.LeafCode.{LeafCode}
+
+-- the operation that a literal is
+abbrev pub literal_in : Literal → Operation
+literal_in C.Unit = O.unit
+literal_in (C.Bool b) = O.bool b
+literal_in (C.Int n) = O.int n
+
+-- the operation that an `Operation` is
+abbrev pub operation_of : V.Operation → Operation
+operation_of (P.Param k) = O.param k
+operation_of (P.Literal c) = literal_in c
+operation_of (P.Pair j k) = O.pair j k
+operation_of (P.Left j) = O.left j
+operation_of (P.Right j) = O.right j
+operation_of (P.Neg j) = O.neg j
+operation_of (P.Add j k) = O.add j k
+operation_of (P.Sub j k) = O.sub j k
+operation_of (P.Mul j k) = O.mul j k
+operation_of (P.Less j k) = O.less j k
+operation_of (P.Equal j k) = O.equal j k
+operation_of (P.Not j) = O.not j
+operation_of (P.And j k) = O.and j k
+operation_of (P.Or j k) = O.or j k
+operation_of (P.Choose c j k) = O.choose c j k
+operation_of P.NoEvent = O.no_event
+operation_of (P.Event j) = O.event j
+operation_of (P.IsEvent j) = O.is_event j
+operation_of (P.Carried j) = O.carried j
+operation_of (P.List js) = O.list js.items
+operation_of (P.Nth j k d) = O.nth j k d
+operation_of (P.Len j) = O.len j
+
+-- the step that a `Step` is
+abbrev pub step_of : Step → R.Step
+step_of s = R.step (type_of s.ty) (operation_of s.operation)
+
+-- steps as a list
+abbrev pub steps_in : List Step → List R.Step
+steps_in ss = map step_of ss
+
+-- the code that a `LeafCode` is
+abbrev pub leaf_of : LeafCode → R.LeafSteps
+leaf_of c = (steps_in c.steps.items, c.answer)

@@ -1,0 +1,5 @@
+-- The code of expressions, a file a line.
+pub mod Operation
+pub mod Running
+pub mod CodeOf
+pub mod CodeView
