@@ -236,20 +236,20 @@ def told_rows(rows: Iterable[Row], count: int) -> Counter:
 
 ABOUT = """Runs many recordings through one network, on all processors of this machine or on a Dask cluster.
 
-A row each, parted by tabs: the recording's name, how many samples were answered, the status, the seconds, and what there
-is to say: the fault, or with --expect whether the output is what was expected, else the first difference. The last line
-counts them. The status is 0 where all went well, 1 where a recording is refused or differs, 3 where something can't be
-read or written. Of a folder all files are recordings."""
+It prints one row for each, with tabs between: the recording's name, the number of samples answered, the status, the
+seconds, and a remark: the error, or with --expect whether the output is as expected, else the first difference. The last
+line counts them. The status is 0 if all went well, 1 if a recording is rejected or differs, 3 if something can't be read
+or written. All files of a folder are recordings."""
 
 
 def arguments():
     words = Words("batch", ABOUT)
     words.add_argument("net", metavar="NET")
     words.add_argument("recordings", metavar="FOLDER|FILE", nargs="+")
-    words.add_argument("--out", metavar="FOLDER", type=Path, help="puts each output there, under the recording's name")
+    words.add_argument("--out", metavar="FOLDER", type=Path, help="writes each output there, under the recording's name")
     words.add_argument("--expect", metavar="FOLDER", type=Path, help="compares each output with the file of that name there")
-    words.add_argument("--jobs", metavar="N", type=int, default=os.cpu_count(), help="how many run at once: a processor each")
-    words.add_argument("--cluster", metavar="ADDRESS", help="the Dask scheduler whose workers run them, as 127.0.0.1:8786")
+    words.add_argument("--jobs", metavar="N", type=int, default=os.cpu_count(), help="how many run at once, each on a processor")
+    words.add_argument("--cluster", metavar="ADDRESS", help="the Dask scheduler whose workers run them, such as 127.0.0.1:8786")
     given = words.parse_args()
     if given.jobs < 1:
         words.error("--jobs: at least 1 is wanted")

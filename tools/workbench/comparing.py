@@ -10,10 +10,10 @@ from workbench.ending import REFUSED, UNREADABLE, Refused, Words, ended, pieces
 from workbench.program import Run, Told, again
 from workbench.recording import lines_of, types_of
 
-COMPARE = """Tells the first sample of the stream on standard input at which two networks differ, with both
-outputs, and whether one of them stops there. The status is 1 where they differ, else 0. What hinders
-one of them to run, or both at a line of the stream, is told, with status 1 or 3: then they are not
-compared, or on the samples before it alone."""
+COMPARE = """Prints the first sample of the stream on standard input at which two networks differ, with both
+outputs, and whether one of them stops there. The status is 1 if they differ, else 0. If one of them
+can't run, or both stop at a line of the stream, that is printed, with status 1 or 3: then they are not
+compared, or only on the samples before it."""
 
 
 def first_difference(first: bytes, second: bytes) -> tuple[int, bytes | None, bytes | None] | None:

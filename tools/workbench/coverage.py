@@ -172,19 +172,19 @@ def listing(name: str, data: bytes, places: list[tuple[Place, int]], never: list
     return lines
 
 
-ABOUT = """Counts which parts of NET some recordings reach: its branches, what its switches start, its members.
+ABOUT = """Counts how often some recordings run each part of NET: its branches, what its switches start, its members.
 
-Each line of the network's file, or of the files with names that it is made of, stands behind how often the part that begins
-there was run. What was never run is underlined. The last line counts. With --all the status is 1 where a part was never run.
-The counts come of a run in Python, over as many samples as the program answers; nobody has proved them. Needs Debian's
-package python3-z3, whose place is taken by plain numbers here."""
+It prints the lines of the network's file, or of the files with names that it is made of, each after the number of runs of
+the part that begins there. What was never run is underlined. The last line has the totals. With --all the status is 1 if a
+part was never run. The counts come from a run in Python, over as many samples as the program answers; they are not proved.
+Needs Debian's package python3-z3, whose numbers are replaced by plain ones here."""
 
 
 def main() -> None:
     words = Words("coverage", ABOUT)
     words.add_argument("net", metavar="NET")
     words.add_argument("recordings", metavar="FILE", nargs="+", help="timed streams; - is standard input")
-    words.add_argument("--all", action="store_true", help="status 1 where a part was never run")
+    words.add_argument("--all", action="store_true", help="status 1 if a part was never run")
     given = words.parse_args()
     program = read_source(given.net)
     answered(["types", program.path()])

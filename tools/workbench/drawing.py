@@ -14,16 +14,16 @@ from workbench.placing import LETTER, Canvas, Line, Node, in_brief, placed
 from workbench.signals import Position
 from workbench.watching import add_position, position_in
 
-ABOUT = """Draws NET as boxes and arrows, from left to right; what has no room goes on in the next row.
+ABOUT = """Draws NET as boxes and arrows, from left to right; a chain that is too long continues in the next row.
 
   yampa draw NET -o FILE.svg        or FILE.png, FILE.pdf, FILE.dot
   yampa draw NET --types --positions > FILE.svg
 
-A dot forks: all branches get what comes. A hollow bar parts a pair, its first part above; a full one joins
-what comes to a pair or a list, from above. What is fed back goes back below, through its constant. A
-switch is a frame: what runs, what watches it, and dashed what takes over at the event. Each name of a file
-with names is a box with a double edge; --at draws what it stands for, --open all in one picture. Point at a
-box in a browser for its whole text.
+A dot forks: all branches get the same. A hollow bar splits a pair, its first part above; a full one joins
+a pair or a list, from above. Feedback runs back below, through its constant. A switch is a frame: what
+runs, what watches it, and dashed what takes over at the event. Each name of a file with names is a box
+with a double edge; --at draws its inside, --open all in one picture. A browser shows the whole text of the
+box under the pointer.
 
 Needs graphviz (Debian's package `graphviz`)."""
 
@@ -180,11 +180,11 @@ def main() -> None:
     words.add_argument("net", metavar="NET")
     words.add_argument("--types", action="store_true", help="types on the arrows")
     words.add_argument("--positions", action="store_true", help="positions in the boxes")
-    words.add_argument("--width", type=int, default=WIDTH, metavar="N", help=f"how wide it may be in points, where a box isn't wider: {WIDTH}")
-    words.add_argument("--depth", type=int, default=1_000_000, metavar="N", help="what stands deeper is a box")
-    words.add_argument("--open", action="store_true", dest="opened", help="what names stand for is drawn in their place")
+    words.add_argument("--width", type=int, default=WIDTH, metavar="N", help=f"the greatest width in points, unless a box is wider: {WIDTH}")
+    words.add_argument("--depth", type=int, default=1_000_000, metavar="N", help="what is deeper is a box")
+    words.add_argument("--open", action="store_true", dest="opened", help="draws the insides of all names")
     add_position(words, "draws what stands at this position", default=[])
-    words.add_argument("--coverage", metavar="FILE", action="append", default=[], help="tells how often this recording runs each part; may come again")
+    words.add_argument("--coverage", metavar="FILE", action="append", default=[], help="shows how often this recording runs each part; may be given again")
     words.add_argument("-o", metavar="FILE", dest="to", help="writes the drawing there: .svg, .png, .pdf or .dot")
     given = words.parse_args()
     if not 200 <= given.width <= 100_000:

@@ -21,13 +21,13 @@ Such a file begins `yampa source 1`. Definitions follow, and then `input TYPE NE
   (both (>>> (arr (speed x)) (scale step)) time)
 
 `def NAME TREE` names a network, an expression, a number or a type; `def (NAME A B ..) TREE` has
-parameters, in the place of which the parts of (NAME a b ..) are put as they are written. A
-parameter may stand for a name that takes parts itself, and `(let NAME TREE BODY)` gives a name
-inside of a tree. A definition may use those before it. `record` names the parts of nested pairs:
-Car is the type (Pair Int Bool), (Car a b) a value of it, (speed x) its part. `include` takes the
-definitions of another file, by its place from this one.
+parameters, which the parts of (NAME a b ..) replace as they are written. A parameter may stand for a
+name that itself takes parts, and `(let NAME TREE BODY)` defines a name inside a tree. A definition may
+use earlier ones. `record` names the parts of nested pairs: Car is the type (Pair Int Bool), (Car a b) a
+value of it, (speed x) its part. `include` takes the definitions of another file, by its path from this
+one.
 
-Every command and tool takes such a file where it takes a network's."""
+Every command and tool accepts such a file as a network."""
 
 
 def expanded(name: str, data: bytes, in_one_line: bool) -> bytes:

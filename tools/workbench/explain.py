@@ -10,16 +10,16 @@ from workbench.origin import InNames
 from workbench.program import again, call
 from workbench.telling import Told, told_of
 
-ABOUT = """Runs the program on the files and explains the fault that it tells, if it tells one.
+ABOUT = """Runs the program on the files, and explains the error that it prints, if any.
 
   yampa explain NET                 a network's file, or one with names
   yampa explain NET STREAM          a run of it on a recorded stream
   yampa explain SRC TGT CERT        a certificate
-  yampa explain --line LINE FILE .. a fault line that was told before, of these files
+  yampa explain --line LINE FILE .. an error line that was printed before, for these files
 
-The types that it shows are those that the program tells of the parts: it is called some four times, which
-takes minutes where it isn't built yet. Where nothing is refused the tool says so, and the status is 0;
-else 1, or 3 where a file can't be read."""
+The types that it shows are the program's: it is called some four times, which takes minutes if it isn't
+built yet. If nothing is rejected, the tool says so, and the status is 0; else it is 1, or 3 if a file
+can't be read."""
 
 
 def roles_of(names: list) -> tuple:
@@ -40,7 +40,7 @@ def fault_of(files: Files, stream) -> str:
 
 def main():
     words = Words("explain", ABOUT)
-    words.add_argument("--line", help="the fault line")
+    words.add_argument("--line", help="the error line")
     words.add_argument("files", nargs="+", metavar="FILE")
     given = words.parse_args()
     if len(given.files) > 3:

@@ -6,10 +6,9 @@ from workbench.layout import WIDTH, comments_within, flat, laid_out
 FMT = """Lays out a network's file, or one with names, in lines of at most 100 columns, and keeps its comments.
 
   yampa fmt FILE            prints it
-  yampa fmt --write FILE    puts it in the file's place
+  yampa fmt --write FILE    replaces the file
 
-Between definitions a blank line stays where there is one: a table of one-line definitions stays
-together."""
+A blank line between definitions is kept: a table of one-line definitions stays together."""
 
 
 def formatted(name: str, data: bytes) -> bytes:
@@ -106,7 +105,7 @@ def network_lines(source: Source) -> list:
 def main() -> None:
     words = Words("fmt", FMT)
     words.add_argument("file", metavar="FILE")
-    words.add_argument("--write", action="store_true", help="puts it in the file's place")
+    words.add_argument("--write", action="store_true", help="replaces the file")
     given = words.parse_args()
 
     def work():

@@ -332,15 +332,15 @@ def type_tree(text):
 
 ABOUT = """Prints a network as a module of typed Haskell over the package in haskell/ (docs/HASKELL.md).
 
-What its `writeNet` prints is the network again; `embed` runs it inside Haskell. The module, and what
-it defines, are called as the file, or as its folder where the file's name is net, fast or source."""
+Its `writeNet` prints the network again; `embed` runs it inside Haskell. The module and its definition are named after
+the file, or after its folder if the file's name is net, fast or source."""
 
 
 def main():
     words = Words("haskell", ABOUT)
     words.add_argument("net", metavar="NET", help="the network's file, or a file with names; - is standard input")
-    words.add_argument("--name", metavar="NAME", help="what the network is called")
-    words.add_argument("-o", dest="to", metavar="FILE", help="writes into this file")
+    words.add_argument("--name", metavar="NAME", help="the network's name")
+    words.add_argument("-o", dest="to", metavar="FILE", help="writes the module there")
     given = words.parse_args()
 
     def work():

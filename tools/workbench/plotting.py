@@ -8,15 +8,15 @@ from workbench.parts import Look, looked_at, tell_rest
 from workbench.watching import add_position, position_in, seen
 
 ABOUT = """Plots a run of NET on the stream on standard input: its inputs and its outputs over time, each part of
-a pair in a panel of its own. Numbers are steps, truth is a band, events are marks with their values as far
-as these have room, lists are a line for each of their first 16 places, lists of pairs a panel for each part.
+a pair in its own panel. Numbers are steps, truth values a band, events marks with their values as far as
+these have room, lists a line for each of their first 16 elements, lists of pairs a panel for each part.
 
   yampa plot NET < STREAM -o FILE.svg             or FILE.png, FILE.pdf
-  yampa plot NET --at 0 1 < STREAM                the output of the part at that position too, or --at NAME
-  yampa plot NET --from 1000 --to 2000 < STREAM   that time alone
+  yampa plot NET --at 0 1 < STREAM                also the output of the part at that position, or --at NAME
+  yampa plot NET --from 1000 --to 2000 < STREAM   only that time
 
-A part is drawn where it runs. What has more samples than a panel has dots is thinned out to the least and
-the greatest value in each column. Needs matplotlib (Debian's package `python3-matplotlib`)."""
+A part is drawn while it runs. If there are more samples than a panel has dots, each column shows the least
+and the greatest value. Needs matplotlib (Debian's package `python3-matplotlib`)."""
 
 ENDINGS = ("svg", "png", "pdf")
 

@@ -25,23 +25,23 @@ from workbench.streams import stream_text
 
 PROVE = """Says whether OBSERVER, a network that outputs Bool, outputs true at every sample of every recording.
 
-  holds on every recording ..   status 0; z3 and an encoding of the network say so, no proof of this project
+  holds on every recording ..   status 0; by z3 and an encoding of the network, which is no proof of this project
   false at sample 8: FILE       status 1; FILE has a recording on which the program outputs false there
-  not known: ..                 status 4; what was searched
+  not known: ..                 status 4; what was tried
 
-A file with names may say behind its network what it assumes of its input, what it guarantees of the pair
-of its input and its output, and what helps to prove that; then each of these has a row.
+A file with names may state after its network what it assumes of its input, what it guarantees of the pair
+of its input and its output, and what helps to prove that; then each guarantee has a row.
 
   assume sane (arr (less (speed x) 4000))
   invariant rising (arr ..)
   guarantee safe (arr (not (and (green (snd x)) (walk (snd x)))))
 
-Recordings are searched from the first sample on, with small numbers and with all; a proof is looked for
-by induction, with invariants that are guessed, and over integers of which none leaves 64 bits. A
-recording that is found is run by the program, and made as short and simple as can be.
+Recordings are searched from the first sample on, with small numbers and with all; a proof is sought by
+induction, with guessed invariants, and over integers of which none leaves 64 bits. A recording that is
+found is run by the program, and made as short and simple as possible.
 
-Assume what the world keeps to, as a speed from 0 to 300: else the recording that is found has a speed of
-2^63 - 1. What is assumed is an observer of the input."""
+Assume what is true of the world, such as a speed from 0 to 300: else the recording that is found has a
+speed of 2^63 - 1. An assumption is an observer of the input."""
 
 
 def prove_main() -> None:
@@ -51,7 +51,7 @@ def prove_main() -> None:
     words.add_argument("--invariant", metavar="NET", action="append", default=[], help="an observer of the input that is proved first, and then used")
     with_paces(words)
     with_limits(words, 60)
-    words.add_argument("--goal", metavar="NAME", action="append", default=[], help="tries what the file guarantees by this name alone")
+    words.add_argument("--goal", metavar="NAME", action="append", default=[], help="tries only the guarantee of this name")
     words.add_argument("--show", action="store_true", help="prints the invariants")
     given = words.parse_args()
     sys.exit(Proof(given).status())

@@ -16,19 +16,19 @@ from workbench.times import Times, number_in
 
 CSV = """Makes a stream of NET's input from a table, or a table from a stream, row by row as they come.
 
-  yampa csv NET < TABLE > STREAM          each row a sample
+  yampa csv NET < TABLE > STREAM          each row is a sample
   yampa csv --back NET < OUTPUT > TABLE   of NET's output with its steps, as `yampa timed NET` prints it
   yampa csv --back --input NET < STREAM > TABLE
 
-The table's first row names its columns: `time`, and one for each part of the type. Of an Int that is
-`x`; of (Pair Int Bool) they are `x.fst` and `x.snd`, and so on inside; of a record the names of its
-fields, and of a record in it as `place.along`. Other columns are left out. With --columns a column
+The table's first row names its columns: `time`, and one for each part of the type. For an Int that is
+`x`; for (Pair Int Bool) `x.fst` and `x.snd`, and so on inside; for a record the names of its fields,
+and for a record in it names such as `place.along`. Other columns are ignored. With --columns a column
 has another name in the table: `--columns time=seconds,x.fst=speed`.
-A cell holds the value as a stream has it: 5, true, unit, (list 1 2); of an event nothing where there
-is none, else its value. A list may have a column for each element instead, `x.0`, `x.1` and so on,
-empty behind its end: a table's first row tells, and going back --lists says how many.
-Times are decimal and rise; a step is the time since the row before in ticks, which are 1 of the
-time's unit, or as many as --ticks says: `--ticks 1000` for times in seconds and steps in
+A cell holds the value as a stream has it: 5, true, unit, (list 1 2); for an event nothing if there is
+none, else its value. A list may have a column for each element instead, `x.0`, `x.1` and so on,
+empty after its end: a table's first row shows that, and going back --lists says how many.
+Times are decimal and rise; a step is the time since the row before in ticks. A tick is one unit of
+time, or --ticks says how many are in one: `--ticks 1000` for times in seconds and steps in
 milliseconds. Going back, the first time is 0, or the one that --start gives."""
 
 
@@ -275,7 +275,7 @@ def csv_main() -> None:
     words.add_argument("net", metavar="NET")
     words.add_argument("--back", action="store_true", help="from a stream to a table")
     words.add_argument("--input", action="store_true", help="with --back: the stream is of the input's type")
-    words.add_argument("--columns", metavar="NAME=COLUMN,..", action="append", default=[], help="columns with other names in the table")
+    words.add_argument("--columns", metavar="NAME=COLUMN,..", action="append", default=[], help="other names of columns in the table")
     words.add_argument("--lists", metavar="N", type=number_in(1, 4096), help="with --back: each list has a column for each of N elements")
     words.add_argument("--ticks", metavar="N", type=number_in(1, 10**18), default=1, help="ticks in a unit of the table's times")
     words.add_argument("--start", metavar="TIME", default="0", help="with --back: the first time")

@@ -21,14 +21,14 @@ from workbench.shorter import shortened
 from workbench.tracing import steps_shown
 from workbench.watching import node_of
 
-ABOUT = """Writes one self-contained page on NET and its run on STREAM: the drawing, one of each name's network, the
-outline with types, the plots; with TGT and CERT also each step of the certificate, with what stood there
-before and what stands there then. What is too large for the page is said there in a line.
+ABOUT = """Writes one self-contained page on NET and its run on STREAM: the drawing, a drawing of each name's network, the
+outline with types, the plots; with TGT and CERT also each step of the certificate, with what was at its position
+before and what is there then. A line says what is too large for the page.
 
   yampa report NET STREAM -o FILE.html
   yampa report NET STREAM TGT CERT -o FILE.html
 
-What the page shows is told by tools that nobody has proved; what the program says is said to be its. Needs
+The page is made by tools that are not proved; it marks what the program printed. Needs
 graphviz, python3-matplotlib and python3-jinja2 (Debian's packages)."""
 
 ROWS, TEXT_BYTES, DEFINITIONS, SAMPLES = 2_000, 200_000, 60, 100_000

@@ -29,20 +29,20 @@ from workbench.proving.words import (
 from workbench.streams import Recording, Wishes, stream_text
 
 FALSIFY = """Looks for a stream on which NET outputs `false`. NET outputs a Bool: it is an observer of a property,
-as whether a controller's output stays within its bounds.
+such as whether a controller's output stays within its bounds.
 
-z3 searches the first samples, where it is there (Debian: python3-z3); beside it random streams are run, on
-all processors: numbers that stand in the file and their neighbours, stretches of one value, steps that
-its timers look at, and with --from recordings that are changed a little. Where one makes it output
-`false`, that stream is made as short and simple as can be, and printed, and on standard error the line
-at which it happens; the status is 1. Where none is found in the time, the status is 0: that is no
-proof, and `yampa prove` looks for one. Ctrl-C ends it, and prints the best that was found so far."""
+z3 searches the first samples, if it is installed (Debian: python3-z3). Random streams are run on all
+processors: numbers of the file and their neighbours, runs of one value, steps of its timers, and with
+--from slightly changed recordings. A stream on which it outputs `false` is made as short and simple as
+possible and printed, with its line on standard error; the status is 1. If none is found in the time, the
+status is 0: that is no proof, and `yampa prove` looks for one. Ctrl-C ends it, and prints the best
+stream so far."""
 
 DIFFER = """Says whether two networks of the same types write the same bytes on every stream.
 
-  equal on every recording      status 0; by a certificate, which is a proof, or by z3, which is none of ours
-  line 3: 2 and 1               status 1; a stream that tells them apart is printed, and this on standard error
-  not known: ..                 status 4; what was searched
+  equal on every recording      status 0; by a certificate, which is a proof, or by z3, which isn't one of this project
+  line 3: 2 and 1               status 1; a stream on which they differ is printed, and this line on standard error
+  not known: ..                 status 4; what was tried
 
 `yampa certify` looks for a certificate, z3 for a recording and for a proof, and random streams are run."""
 
@@ -52,8 +52,8 @@ def falsify_main() -> None:
     words.add_argument("net", metavar="NET")
     with_assumptions(words)
     words.add_argument("--from", metavar="STREAM", action="append", default=[], dest="recordings", help="tries recordings like this one")
-    words.add_argument("--length", type=whole(1, 100_000), default=60, metavar="N", help="random streams have at most N samples; 60 where it isn't given")
-    words.add_argument("--steps", type=numbers, metavar="N,N", help="steps are of these alone")
+    words.add_argument("--length", type=whole(1, 100_000), default=60, metavar="N", help="random streams have at most N samples; 60 by default")
+    words.add_argument("--steps", type=numbers, metavar="N,N", help="only these steps")
     words.add_argument("--seed", type=int, default=1, metavar="N", help="another number tries other streams")
     with_limits(words, 30)
     given = words.parse_args()

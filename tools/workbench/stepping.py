@@ -10,17 +10,17 @@ from workbench.parts import Look, Track, add_choice, stepped, tell_rest
 from workbench.signals import ABSENT, Several, spelt
 from workbench.watching import add_position
 
-ABOUT = """Shows a run of NET on STREAM sample by sample: input, output, and what each part outputs, by its name in a
+ABOUT = """Shows a run of NET on STREAM sample by sample: input, output, and the output of each part, by its name in a
 file with names, else by its form and position. In a terminal:
 
   Enter or n   the next sample        p        the one before
   12           sample 12              /name    the next signal with that in its name
   + and -      further signals        q        ends
 
-A part that runs is bold, and * stands before a value that is another one than at the sample before; a
-part that doesn't run has -. Where standard output is no terminal, or with --lines, each value is a line:
-sample, time, name and value, with tabs between. One run of the program gives all signals, or as few as
-the limits of types let be. Of a part of an rpSwitchB the value has an element for each member that runs."""
+A part that runs is bold, and * marks a value that has changed; a part that doesn't run has -. If standard
+output is no terminal, or with --lines, each value is a line: sample, time, name and value, with tabs
+between. One run of the program gives all signals, or as few runs as the limits of types allow. For a part of
+an rpSwitchB the value has an element for each member that runs."""
 
 BOLD, DIM, PLAIN, CLEAR = "\033[1m", "\033[2m", "\033[0m", "\033[2J\033[H"
 HELP = "Enter next, p back, a number, /name, + -, q: "

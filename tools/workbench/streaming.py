@@ -17,8 +17,8 @@ output of one network is a stream for the next one. It prints outputs as they co
 
   yampa timed NET < STREAM | yampa run NEXT"""
 
-TIDY = """Makes a stream of lines that are nearly one: takes off a byte order mark, carriage returns, blank lines,
-blanks at the ends and comments (from ; or # on), and tells on standard error what it mended.
+TIDY = """Makes a stream from lines that are nearly one: it removes a byte order mark, carriage returns, blank lines,
+blanks at the ends and comments (from ; or # on), and says on standard error what it mended.
 
   yampa tidy < LINES > STREAM"""
 

@@ -10,9 +10,9 @@ from pathlib import Path
 from workbench.ending import Refused, Words, text_of
 from workbench.trying import TOP, NoAnswer, answer_all, noted_in, sum_of_sources
 
-TOUR = """Runs the commands of the README in its order, and prints each with what it answers. Where the program
-isn't proved yet, a trial build answers all of them at once, and those that need an answer of another
-by a second one: each takes a minute or two."""
+TOUR = """Runs the commands of the README in order, and prints each with its answer. If the program isn't proved
+yet, a trial build answers all of them at once, and those that need another's answer by a second one:
+each takes a minute or two."""
 
 # How many trials there are, at most.
 MOST_TRIALS = 4

@@ -15,17 +15,17 @@ from workbench.signals import Both, Collection, Leaf, Members, Pack, Position, S
 from workbench.written import Node
 from workbench.wiring import absent, arr, default, fst, seq, snd
 
-ABOUT = """Prints the network whose output is what a part of NET outputs, so that `yampa run` and `yampa plot` show
-signals inside. The part is named by its position, as certificates do: `--at 0 1` is the second child of
+ABOUT = """Prints the network whose output is the output of a part of NET, so that `yampa run` and `yampa plot` show
+signals inside. The part is named by its position, as in certificates: `--at 0 1` is the second child of
 the first child.
 
   yampa watch NET --at 0 1 > PART
   yampa run PART < STREAM
 
-Where the part doesn't run at each sample (it stands in a switch), the output is an event of what it
-outputs while it runs, also where it is resumed; where it was started several times, of what was started
-last. Of a part of an rpSwitchB it is a list, with an element for each member that runs. What watches a
-kSwitch or a pSwitch and expressions can't be watched. All signals at once: `yampa step`, `yampa waves`."""
+If the part doesn't run at each sample (it is in a switch), the output is an event of the part's output
+while it runs, also when it is resumed; if it was started several times, of the last one started. For a
+part of an rpSwitchB it is a list, with an element for each member that runs. The e of a kSwitch or a
+pSwitch can't be watched, nor can expressions. All signals at once: `yampa step`, `yampa waves`."""
 
 Tree = Any
 

@@ -10,15 +10,15 @@ from workbench.parts import Look, Track, add_choice, stepped, tell_rest, tracks
 from workbench.signals import ABSENT, Several
 from workbench.watching import add_position
 
-ABOUT = """Writes a run of NET on STREAM as a value change dump (VCD), which GTKWave shows: input, output, and what each
-part outputs, by its name in a file with names, else by its form and position.
+ABOUT = """Writes a run of NET on STREAM as a value change dump (VCD), which GTKWave shows: input, output, and the output of
+each part, by its name in a file with names, else by its form and position.
 
   yampa waves NET STREAM -o FILE.vcd
 
-An Int is a vector of 64 bits (its decimal form is what GTKWave calls signed), a Bool a wire, a pair or a
-record a scope, an event a scope with a wire `valid` and its value, a list one with its length and its
-first 64 elements; of a part of an rpSwitchB there is an element for each member. Where a part doesn't run its value is
-x. One run of the program gives all signals, or as few as the limits of types let be."""
+An Int is a vector of 64 bits (GTKWave calls its decimal form signed), a Bool a wire, a pair or a record a
+scope, an event a scope with a wire `valid` and its value, a list one with its length and its first 64
+elements; for a part of an rpSwitchB there is an element for each member. A part that doesn't run has the
+value x. One run of the program gives all signals, or as few runs as the limits of types allow."""
 
 LETTERS = [chr(code) for code in range(33, 127)]
 ELEMENTS = 64
@@ -120,7 +120,7 @@ def main() -> None:
     words = Words("waves", ABOUT)
     words.add_argument("net", metavar="NET")
     words.add_argument("stream", metavar="STREAM")
-    words.add_argument("--timescale", default="1 ms", metavar="TIME", help="what a step of 1 takes: 1, 10 or 100, and s, ms, us, ns, ps or fs")
+    words.add_argument("--timescale", default="1 ms", metavar="TIME", help="the length of a step of 1: 1, 10 or 100, and s, ms, us, ns, ps or fs")
     add_choice(words)
     add_position(words, "only what stands at this position and below", default=[])
     words.add_argument("-o", metavar="FILE", dest="to", help="writes the dump there")
