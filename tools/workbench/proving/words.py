@@ -51,20 +51,20 @@ def numbers(text: str) -> list[int]:
 
 
 def with_assumptions(words: ArgumentParser) -> None:
-    words.add_argument("--assume", metavar="NET", action="append", default=[], help="looks at recordings alone on which this observer holds so far")
+    words.add_argument("--assume", metavar="NET", action="append", default=[], help="looks only at recordings on which this observer holds so far")
 
 
 def with_paces(words: ArgumentParser, total: Optional[int] = TOTAL) -> None:
     words.add_argument("--step", type=whole(1), metavar="N", help="all steps are N")
     words.add_argument("--most-step", type=whole(1), metavar="N", help="steps are at most N")
-    told = "; 2^62 where it isn't given" if total else ""
+    told = "; 2^62 by default" if total else ""
     words.add_argument("--total", type=whole(1), default=total, metavar="N", help=f"all steps together are at most N{told}")
-    words.add_argument("--lists", type=whole(0, 64), default=4, metavar="N", help="lists have at most N elements; 4 where it isn't given")
+    words.add_argument("--lists", type=whole(0, 64), default=4, metavar="N", help="lists have at most N elements; 4 by default")
 
 
 def with_limits(words: ArgumentParser, wait: float) -> None:
-    words.add_argument("--depth", type=whole(1, 100_000), default=2048, metavar="N", help="z3 looks at the first N samples; 2048 where it isn't given")
-    words.add_argument("--seconds", type=seconds, default=wait, metavar="S", help=f"how long it looks, {wait:g} where it isn't given")
+    words.add_argument("--depth", type=whole(1, 100_000), default=2048, metavar="N", help="z3 looks at the first N samples; 2048 by default")
+    words.add_argument("--seconds", type=seconds, default=wait, metavar="S", help=f"how long it looks; {wait:g} by default")
     words.add_argument("-o", metavar="FILE", dest="to", help="writes the recording there")
 
 
