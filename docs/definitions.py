@@ -1,8 +1,8 @@
 #!/usr/bin/env python3
 """Prints definitions of specs/ by name: the comment above each, its file, its text, and the definitions that it cites.
 
-    docs/definitions.py NAME..      as `docs/definitions.py meaning`; a part of a name lists the names that have it
-    docs/definitions.py --check     tells of each name of docs/READING.md that no definition has
+    docs/definitions.py NAME..      such as `docs/definitions.py meaning`; a part of a name lists the names that have it
+    docs/definitions.py --check     lists names of docs/READING.md that no definition has
 """
 import re
 import sys

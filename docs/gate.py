@@ -2,8 +2,8 @@
 """Prints what docs/GATE.md has of tools/prove.times: what the gate spends on each crate, and its longest chain of crates.
 
     docs/gate.py            prints it
-    docs/gate.py --write    writes it into docs/GATE.md, in the place of what is there
-    docs/gate.py --check    tells where docs/GATE.md has something else
+    docs/gate.py --write    replaces it in docs/GATE.md
+    docs/gate.py --check    says whether docs/GATE.md has something else
 """
 from __future__ import annotations
 

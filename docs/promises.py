@@ -1,8 +1,8 @@
 #!/usr/bin/env python3
 """Prints what a public call promises: the comment above it, its signature and its contract, from the code.
 
-    docs/promises.py CRATE|NAME..   as `docs/promises.py cert_check` or `docs/promises.py check`
-    docs/promises.py --check        tells of each public call without a comment or a contract, but those of searches and of what tests share
+    docs/promises.py CRATE|NAME..   such as `docs/promises.py cert_check` or `docs/promises.py check`
+    docs/promises.py --check        lists public calls without a comment or a contract, except those of searches and of what tests share
 """
 import re
 import sys
