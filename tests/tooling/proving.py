@@ -3,6 +3,7 @@ import os
 import re
 import time
 
+from model.trees import GREATEST
 from workbench.program import call
 
 from tooling.common import NUMBERS, TOP, each, in_files, in_folder, own_folder, tool, want
@@ -60,6 +61,8 @@ HINTS = [
     ("(arr (equal x x))", "(>>> time (arr (less x 3)))", ["--assume", "hint"], 0, "no recording of more than 3 samples keeps to what is assumed"),
     (CYCLE, CYCLE.replace("9", "6"), ["--invariant", "hint"], 0, "holds on every recording"),
     (CYCLE, CYCLE.replace("9", "5"), ["--invariant", "hint"], 0, "invariant hint is left out: it is false at sample 5 of "),
+    ("(arr (less x 0))", f"(arr (less (add x {GREATEST}) 0))", ["--assume", "hint"], 1, "false at sample 1"),
+    ("(arr (less x 10))", f"(arr (equal (add x {GREATEST}) -5))", ["--assume", "hint"], 1, "false at sample 1"),
     ("(arr (less x 10))", "(arr x)", ["--assume", "hint"], 1, "hint: it outputs Int, and what is assumed outputs Bool"),
 ]
 

@@ -6,7 +6,7 @@ import z3
 
 from model.trees import shown
 from workbench.proving.system import System
-from workbench.proving.terms import Leaf, Terms, both, formula, is_known, is_truth, negation
+from workbench.proving.terms import Leaf, Terms, all_of, both, formula, is_known, is_truth, negation
 from workbench.proving.values import decoded, mapped
 
 DEPTHS = (1, 2, 4, 8, 12, 16, 24, 32, 48, 64, 96, 128, 192, 256, 384, 512, 768, 1024, 2048)
@@ -62,10 +62,9 @@ class Unrolling:
             frame = self.system.step(self.state, step, sample)
             self.state = frame.state
             self.bounds += bounds
-            self.fair = both(self.fair, frame.fair)
-            wrong = negation(both(frame.good, frame.inside)) if self.strict else both(frame.inside, negation(frame.good))
-            self.broken.append(both(self.fair, wrong))
-            self.fair = both(self.fair, frame.inside)
+            fair = all_of([self.fair, frame.fair, frame.inside, negation(frame.doubtful)])
+            self.broken.append(both(self.fair, frame.wrong) if self.strict else both(fair, negation(frame.good)))
+            self.fair = fair
             self.samples.append((step, sample))
 
     def search(self, first: int, count: int, until: float) -> Optional[bytes]:

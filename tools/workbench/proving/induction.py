@@ -6,7 +6,7 @@ import z3
 
 from workbench.proving.bounded import known, satisfied, solver_of
 from workbench.proving.system import System
-from workbench.proving.terms import Leaf, both, formula, negation
+from workbench.proving.terms import Leaf, formula, negation
 
 
 @dataclass(frozen=True)
@@ -32,23 +32,22 @@ def is_inductive(system: System, depth: int, invariants: list[Candidate], until:
         step, sample, more = system.sample(f"step{number}", False)
         held = [candidate.of(system.leaves(state)) for candidate in invariants]
         frame = system.step(state, step, sample)
-        good = both(frame.good, frame.inside)
-        wanted = good if number < depth else negation(good)
-        for leaf in [*bounds, *more, *held, frame.fair, frame.known, wanted]:
+        for leaf in [*bounds, *more, *held, frame.passed if number < depth else frame.wrong]:
             solver.add(formula(leaf))
         state, bounds = frame.state, []
     return not satisfied(solver)
 
 
 def kept(system: System, candidates: list[Candidate], until: float) -> list[Candidate]:
-    """Those of the candidates that hold behind the first sample, and behind each sample where all of them held before."""
+    """Those of the candidates that hold behind the first sample, and behind each sample where all of them held before, if all is well
+    at the sample."""
     step, sample, bounds = system.sample("first", True)
     frame = system.step(system.start, step, sample)
-    found = pruned(system, candidates, [*bounds, frame.fair, frame.known], None, system.leaves(frame.state), until)
+    found = pruned(system, candidates, [*bounds, frame.passed], None, system.leaves(frame.state), until)
     state, lengths = system.unknown("state")
     step, sample, bounds = system.sample("next", False)
     frame = system.step(state, step, sample)
-    return pruned(system, found, [*lengths, *bounds, frame.fair, frame.known], system.leaves(state), system.leaves(frame.state), until)
+    return pruned(system, found, [*lengths, *bounds, frame.passed], system.leaves(state), system.leaves(frame.state), until)
 
 
 def pruned(system: System, candidates: list, given: list, before: Optional[list], after: list, until: float) -> list:

@@ -1,11 +1,12 @@
-"""Proofs over unbounded integers by z3's Spacer, which finds invariants by itself, and that no number leaves 64 bits."""
+"""Invariants over unbounded integers, of which none leaves 64 bits, that z3's Spacer finds by itself."""
 import time
-from typing import Any
+from typing import Any, Optional
 
 import z3
 
+from workbench.proving.induction import Candidate
 from workbench.proving.system import System
-from workbench.proving.terms import Leaf, both, formula, is_truth, negation
+from workbench.proving.terms import Leaf, formula, is_truth
 
 
 def unknowns(found: list[z3.ExprRef]) -> list[z3.ExprRef]:
@@ -38,15 +39,17 @@ class Horn:
         self.add(state, False, [self.at(state), *lengths])
 
     def at(self, state: Any) -> z3.BoolRef:
-        return self.reached(*[formula(leaf) if is_truth(leaf) else self.system.terms.number(leaf) for leaf in self.system.leaves(state)])
+        return self.reached(*self.terms(self.system.leaves(state)))
+
+    def terms(self, leaves: list[Leaf]) -> list[z3.ExprRef]:
+        return [formula(leaf) if is_truth(leaf) else self.system.terms.number(leaf) for leaf in leaves]
 
     def add(self, state: Any, first: bool, before: list) -> None:
         """What a sample leads to from the state."""
         step, sample, bounds = self.system.sample("first" if first else "next", first)
         frame = self.system.step(state, step, sample)
-        given = [*before, *bounds, frame.fair, frame.known]
-        self.rule(self.at(frame.state), given)
-        self.rule(self.wrong(), [*given, negation(both(frame.good, frame.inside))])
+        self.rule(self.at(frame.state), [*before, *bounds, frame.passed])
+        self.rule(self.wrong(), [*before, *bounds, frame.wrong])
 
     def rule(self, head: z3.BoolRef, body: list[Leaf]) -> None:
         terms = [formula(leaf) for leaf in body]
@@ -57,12 +60,19 @@ class Horn:
     def holds(self) -> bool:
         return self.rules.query(self.wrong()) == z3.unsat
 
-    def invariant(self) -> str:
-        """What Spacer found to hold of each state, in the names of its leaves."""
+    def invariant(self) -> Optional[Candidate]:
+        """What Spacer found to hold of each state."""
         answer = self.rules.get_answer()
-        names = [z3.Bool(name) if truth else z3.Int(name) for name, truth in zip(self.system.names(), self.system.truths)]
         for part in [answer, *answer.children()]:
-            if z3.is_quantifier(part) and part.num_vars() == len(names):
-                body = z3.substitute_vars(part.body(), *reversed(names))
-                return " ".join(str(body.children()[-1]).split())
-        return " ".join(str(answer).split())
+            if z3.is_quantifier(part) and part.num_vars() == len(self.system.truths):
+                return Candidate(" ".join(str(said_of(part, self.named())).split()), lambda leaves, part=part: said_of(part, self.terms(leaves)))
+        return None
+
+    def named(self) -> list[z3.ExprRef]:
+        """A variable for each leaf of the state, by the leaf's name."""
+        return [z3.Bool(name) if truth else z3.Int(name) for name, truth in zip(self.system.names(), self.system.truths)]
+
+
+def said_of(part: z3.QuantifierRef, terms: list[z3.ExprRef]) -> z3.BoolRef:
+    """What a rule of Spacer's answer says of these terms, in the places of its variables."""
+    return z3.substitute_vars(part.body().children()[-1], *reversed(terms))

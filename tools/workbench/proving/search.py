@@ -75,7 +75,7 @@ def by_all_bits(search: Search) -> None:
 def by_induction(search: Search) -> None:
     """Over numbers that wrap, first with products of unknown numbers as a function of which nothing is known."""
     system = System(search.question, Terms())
-    if not keeps_to_it(search, system):
+    if not keeps_to_it(search):
         return
     rows = simulated(system)
     for named, share in ((True, 0.6), (False, 1.0)):
@@ -87,29 +87,29 @@ def by_induction(search: Search) -> None:
 def by_integers(search: Search) -> None:
     """Over integers, of which it is proved that none leaves 64 bits; recordings that are found so are plausible ones."""
     system = System(search.question, Terms(None))
-    if not keeps_to_it(search, system):
+    if not keeps_to_it(search):
         return
     if not proved(search, System(search.question, Terms(None)), simulated(system), search.by(0.6)):
         seen(search, looked_into(search, system, search.until, " where no number leaves 64 bits"))
 
 
 def by_spacer(search: Search) -> None:
-    """Over integers too; z3 finds the invariants."""
+    """Over integers too; z3 finds the invariants, which are then tried as any other."""
     system = System(search.question, Terms(None))
-    if keeps_to_it(search, system):
-        horn = Horn(system, search.until)
-        if horn.holds():
-            search.tell(Holds("Spacer" + WITHIN, [horn.invariant()]))
-        else:
-            search.tell(Searched("spacer", "Spacer finds none"))
+    if not keeps_to_it(search):
+        return
+    horn = Horn(system, search.until)
+    found = horn.invariant() if horn.holds() else None
+    if not found or not by_depths(search, system, (0,), kept(system, [found], search.until), search.until, "Spacer"):
+        search.tell(Searched("spacer", "Spacer finds none"))
 
 
-def keeps_to_it(search: Search, system: System) -> bool:
+def keeps_to_it(search: Search) -> bool:
     """Whether some recording keeps to what is assumed; how short all are is told."""
     if not search.question.assumed:
         return True
     try:
-        count = fair_samples(system, FIRST_SAMPLES, search.by(0.3))
+        count = fair_samples(System(search.question, Terms()), FIRST_SAMPLES, search.by(0.3))
     except Unknown:
         return True
     if count < FIRST_SAMPLES:
@@ -135,8 +135,8 @@ def proved(search: Search, system: System, rows: list, until: float) -> bool:
         return False
 
 
-def by_depths(search: Search, system: System, depths: tuple, invariants: list[Candidate], until: float) -> bool:
-    """Whether induction over one of these numbers of samples and one more decides it."""
+def by_depths(search: Search, system: System, depths: tuple, invariants: list[Candidate], until: float, way: str = "") -> bool:
+    """Whether induction over one of these numbers of samples and one more decides it; the way that it is told by."""
     for depth in depths:
         try:
             if not is_inductive(system, depth, invariants, until):
@@ -147,8 +147,8 @@ def by_depths(search: Search, system: System, depths: tuple, invariants: list[Ca
         found = Unrolling(System(search.question, terms), strict=True).search(0, depth + 1, search.until)
         if found:
             return seen(search, found)
-        within = "" if terms.width else WITHIN
-        search.tell(Holds(f"induction over {depth + 1} sample{'s' * (depth > 0)}{within}", [one.told for one in invariants]))
+        told = way or f"induction over {depth + 1} sample{'s' * (depth > 0)}"
+        search.tell(Holds(told + ("" if terms.width else WITHIN), [one.told for one in invariants]))
         return True
     return False
 

@@ -20,7 +20,9 @@ class Template(Machine):
     def start(self, env):
         param = default(self.carried())
         before = [part.start(env) for part in self.parts[:-1]]
-        return ("state", *self.first_cells(env), param, *before, self.first_template(env.with_param(param), before))
+        with env.terms.under(False):
+            template = self.first_template(env.with_param(param), before)
+        return ("state", *self.first_cells(env), param, *before, template)
 
     def first_cells(self, env):
         return (False,)
@@ -195,7 +197,9 @@ class Choosing(Machine):
     def member(self, number: int, param: Tree, env: Environment) -> Tree:
         *written, template = self.parts
         states = [part.start(env) for part in written]
-        return ("state", True, number, param, *states, template.start(env.with_param(param)))
+        with env.terms.under(number == len(written)):
+            states.append(template.start(env.with_param(param)))
+        return ("state", True, number, param, *states)
 
     def advance(self, state, d, a, env):
         terms, (_, sample, (_, fires, given)), members = env.terms, a, state[1]

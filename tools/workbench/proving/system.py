@@ -7,7 +7,7 @@ from workbench.ending import Refused
 from workbench.proving.machines import Environment, Machine
 from workbench.proving.question import SAMPLES, TOTAL, Pace, Question
 from workbench.proving.switching import machine_of
-from workbench.proving.terms import Leaf, Terms, TooLarge, both, is_truth, negation
+from workbench.proving.terms import Leaf, Terms, TooLarge, all_of, both, either, implied, is_truth, negation
 from workbench.proving.values import UNIT, Tree, is_leaf, leaves, lists_in, padded, rebuilt
 
 GROWTHS = 70
@@ -16,13 +16,26 @@ MOST_LEAVES = 20_000
 
 @dataclass
 class Frame:
-    """What a sample leads to: whether it is one that counts, whether the goal and each lemma hold, and the state behind it."""
+    """What a sample leads to: whether it is one that counts, since all that is assumed holds; whether each lemma does; whether the
+    goal does, and all numbers have their bits; whether one hasn't in what is assumed, so that `fair` tells nothing; and the state
+    behind it."""
 
     fair: Leaf
-    good: Leaf
     known: Leaf
+    good: Leaf
     inside: Leaf
+    doubtful: Leaf
     state: Tree
+
+    @property
+    def passed(self) -> Leaf:
+        """Whether the sample counts and all is well."""
+        return both(both(self.fair, self.known), both(both(self.good, self.inside), negation(self.doubtful)))
+
+    @property
+    def wrong(self) -> Leaf:
+        """Whether the goal is false at a sample that counts, or that isn't known."""
+        return either(self.doubtful, both(both(self.fair, self.known), negation(both(self.good, self.inside))))
 
 
 class System:
@@ -34,6 +47,7 @@ class System:
         terms.most_step = self.pace.step or self.pace.most
         self.env = Environment(terms)
         self.start = self.started(self.env)
+        self.begun = all_of(terms.ranges)
         self.learned: dict[int, tuple] = {}
 
     def started(self, env: Environment) -> Tree:
@@ -128,47 +142,47 @@ class System:
     # ---- the step
 
     def step(self, state: Tree, step: Leaf, sample: Tree) -> Frame:
-        terms, count = self.terms, len(self.question.nets)
-        terms.steps, terms.ranges = 0, []
-        states, total = list(state[1:-1]), state[-1]
+        self.terms.steps = 0
+        states, nets, lemmas = list(state[1:-1]), len(self.question.nets), len(self.question.lemmas)
         try:
-            outputs = self.outputs(states, step, sample, count)
+            fair, doubtful, total = self.counted(states, state[-1], step, sample)
+            outputs = [self.part(states, number, step, sample) for number in range(nets)]
+            seen = ("pair", sample, outputs[0][0] if nets == 1 else ("pair", *[output for output, _ in outputs]))
+            helping = [self.part(states, nets + 1 + number, step, seen) for number in range(lemmas)]
+            good, more = self.part(states, nets, step, seen)
         except TooLarge:
             raise Refused("a sample of it takes too many steps for z3") from None
-        good, *rest = outputs[count:]
-        lemmas = len(self.question.lemmas)
-        fair = self.in_time(total, step)
-        for truth in rest[lemmas:]:
+        inside = all_of([self.begun, *[inside for _, inside in outputs + helping]])
+        known = implied(inside, all_of([truth for truth, _ in helping]))
+        return Frame(fair, known, good, both(inside, more), doubtful, ("state", *states, total))
+
+    def part(self, states: list, number: int, step: Leaf, given: Tree) -> tuple:
+        """What a network outputs, and whether all its numbers have their bits; its state is put in the place of the one before."""
+        self.terms.ranges = []
+        output, states[number] = self.machines[number].step(states[number], step, given, self.env)
+        return output, all_of(self.terms.ranges)
+
+    def counted(self, states: list, total: Leaf, step: Leaf, sample: Tree) -> tuple:
+        """Whether a sample counts, whether that isn't known, since a number of what is assumed hasn't its bits where all that is
+        assumed before it holds; and the sum of the steps."""
+        fair, total = self.in_time(total, step)
+        doubtful: Leaf = False
+        for number in range(len(self.machines) - len(self.question.assumed), len(self.machines)):
+            truth, inside = self.part(states, number, step, sample)
+            doubtful = either(doubtful, both(fair, negation(inside)))
             fair = both(fair, truth)
-        known: Leaf = True
-        for truth in rest[:lemmas]:
-            known = both(known, truth)
-        inside: Leaf = True
-        for bound in terms.ranges:
-            inside = both(inside, bound)
-        total = terms.plus(total, step)
-        return Frame(fair, good, known, inside, ("state", *states, total))
+        return fair, doubtful, total
 
-    def outputs(self, states: list, step: Leaf, sample: Tree, count: int) -> list:
-        """What all networks output; their states are put in the places of those before."""
-        found: list = []
-        for number, machine in enumerate(self.machines):
-            given = sample
-            if count <= number <= count + len(self.question.lemmas):
-                given = ("pair", sample, found[0] if count == 1 else ("pair", *found[:2]))
-            output, states[number] = machine.step(states[number], step, given, self.env)
-            found.append(output)
-        return found
-
-    def in_time(self, total: Leaf, step: Leaf) -> Leaf:
-        """Whether the recording is short enough with this step; of one whose steps don't matter the samples are counted."""
+    def in_time(self, total: Leaf, step: Leaf) -> tuple:
+        """Whether the recording is short enough with this step, and the sum of the steps; of one whose steps don't matter the samples
+        are counted."""
         most = self.pace.total if self.timed else SAMPLES - 1
         if most is None:
-            return True
-        if self.terms.width:
+            return True, total
+        if self.terms.width not in (None, 64):
             most = min(most, 2 ** (self.terms.width - 2))
         now = self.terms.plus(total, step)
-        return both(negation(self.terms.less(most, now)), negation(self.terms.less(now, total)))
+        return both(negation(self.terms.less(most, now)), negation(self.terms.less(now, total))), now
 
 
 def leaf_names(machine: Machine, state: Tree) -> list[str]:

@@ -1,6 +1,6 @@
 """Truths and numbers of an encoding: Python's own where they are known, else z3's, folded as they are made."""
 from contextlib import contextmanager
-from typing import Iterator, Optional, Union
+from typing import Iterable, Iterator, Optional, Union
 
 import z3
 
@@ -55,6 +55,13 @@ def either(a: Leaf, b: Leaf) -> Leaf:
 
 def implied(a: Leaf, b: Leaf) -> Leaf:
     return either(negation(a), b)
+
+
+def all_of(truths: Iterable[Leaf]) -> Leaf:
+    found: Leaf = True
+    for truth in truths:
+        found = both(found, truth)
+    return found
 
 
 def formula(a: Leaf) -> z3.BoolRef:
