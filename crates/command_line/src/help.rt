@@ -29,7 +29,8 @@ if it is accepted, both output the same on every stream. `yampa optimise NET` re
 itself and can print the certificate too; `yampa improve NET` does the same by more laws, and makes
 more networks faster. `yampa certify SRC TGT` looks for the steps between two networks. To write
 steps by hand, `yampa outline NET` prints the position of each part, `yampa laws NET` the steps that
-are possible, and `yampa apply SRC CERT` the network that steps lead to.
+are possible, and `yampa apply SRC CERT` the network that steps lead to. Only `run` and `run-checked`
+read a stream.
 The pages are in the folder `docs` of the repository: LANGUAGE.md teaches the language, LAWS.md the
 laws, and TOOLS.md the tools that `./yampa` adds to these commands. A small file NET, which outputs
 0, and then each number plus one, one sample late:
@@ -57,7 +58,7 @@ pub const TYPES: HelpText<'static> = HelpText {
     more: "\
 It prints three lines: the types of the input and the output; the weight, which counts the networks
 that it is made of, more than once where they may run more than once; and the height, the number of
-networks nested in one another. It reads no stream.
+networks nested in one another.
 
 Example: if the file `net` holds `yampa 1 input Int (>>> (arr (less 9 x)) (iPre false))`,
 
@@ -97,7 +98,7 @@ pub const OPTIMISE: HelpText<'static> = HelpText {
 It takes the first possible step forward by one of its laws, and then the next, until there is none
 or 1,000 are taken. `yampa check` accepts the certificate from NET to the network that is printed, if
 the files are within their limits: so both output the same on every stream. The result is meant to be
-faster, but that isn't promised. No stream is read. docs/LAWS.md has the laws.
+faster, but that isn't promised.
 
 Example: if the file `net` holds `yampa 1 input Int (>>> (arr (add x 1)) (arr (mul x 2)))`,
 
@@ -121,7 +122,7 @@ It tries more laws than `optimise`, in both directions, and estimates the cost o
 at most 10,000 steps. If it finds nothing cheaper, it prints the network as it is, and no step.
 `yampa check` accepts the certificate from NET to the network that is printed, if the files are
 within their limits: so both output the same on every stream. The result is meant to be faster, but
-that isn't promised. No stream is read. docs/LAWS.md has the laws.
+that isn't promised.
 
 Example: if the file `net` holds
 `yampa 1 input (Pair Int Int) (>>> (first (arr (add x 1))) (arr (fst x)))`,
@@ -164,7 +165,6 @@ pub const CHECK: HelpText<'static> = HelpText {
 A certificate is a text file of steps. A step names a law, its direction and a position in the
 network; a `backward` step also gives the tree that then stands there. If the steps lead from SRC to
 TGT, both networks output the same on every stream, and one line with the number of steps is printed.
-No stream is read. docs/LAWS.md has the laws.
 
 Example: if the file `source` holds `yampa 1 input Int (>>> (arr (add x 1)) (arr (mul x 2)))`,
 the file `target` holds `yampa 1 input Int (arr (then (add x 1) (mul x 2)))`, and the file `steps`
@@ -201,7 +201,7 @@ pub const OUTLINE: HelpText<'static> = HelpText {
 It prints one line for each network and each expression in it, in the order of the text, indented by
 two blanks a level. Four columns, with tabs between them: its position, as steps of certificates have
 it; its first word; its type (of a network that of its output); and, of a network, its own weight, in
-which an `(old k)` counts 1. No stream is read.
+which an `(old k)` counts 1.
 
 Example: if the file `net` holds `yampa 1 input Int (>>> (arr (add x 1)) (arr (mul x 2)))`,
 
@@ -222,8 +222,7 @@ pub const LAWS: HelpText<'static> = HelpText {
     more: "\
 It prints each possible forward step, as a certificate has it, at P and at each position below it,
 and under each step `+ ` and what then stands at its position. A step is possible if its law fits
-what stands there and the resulting network is typed within the limits. No stream is read.
-docs/LAWS.md has the laws.
+what stands there and the resulting network is typed within the limits.
 
 Example: if the file `net` holds `yampa 1 input Int (>>> (arr (add x 1)) (arr (mul x 2)))`,
 
@@ -246,7 +245,7 @@ each step, then `- ` and what stood at its position, then `+ ` and what stands t
 step that can't be taken ends it, and standard error names it. With `--steps` the steps before it are
 printed, then this step, then `- ` and what stands at its position, if there is such a position, and,
 if it gives a tree that its law rewrites, `> ` and what that becomes: if the two are the same, the
-step should be `backward`. No stream is read.
+step should be `backward`.
 
 Example: if the file `net` holds `yampa 1 input Int (>>> (arr (add x 1)) (arr (mul x 2)))`, and
 the file `steps` holds `laws 1 (step L4 forward (at))`,
@@ -272,8 +271,7 @@ It rewrites both networks until they are the same, in the end to a normal form. 
 steps of SRC, and after them those of TGT undone, at most 10,000: `yampa check` accepts them from SRC
 to TGT, if the files are within their limits, so both output the same on every stream. If the normal
 forms differ, it prints the first position at which they do, `- ` and what SRC's has there, and `+ `
-and what TGT's has; both networks may still output the same. No stream is read. docs/LAWS.md has the
-laws.
+and what TGT's has; both networks may still output the same.
 
 Example: if the file `source` holds `yampa 1 input Int (>>> (arr (add x 1)) (arr (mul x 2)))`,
 and the file `target` holds `yampa 1 input Int (arr (then (add x 1) (mul x 2)))`,
