@@ -7,7 +7,6 @@ from model.laws import taken
 from generator.limits import Limits
 from generator.making import FORM_WEIGHTS, Maker
 from generator.steps import StepMaker, reversed_steps
-from generator.viewing import difference_text
 from model.texts import FILE_BYTES, LAWS, NEW_LAWS, Step, TextFault, certificate_text, network_text, read_network
 from model.trees import (
     NEW_FORMS,
@@ -23,6 +22,7 @@ from model.trees import (
     shown,
 )
 from model.typed import WEIGHT, Scope, check_types, weight
+from model.viewing import difference_text
 
 
 class Case:

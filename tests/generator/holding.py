@@ -10,12 +10,12 @@ from dataclasses import dataclass, field
 from functools import lru_cache
 from pathlib import Path
 
-from generator.viewing import outline_lines, possible_lines, possible_steps
 from model.laws import StepFault, applied, checked, optimised, traced
 from model.meaning import Environment, Model, TooSlow
 from model.texts import TextFault, certificate_text, network_text, read_certificate, read_network, read_stream, trace_text
 from model.trees import at_text, children, is_network, shown
 from model.typed import TypeFault, check_types
+from model.viewing import outline_lines, possible_lines, possible_steps
 
 ROLES = {
     "types": ["network"],

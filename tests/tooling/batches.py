@@ -8,6 +8,8 @@ import time
 from collections.abc import Iterator
 from pathlib import Path
 
+from workbench.program import again, call
+
 from tooling.common import NUMBERS, in_files, leave_out, own_folder, there, tool, want
 
 MANY = 1_000
@@ -102,6 +104,30 @@ def cluster_answers(folder: Path) -> None:
         want("batch --cluster", batch.returncode == 0 and lines[-1] == f"{MANY} recordings: {MANY} as expected\n", lines[-3:])
         names = [line.split("\t")[0] for line in lines[:-1]]
         want("batch --cluster, in order", names == sorted(names) and len(names) == MANY, names[:5])
+        networks_are_spread(folder, address)
+
+
+def networks_are_spread(folder: Path, address: str) -> None:
+    """`improve`, `falsify` and `prove` of several networks, one of them of two files, on the worker that is left."""
+    texts = {"sum": NUMBERS + "(>>> (arr (add x 1)) (arr (mul x 2)))", "small": "yampa source 1\ninclude defs/limit\ninput Int\n(arr (less x limit))"}
+    sums, small, holds = in_files(folder, **texts, holds=NUMBERS + "(arr (equal x x))")
+    (folder / "defs").mkdir()
+    (folder / "defs/limit").write_text("yampa source 1\ndef limit 7\n")
+    to = ["--cluster", address]
+    status, told, error = tool("improve", *to, "--out", folder / "made", sums, small)
+    rows = [line.split("\t") for line in told.splitlines()]
+    made = [tool("differ", net, folder / "made" / net.name, "--seconds", "20")[0] for net in (sums, small)]
+    want("improve --cluster", status == 0 and [row[0] for row in rows] == [str(sums), str(small)] and made == [0, 0], told + error)
+    status, told, error = tool("falsify", *to, "--seeds", 2, "--seconds", 5, small, holds)
+    wanted = [f"{small} seed 1", f"{small} seed 2", f"{holds} seed 1", f"{holds} seed 2"]
+    want("falsify --cluster", status == 1 and [line.split("\t")[0] for line in told.splitlines()] == wanted, told + error)
+    false = [call(["run", again(str(small))], (folder / f"small.false.{seed}").read_bytes()).output for seed in (1, 2)]
+    want("falsify --cluster, recordings", all(output.endswith(b"false\n") for output in false), false)
+    status, told, error = tool("prove", "--cluster", address, "--seconds", 20, "--assume", holds, holds, small)
+    want("prove --cluster", status == 1 and f"false at sample 1: {small}.false" in told and f"{holds}\t" in told and "holds on every" in told, told + error)
+    for words, wanted in [(["improve", *to, "--out", folder, sums, sums], 2), (["improve", *to, sums], 2), (["prove", *to, folder / "none"], 3)]:
+        status, told, error = tool(*words)
+        want(f"{words} refused", status == wanted and not told and "Traceback" not in error, error)
 
 
 def tool_path() -> str:

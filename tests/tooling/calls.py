@@ -3,6 +3,8 @@ import os
 import re
 import subprocess
 
+from workbench.helping import OPTION
+
 from tooling.common import NUMBERS, TOOLS, TOP, in_files, own_folder, tool, want
 
 NEEDS = ["dot", "matplotlib", "jinja2", "z3"]
@@ -48,6 +50,14 @@ CALLS = {
 }
 
 
+def spread_options_are_those_of_the_tools() -> None:
+    """With --cluster `falsify` and `prove` take what they take without it, but for where one recording goes, and for what is printed."""
+    for name in ("falsify", "prove"):
+        alone = {found[1] for found in OPTION.findall(tool(name, "--help")[1])} - {"--help", "--show"}
+        spread = {found[1] for found in OPTION.findall(tool(name, "--cluster", "-", "--help")[1])} - {"--help", "--cluster", "--out", "--seeds"}
+        want(f"options of {name} --cluster", spread == alone, spread ^ alone)
+
+
 def bad_words_and_files(folder):
     for name in TOOLS:
         want(f"{name} --help", tool(name, "--help")[0] == 0)
@@ -82,6 +92,7 @@ def missing_packages_are_told(folder):
 
 
 def try_all() -> None:
+    spread_options_are_those_of_the_tools()
     for check in (bad_words_and_files, missing_packages_are_told, page_is_right):
         with own_folder() as folder:
             check(folder)

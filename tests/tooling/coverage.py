@@ -32,6 +32,9 @@ def parts_are_counted(folder):
     status, _, told_of = tool("draw", "net", "--coverage", "few", "-o", "net.dot", folder=folder)
     dot = (folder / "net.dot").read_text() if status == 0 else told_of
     want("draw --coverage", "2 times" in dot and "time" in dot and "never" in dot and dot.count("#f6e0e0") == 2, dot)
+    in_files(folder, long=NUMBERS + "(>>> " * 60 + "(arr (if (less x 0) (neg x) x))" + " (arr (add x 1)))" * 60)
+    told = tool("coverage", "long", "few", folder=folder)
+    want("coverage of a long line", told[0] == 0 and "    never        column 321: (neg x)\n" in told[1], told)
     in_files(folder, bad="1\n+0 2\n")
     told = tool("coverage", "net", "bad", folder=folder)
     want("coverage of a faulty recording", told[0] == 1 and told[2] == "bad: stream: line 2: step\n" and told[1].endswith("net:5:9\n"), told)

@@ -1,8 +1,13 @@
 """Each fault is explained, at its place, and the tool's reader stops where the program's does."""
 import re
 
+from workbench import foreseeing, program, trying
+from workbench.definitions import Fault
+from workbench.ending import Refused
+from workbench.explain import fault_of, roles_of
+from workbench.faults import explained, files_of
 from workbench.laws import MEANINGS
-from workbench.program import call
+from workbench.program import Told, call
 from workbench.source import read_file
 from workbench.written import SyntaxFault
 
@@ -241,6 +246,44 @@ def places_agree():
             want(f"place of {data[-40:]}", mine == fault or not mine and "at (at" in fault, f"{mine} and {fault}")
 
 
+def questions_are_foreseen() -> None:
+    """The model foresees all that the program is asked of a fault, so one trial build answers it."""
+    cases = [([text], None) for text, wanted in NETWORK_MISTAKES if len(text) < 1000] + [([NUMBERS + "(arr (not x))"], b"5\n")]
+    cases += [(list(texts), None) for *texts, _ in CERTIFICATE_MISTAKES if len(texts[2]) < 1000]
+    for texts, stream in cases:
+        with own_folder() as folder:
+            names = [str(path) for path in in_files(folder, **dict(zip(("net", "target", "certificate"), texts)))]
+            foreseen, asked = calls_of(names, stream, True), calls_of(names, stream, False)
+            want(f"foreseen of {texts}", asked and not {*asked} - {*foreseen}, (asked, foreseen))
+
+
+def calls_of(names: list[str], stream: bytes | None, by_model: bool) -> list[str]:
+    """What is asked of the program of these files, by the keys of the calls: answered by the model, or by the program."""
+    keys: list[str] = []
+
+    def answer(words: list, stream: bytes) -> Told:
+        keys.append(trying.call_of(words, stream).key())
+        return foreseeing.told_by_model(words) if by_model else asking(words, stream)
+
+    def asking(words: list, stream: bytes) -> Told:
+        program.ANSWERING.pop()
+        told = program.call(words, stream)
+        program.ANSWERING.append(answer)
+        return told
+
+    program.ANSWERING.append(answer)
+    try:
+        files = files_of(roles_of(names)[0])
+        given = ("stream", stream) if stream is not None else None
+        explained(fault_of(files, given), files, given)
+    except (Fault, Refused):
+        keys.append("none")
+    finally:
+        program.ANSWERING.pop()
+    return keys
+
+
 def try_all() -> None:
     faults_are_explained()
     places_agree()
+    questions_are_foreseen()

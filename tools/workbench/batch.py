@@ -1,26 +1,23 @@
 """Many recordings through one network: each one's output, or whether it is what was expected."""
-import contextlib
 import itertools
-import logging
 import os
 import subprocess
 import sys
 import tempfile
 import time
-import warnings
 import zlib
-from collections import Counter, deque
+from collections import Counter
 from collections.abc import Iterable, Iterator
 from concurrent.futures import ThreadPoolExecutor
 from dataclasses import dataclass
 from pathlib import Path
 
 from workbench import remote
-from workbench.ending import REFUSED, UNREADABLE, WRONG_WORDS, Refused, Words, missing, read, unreadable
+from workbench.cluster import RETRIES, connected, in_order, last_line, program_bytes, result_of
+from workbench.ending import REFUSED, UNREADABLE, WRONG_WORDS, Refused, Words, read, unreadable
 from workbench.program import again, answered, path
 
 RIGHT, REFUSED_ROW, DIFFERENT, UNREAD = "as expected", "refused", "different", "unreadable"
-IN_FLIGHT = 4
 
 
 @dataclass(frozen=True)
@@ -94,10 +91,6 @@ def run_here(program: str, net: str, recording: Recording, folder: Path) -> Ran:
     return Ran(ran.returncode, output, last_line(ran.stderr.decode(errors="replace")), time.perf_counter() - began)
 
 
-def last_line(text: str) -> str:
-    return (text.strip().splitlines() or [""])[-1]
-
-
 def all_here(net: str, recordings: list[Recording], folder: Path, jobs: int) -> Iterator[Ran]:
     """The runs in their order, so many at once."""
     with ThreadPoolExecutor(jobs) as pool:
@@ -113,43 +106,10 @@ def all_here(net: str, recordings: list[Recording], folder: Path, jobs: int) -> 
 
 def all_there(address: str, net: str, recordings: list[Recording], folder: Path) -> Iterator[Ran]:
     """The runs in their order, on the workers of a Dask scheduler."""
-    try:
-        import cloudpickle
-        from distributed import Client
-    except ImportError as error:
-        raise missing("python3-distributed", error) from None
-    cloudpickle.register_pickle_by_value(remote)
-    # A worker that is gone, and a program of a megabyte, are nothing to tell of.
-    logging.disable(logging.WARNING)
-    warnings.simplefilter("ignore", UserWarning)
-    program = Path(path()).read_bytes()
-    if not program.startswith(b"\x7fELF"):
-        raise Refused("the program isn't built, so it can't be sent to a cluster: `./yampa --prove` builds it", UNREADABLE)
-    try:
-        client = Client(address, timeout=10, set_as_default=False)
-    except (OSError, ValueError) as error:
-        raise Refused(f"{address}: no scheduler answers: {last_line(str(error))}", UNREADABLE) from None
-    with contextlib.closing(client):
-        yield from sent(client, program, read(net), recordings, folder)
-
-
-def sent(client, program: bytes, net: bytes, recordings: list[Recording], folder: Path) -> Iterator[Ran]:
-    """The answers of the workers; some recordings more than there are workers are under way, and those that wait are taken back
-    where this is interrupted."""
-    held = [client.submit(remote.held, data) for data in (program, net)]
-    waiting: deque = deque()
-    most = IN_FLIGHT * max(1, sum(client.nthreads().values()))
-    left = iter(recordings)
-    try:
-        while True:
-            for one in itertools.islice(left, most - len(waiting)):
-                waiting.append((one, begun(client, held, one)))
-            if not waiting:
-                return
-            one, future = waiting.popleft()
-            yield come_back(one, future, folder)
-    finally:
-        client.cancel([future for _, future in waiting if not isinstance(future, Refused)])
+    program = program_bytes()
+    with connected(address) as client:
+        held = [client.submit(remote.held, data) for data in (program, read(net))]
+        yield from in_order(client, recordings, lambda one: begun(client, held, one), lambda one, future: come_back(one, future, folder))
 
 
 def begun(client, held, recording: Recording):
@@ -158,19 +118,16 @@ def begun(client, held, recording: Recording):
         stream = zlib.compress(recording.file.read_bytes(), 1)
     except OSError as error:
         return unreadable(str(recording.file), error)
-    return client.submit(remote.run_there, *held, stream, pure=False, retries=3)
+    return client.submit(remote.run_there, *held, stream, pure=False, retries=RETRIES)
 
 
 def come_back(recording: Recording, future, folder: Path) -> Ran:
     output = folder / recording.name.replace("/", "\x1f")
-    if isinstance(future, Refused):
-        output.touch()
-        return Ran(UNREADABLE, output, str(future), 0.0)
     try:
-        status, squeezed, told, seconds = future.result()
-    except Exception as error:  # pylint: disable=broad-exception-caught
+        status, squeezed, told, seconds = result_of(future)
+    except Refused as refused:
         output.touch()
-        return Ran(UNREADABLE, output, f"the cluster gave no answer: {last_line(str(error))}", 0.0)
+        return Ran(UNREADABLE, output, str(refused), 0.0)
     output.write_bytes(zlib.decompress(squeezed))
     return Ran(status, output, last_line(told), seconds)
 

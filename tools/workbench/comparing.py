@@ -6,7 +6,7 @@ from collections.abc import Iterator
 from itertools import zip_longest
 
 from model.trees import shown
-from workbench.ending import REFUSED, UNREADABLE, Refused, Words, ended, pieces
+from workbench.ending import REFUSED, UNREADABLE, Refused, Words, pieces
 from workbench.program import Run, Told, again
 from workbench.recording import lines_of, types_of
 
@@ -85,18 +85,14 @@ def compare_main() -> None:
     words.add_argument("source", metavar="SRC")
     words.add_argument("target", metavar="TGT")
     given = words.parse_args()
-
-    def work():
-        names = [given.source, given.target]
-        paths = [again(name) for name in names]
-        same_types(*paths)
-        same, found, fault = compared(names, paths)
-        if found:
-            number, mine, other = found
-            print(f"line {number}: {said(mine)} and {said(other)}")
-            sys.exit(REFUSED)
-        if fault:
-            raise Refused(f"the same on {same} samples, and then {fault}")
-        print(f"the same on {same} samples")
-
-    ended("compare", work)
+    names = [given.source, given.target]
+    paths = [again(name) for name in names]
+    same_types(*paths)
+    same, found, fault = compared(names, paths)
+    if found:
+        number, mine, other = found
+        print(f"line {number}: {said(mine)} and {said(other)}")
+        sys.exit(REFUSED)
+    if fault:
+        raise Refused(f"the same on {same} samples, and then {fault}")
+    print(f"the same on {same} samples")

@@ -7,7 +7,7 @@ from dataclasses import dataclass, replace
 from typing import Any
 
 from model.texts import read_stream
-from model.trees import at, children, head, is_network, preorder
+from model.trees import children, head, is_network, preorder
 from model.typed import check_types
 from workbench.ending import REFUSED, UNREADABLE, Refused, Words, missing, stream_bytes
 from workbench.origin import Place, Program, read_source
@@ -23,6 +23,8 @@ except ImportError as error:
     raise missing("python3-z3", error) from None
 
 Position = tuple
+# Of a longer line the columns are told, and nothing is underlined.
+WIDEST = 200
 
 
 # ---- counting
@@ -62,25 +64,30 @@ class Counting(Environment):
     """An environment in which what is computed for a network is counted at its position; for none, as its constants are, it isn't."""
 
     counts: Counts | None = None
-    machine: Machine | None = None
+    places: dict[int, Position] | None = None
 
     def value(self, tree: Any, x: Tree = UNIT) -> Tree:
-        if self.counts is None or self.machine is None:
+        if self.counts is None or self.places is None:
             return value(self.terms, tree, self.params, x)
-        number = next(number for number, child in enumerate(children(self.machine.tree)) if child is tree)
-        return self.counts.value(tree, self.params, x, (*self.machine.position, number))
+        return self.counts.value(tree, self.params, x, self.places[id(tree)])
 
 
 def count_in(machine: Machine, counts: Counts) -> None:
     """From now on each step of the network, and of those in it, is counted."""
-    advance, first_cells = machine.advance, machine.first_cells
+    advance, first_cells, position = machine.advance, machine.first_cells, machine.position
+    places = {id(child): (*position, number) for number, child in reversed([*enumerate(children(machine.tree))])}
+    # The environment that it got last, and the same with the places of its own expressions: mostly it is the same again.
+    got = own = None
 
     def counted(state: Tree, d: Any, a: Tree, env: Counting) -> tuple:
-        counts.of[machine.position] += 1
-        return advance(state, d, a, replace(env, machine=machine))
+        nonlocal got, own
+        counts.of[position] += 1
+        if env is not got:
+            got, own = env, replace(env, places=places)
+        return advance(state, d, a, own)
 
     machine.advance = counted  # type: ignore[method-assign]
-    machine.first_cells = lambda env: first_cells(replace(env, machine=None))  # type: ignore[method-assign]
+    machine.first_cells = lambda env: first_cells(replace(env, places=None))  # type: ignore[method-assign]
     for part in machine.parts:
         count_in(part, counts)
 
@@ -109,17 +116,18 @@ class Run:
             _, state = self.machine.step(state, step, encoded(sample, self.given), self.env)
         return f"{recording}: {told.fault()}" if told.status else ""
 
-    def total(self, position: Position) -> int:
-        """How often the part at a position was run; a constant as often as its network."""
-        if position and not is_network(at(self.tree, position)) and not self.is_computed(position):
-            return self.total(position[:-1])
-        return self.counts.of[position]
+    def totals(self) -> dict[Position, int]:
+        """How often each part was run; a constant as often as its network."""
+        found: dict[Position, int] = {}
+        self.add_totals(self.tree, (), 0, True, found)
+        return found
 
-    def is_computed(self, position: Position) -> bool:
-        """Whether an expression is computed at samples, and isn't a constant, or a part of one."""
-        start = next(length for length in range(len(position) + 1) if not is_network(at(self.tree, position[:length])))
-        word, number = head(at(self.tree, position[: start - 1])), position[start - 1]
-        return word in ("arr", "pSwitch", "rpSwitchB") or (word == "accumBy" and number == 0)
+    def add_totals(self, tree: Any, position: Position, above: int, is_run: bool, found: dict[Position, int]) -> None:
+        found[position] = count = self.counts.of[position] if is_run else above
+        word, inside = head(tree), not is_network(tree)
+        for number, child in enumerate(children(tree)):
+            runs = is_run if inside else is_network(child) or word in ("arr", "pSwitch", "rpSwitchB") or (word == "accumBy" and number == 0)
+            self.add_totals(child, (*position, number), count, runs, found)
 
 
 def counts_of(program: Program, recordings: list[str]) -> dict[Position, int]:
@@ -129,7 +137,8 @@ def counts_of(program: Program, recordings: list[str]) -> dict[Position, int]:
         fault = run.hear(recording)
         if fault:
             raise Refused(fault)
-    return {position: run.total(position) for position, tree in preorder(run.tree) if is_network(tree)}
+    totals = run.totals()
+    return {position: totals[position] for position, tree in preorder(run.tree) if is_network(tree)}
 
 
 # ---- what is told
@@ -139,12 +148,12 @@ def reached(run: Run) -> dict[tuple, tuple[Place, int]]:
     """Each piece of a file in which a part is written, and how often one that is written there was run."""
     found: dict[tuple, tuple[Place, int]] = {}
     keys: dict[Position, tuple] = {}
-    for position, _ in preorder(run.tree):
+    for position, count in run.totals().items():
         place = run.program.place_of(position)
         keys[position] = key = (place.text.name, place.start, place.end)
         # What a shorter way means stands where that does, and is counted once.
         if not position or keys[position[:-1]] != key:
-            found[key] = (place, found.get(key, (place, 0))[1] + run.total(position))
+            found[key] = (place, found.get(key, (place, 0))[1] + count)
     return found
 
 
@@ -168,7 +177,9 @@ def listing(name: str, data: bytes, places: list[tuple[Place, int]], never: list
         for place in (place for place in never if begun <= place.start < start):
             before = len(data[begun : place.start].decode(errors="replace"))
             length = min(len(data[place.start : place.end].decode(errors="replace").split("\n")[0]), len(line) - before)
-            lines.append(f"{'never':>9} {'':>5}  {' ' * before}{'^' * max(length, 1)}")
+            part = line[before : before + length]
+            shown = " " * before + "^" * max(length, 1) if len(line) <= WIDEST else f"column {before + 1}: {part if length <= 60 else part[:58] + '..'}"
+            lines.append(f"{'never':>9} {'':>5}  {shown}")
     return lines
 
 

@@ -4,10 +4,11 @@ import sys
 from collections.abc import Callable
 from typing import NoReturn
 
-from workbench.ending import REFUSED, UNREADABLE, Refused, Words, ended, read, stream_bytes
+from workbench.ending import REFUSED, UNREADABLE, Refused, Words, read, stream_bytes
 from workbench.faults import Files, explained, unread
+from workbench.foreseeing import foresee
 from workbench.origin import InNames
-from workbench.program import again, call
+from workbench.program import again, call, is_trial
 from workbench.telling import Told, told_of
 
 ABOUT = """Runs the program on the files, and explains the error that it prints, if any.
@@ -17,9 +18,9 @@ ABOUT = """Runs the program on the files, and explains the error that it prints,
   yampa explain SRC TGT CERT        a certificate
   yampa explain --line LINE FILE .. an error line that was printed before, for these files
 
-The types that it shows are the program's: it is called some four times, which takes minutes if it isn't
-built yet. If nothing is rejected, the tool says so, and the status is 0; else it is 1, or 3 if a file
-can't be read."""
+The types that it shows are the program's. If the program isn't built yet, one trial build usually answers
+all that is asked, in a minute or two. If nothing is rejected, the tool says so, and the status is 0; else
+it is 1, or 3 if a file can't be read."""
 
 
 def roles_of(names: list) -> tuple:
@@ -45,13 +46,11 @@ def main():
     given = words.parse_args()
     if len(given.files) > 3:
         words.error("at most three files")
-    ended("explain", lambda: explain(given))
-
-
-def explain(given) -> None:
     names, stream_name = roles_of(given.files)
     files = Files(names, {role: path_of(name) for role, name in names.items()})
     stream = (stream_name, stream_bytes(path_of(stream_name, stream_bytes))) if stream_name else None
+    if is_trial():
+        foresee(lambda: explained(given.line or fault_of(files, stream), files, stream))
     line = given.line or fault_of(files, stream)
     if not line:
         print("nothing is refused")

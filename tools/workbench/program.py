@@ -4,6 +4,7 @@ import contextlib
 import os
 import subprocess
 import tempfile
+from collections.abc import Callable
 from pathlib import Path
 from typing import IO
 
@@ -14,12 +15,19 @@ TOP = Path(__file__).resolve().parents[2]
 SECONDS = 600
 # The names of what was copied, by the paths of the copies.
 COPIES: dict[str, str] = {}
+# Who answers a call in the place of the program, while it is foreseen what that will be asked.
+ANSWERING: list[Callable[[list, bytes], "Told"]] = []
 
 
 def path():
     """The program: the one that YAMPA names, else the one that is built, else the wrapper at the top, which builds it."""
     built = TOP / "crates/yampa/out/yampa"
     return os.environ.get("YAMPA") or str(built if os.access(built, os.X_OK) else TOP / "yampa")
+
+
+def is_trial():
+    """Whether a trial build answers, which takes minutes."""
+    return os.path.realpath(path()) == str(TOP / "yampa")
 
 
 class Told:
@@ -50,6 +58,8 @@ class Told:
 
 def call(words, stream=b""):
     """What the program tells of these words and of the stream on standard input."""
+    if ANSWERING:
+        return ANSWERING[-1](words, stream)
     try:
         ran = subprocess.run([path(), *words], input=stream, capture_output=True, timeout=SECONDS)
     except OSError as error:

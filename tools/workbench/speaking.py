@@ -10,7 +10,7 @@ from workbench.ending import Refused, ended, write
 from workbench.faults import Files, explained
 from workbench.origin import PROGRAMS, InNames, Program, program_of
 from workbench.outline import read_type
-from workbench.program import TOP, again, answered, path
+from workbench.program import again, answered, is_trial
 from workbench.records import shown_type
 
 # The files of each command by their roles, and the options behind which a value stands.
@@ -45,7 +45,7 @@ def spoken(words: list, line: str) -> str:
     program = with_names(files).get(role)
     if program is None:
         return line
-    if path() == str(TOP / "yampa"):
+    if is_trial():
         return placed(program, fault)
     told = explained(line, files, None)
     return told.where() + told.why

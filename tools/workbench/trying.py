@@ -66,8 +66,9 @@ class Answer:
 # ---- what is asked
 
 
-def call_of(words: list) -> Call:
-    """The call with these words; its stream is read where the command reads it, since the trial reads nothing while it runs."""
+def call_of(words: list, stream: bytes | None = None) -> Call:
+    """The call with these words; the stream on standard input, where none is given, is read where the command reads it, since the trial
+    reads nothing while it runs."""
     places, are_read = named_files(words)
     call = Call(list(words))
     for number, place in enumerate(places):
@@ -77,7 +78,7 @@ def call_of(words: list) -> Call:
         if held is not None:
             call.files[name] = held.decode("latin-1")
     if are_read and words[0] in RUNS:
-        call.stream = stream_given().decode("latin-1")
+        call.stream = (stream_given() if stream is None else stream).decode("latin-1")
     return call
 
 
