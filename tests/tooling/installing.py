@@ -41,6 +41,11 @@ def brings_pages(prefix: Path) -> None:
     page = (share / "man/man1/yampa.1").read_text()
     want("the man page", "yampa run\\-checked" in page and "yampa falsify" in page)
     want("the TextMate grammar", json.loads((share / "yampa/yampa.tmLanguage.json").read_text())["scopeName"] == "source.yampa")
+    want("the tour is of the clone alone", "yampa tour" not in page)
+    if shutil.which("vim") and b"+eval" in subprocess.run(["vim", "--version"], capture_output=True, check=False).stdout:
+        script = f"set rtp+=vim/vimfiles | filetype on | edit {TOP / 'examples/cruise/source'} | exe 'cquit ' . (&ft == 'yampa' ? 7 : 8)"
+        ended = subprocess.run(["vim", "-N", "-u", "NONE", "-es", "-c", script], cwd=share, stdin=subprocess.DEVNULL, capture_output=True, check=False)
+        want("vim knows a file behind comments", ended.returncode == 7, ended)
     completion = share / "bash-completion/completions/yampa"
     script = f"source {shlex.quote(str(completion))}; COMP_WORDS=(yampa fal); COMP_CWORD=1; _yampa; echo ${{COMPREPLY[*]}}"
     want("completion for bash", subprocess.run(["bash", "-c", script], capture_output=True, text=True, check=False).stdout == "falsify\n")

@@ -41,7 +41,8 @@ def advice(said: str, words: list[str]) -> str | None:
         places, _ = named_files(words)
         return unread(words[places[PLACES[role]]])
     if "unrecognized subcommand" in said or not words:
-        near = difflib.get_close_matches(words[0], [*FILES, *tools()], 1) if words else []
+        named = words[1:2] or words if words[:1] == ["help"] else words
+        near = difflib.get_close_matches(named[0], [*FILES, *tools()], 1) if named else []
         meant = f"; did you mean {near[0]}?" if near else ""
         return f"there are tools beside these commands: {', '.join(tools())}{meant}"
     return None

@@ -20,6 +20,8 @@ from workbench.ending import UNREADABLE, Refused
 
 TOOL = Path(__file__).resolve().parents[1] / "tool"
 OPTION = re.compile(r"^ +((?:-\w, )?)(--[a-z][a-z-]*)", re.M)
+# The first word of a file, behind comments, as vim looks for it.
+FIRST_WORD = r"\%^\%(\s*\%(;.*\)\=\n\)*\s*\%(yampa\|laws\)\s"
 HEADER = ["yampa", "source", "laws", "input", "def", "record", "include", "let", "step", "at", "forward", "backward", "col"]
 
 
@@ -45,14 +47,14 @@ def pages(helps: dict[str, str]) -> dict[str, str]:
         "share/zsh/site-functions/_yampa": zsh(helps),
         "share/fish/vendor_completions.d/yampa.fish": fish(helps),
         "share/vim/vimfiles/syntax/yampa.vim": vim(),
-        "share/vim/vimfiles/ftdetect/yampa.vim": "autocmd BufRead,BufNewFile * if getline(1) =~# '^\\s*yampa \\|^\\s*laws ' | setfiletype yampa | endif\n",
+        "share/vim/vimfiles/ftdetect/yampa.vim": f"autocmd BufRead,BufNewFile * if search('{FIRST_WORD}', 'cnw') | setfiletype yampa | endif\n",
         "share/yampa/yampa.tmLanguage.json": text_mate(),
     }
 
 
 def abouts(helps: dict[str, str]) -> dict[str, str]:
     """What each command and each tool does, in a line."""
-    return {name: helps[name].split("\n", 1)[0] for name in FILES} | tools()
+    return {name: helps[name].split("\n", 1)[0] for name in FILES} | {name: about for name, about in tools().items() if name in helps}
 
 
 def options(text: str) -> list[str]:
@@ -79,7 +81,7 @@ def man_page(helps: dict[str, str]) -> str:
         ".SH COMMANDS",
         *[section("SS", f"yampa {name}", helps[name]) for name in FILES],
         ".SH TOOLS\nTools beside these commands. They are not proved.",
-        *[section("SS", f"yampa {name}", helps[name]) for name in tools()],
+        *[section("SS", f"yampa {name}", helps[name]) for name in tools() if name in helps],
     ]
     return "\n".join(parts) + "\n"
 

@@ -13,6 +13,7 @@ TOP = Path(__file__).resolve().parents[2]
 HOME = Path("lib/yampa")
 # What the clone alone needs, or what only this script does.
 LEFT_OUT = {"prove", "prove.times", "trial"}
+NOT_LISTED = ["tour"]
 USAGE = "usage: ./yampa --install PREFIX, or ./yampa --uninstall PREFIX"
 
 
@@ -34,8 +35,6 @@ def main() -> None:
 
 def install(program: Path, prefix: Path) -> None:
     """Puts all files into a folder beside their places, and then into these; what goes wrong on the way leaves nothing."""
-    if (prefix / HOME).exists():
-        uninstall(prefix)
     before = folders_above(prefix / HOME)
     try:
         prefix.mkdir(parents=True, exist_ok=True)
@@ -44,6 +43,8 @@ def install(program: Path, prefix: Path) -> None:
             stage(program, prefix, made)
             files = sorted(path.relative_to(made) for path in made.rglob("*") if path.is_file())
             (made / HOME / "files").write_text("".join(f"{file}\n" for file in files), encoding="utf-8")
+            if (prefix / HOME).exists():
+                uninstall(prefix)
             move(made, prefix, [*files, HOME / "files"])
     except OSError as error:
         for folder in before:
@@ -62,19 +63,22 @@ def stage(program: Path, prefix: Path, made: Path) -> None:
     """Makes every file below the folder as it will stand below the prefix."""
     home = made / HOME
     shutil.copytree(TOP / "tools", home / "tools", ignore=lambda _, names: [name for name in names if name in LEFT_OUT or name == "__pycache__"])
+    rows = (TOP / "tools/list").read_text(encoding="utf-8").splitlines(keepends=True)
+    put(home / "tools/list", "".join(row for row in rows if row.split()[0] not in NOT_LISTED).encode())
     put(home / "crates/yampa/out/yampa", program.read_bytes(), runs=True)
     put(home / "installed", b"")
     wrapper = (TOP / "yampa").read_text(encoding="utf-8")
     put(made / "bin/yampa", with_top(wrapper, prefix / HOME).encode(), runs=True)
-    helps = helping.all_helps(program)
+    helps = {name: text for name, text in helping.all_helps(program).items() if name not in NOT_LISTED}
     for place, text in helping.pages(helps).items():
         put(made / place, text.encode())
 
 
 def with_top(wrapper: str, home: Path) -> str:
-    """The wrapper, which knows where its folder is, so that it need not look."""
+    """The wrapper, which knows where its folder and its shell are, so that nothing is looked for."""
     quoted = "'" + str(home).replace("'", "'\\''") + "'"
-    return re.sub(r"^here=.*?^top=[^\n]*$", lambda _: f"top={quoted}", wrapper, flags=re.S | re.M)
+    text = re.sub(r"^here=.*?^top=[^\n]*$", lambda _: f"top={quoted}", wrapper, flags=re.S | re.M)
+    return text.replace("#!/usr/bin/env bash", f"#!{shutil.which('bash') or '/usr/bin/env bash'}", 1)
 
 
 def put(path: Path, data: bytes, runs: bool = False) -> None:
