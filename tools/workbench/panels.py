@@ -64,6 +64,7 @@ def picture(times: list, found: list, title: str, ending: str) -> bytes:
     axes[-1, 0].ticklabel_format(style="plain", axis="x", useOffset=False)
     axes[-1, 0].set_xlabel("time", fontsize=8)
     figure.suptitle(title, fontsize=9)
+    figure.align_ylabels(axes[:, 0])
     figure.tight_layout()
     out = io.BytesIO()
     figure.savefig(out, format=ending, dpi=150, metadata={"Date": None} if ending == "svg" else {"CreationDate": None} if ending == "pdf" else None)

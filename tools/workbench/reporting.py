@@ -18,6 +18,7 @@ from workbench.plotting import plot_of
 from workbench.program import again, answered, call
 from workbench.records import shown_type
 from workbench.shorter import shortened
+from workbench.speaking import spoken_types
 from workbench.tracing import steps_shown
 from workbench.watching import node_of
 
@@ -110,9 +111,9 @@ def plot(look: Look) -> bytes:
 def page(given: Any) -> str:
     form, safe = template()
     net = again(given.net)
-    told = "; ".join(answered(["types", net]).decode().splitlines())
     look = looked_at(net, stream_bytes(given.stream), lambda whole: [])
     whole, count = look.whole, len(look.run.times)
+    told = "; ".join(spoken_types(whole.program, answered(["types", net]).decode()).splitlines())
     drawing, definitions = drawings_of(whole, safe)
     files = (again(given.target), again(given.certificate)) if given.certificate else None
     return form.render(
