@@ -30,6 +30,12 @@ type_at A s k = get_or (A ∷ map (λ t. t.ty) s) k unit_ty
 abbrev pub put : List Step → TypeTree → Operation → LeafSteps
 put s T o = (s ++ step T o ∷ [], suc (length s))
 
+-- what the event in register e carries, or zeros, beside register x
+abbrev pub beside_carried : TypeTree → ℕ → ℕ → List Step → LeafSteps
+beside_carried A e x s =
+    let v : LeafSteps = put s (carried_type (type_at A s e)) (O.carried e) in
+    put v.0 (pair_ty (type_at A v.0 x) (type_at A v.0 v.1)) (O.pair x v.1)
+
 -- the types of the parameters, and that of register 0
 module _ (Ps : List TypeTree) (A : TypeTree) where
   abbrev mutual
@@ -90,12 +96,10 @@ module _ (Ps : List TypeTree) (A : TypeTree) where
     emit (event_expr e) x s =
         let p : LeafSteps = emit e x s in
         put p.0 (event_ty (type_at A p.0 p.1)) (O.event p.1)
-    -- what the event carries and its pair with the input, or zeros, then b there
     emit (on e d b) x s =
         let p : LeafSteps = emit e x s in
         let q : LeafSteps = emit d x p.0 in
-        let v : LeafSteps = put q.0 (carried_type (type_at A q.0 p.1)) (O.carried p.1) in
-        let i : LeafSteps = put v.0 (pair_ty (type_at A v.0 x) (type_at A v.0 v.1)) (O.pair x v.1) in
+        let i : LeafSteps = beside_carried A p.1 x q.0 in
         let r : LeafSteps = emit b i.1 i.0 in
         let c : LeafSteps = put r.0 bool_ty (O.is_event p.1) in
         put c.0 (type_at A c.0 q.1) (O.choose c.1 r.1 q.1)
@@ -116,6 +120,13 @@ module _ (Ps : List TypeTree) (A : TypeTree) where
         let p : LeafSteps = emit e x s in
         let r : List Step × List ℕ = emit_all es x p.0 in
         (r.0, p.1 ∷ r.1)
+
+  -- the code of two expressions, and the registers that have their values
+  abbrev pub two_emitted : Expression → Expression → ℕ → List Step → List Step × (ℕ × ℕ)
+  two_emitted a b x s =
+      let p : LeafSteps = emit a x s in
+      let q : LeafSteps = emit b x p.0 in
+      (q.0, (p.1, q.1))
 
 -- the code of an expression, under parameters of these types, at an input of type A
 abbrev pub leaf_code : List TypeTree → TypeTree → Expression → LeafSteps

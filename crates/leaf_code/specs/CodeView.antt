@@ -1,5 +1,6 @@
 -- What the code's steps are.
-use Rattle.std.specs.Prelude.{List, map}
+use Rattle.std.specs.Prelude.{◌≡◌, ℕ, List, ◌++◌, map}
+use Rattle.sample_core.specs.TypeTree.{TypeTree, unit_ty, bool_ty, int_ty}
 use Rattle.sample_core.specs.TypeView.{type_of}
 use Rattle.leaf_core.specs.declared.literal.Literal.{Literal}
 use Rattle.leaf_core.specs.declared.literal.Literal.TheVariants as C
@@ -16,6 +17,12 @@ abbrev pub literal_in : Literal → Operation
 literal_in C.Unit = O.unit
 literal_in (C.Bool b) = O.bool b
 literal_in (C.Int n) = O.int n
+
+-- a literal's type
+abbrev pub literal_type : Literal → TypeTree
+literal_type C.Unit = unit_ty
+literal_type (C.Bool b) = bool_ty
+literal_type (C.Int n) = int_ty
 
 -- the operation that an `Operation` is
 abbrev pub operation_of : V.Operation → Operation
@@ -53,3 +60,7 @@ steps_in ss = map step_of ss
 -- the code that a `LeafCode` is
 abbrev pub leaf_of : LeafCode → R.LeafSteps
 leaf_of c = (steps_in c.steps.items, c.answer)
+
+-- the steps of elements were added, and their registers behind others
+abbrev pub AddsElements : List R.Step × List ℕ → List R.Step → List ℕ → List ℕ → Type 0
+AddsElements emitted steps before now = (emitted.0 ≡ steps) × (now ≡ before ++ emitted.1)

@@ -3,3 +3,4 @@ pub mod Operation
 pub mod Running
 pub mod CodeOf
 pub mod CodeView
+pub mod Fitting

@@ -10,6 +10,10 @@
 //! `src/emit.rt` makes the code.
 #![tactic(auto)]
 
+mod emit;
+mod laws;
 mod operation;
 
+pub use emit::compile_expr;
+pub use laws::leaf_laws;
 pub use operation::{LeafCode, Operation, Step};
