@@ -149,9 +149,10 @@ def told_by(question, name):
         prove(question, name, theirs)
     theirs.close()
     try:
-        while not isinstance(told := ours.recv(), (Holds, Unfair, Wrong, str)):
-            pass
-        return [told]
+        while ours.poll(60):
+            if isinstance(told := ours.recv(), (Holds, Unfair, Wrong, str)):
+                return [told]
+        return []
     except EOFError:
         return []
     finally:
