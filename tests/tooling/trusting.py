@@ -213,6 +213,16 @@ def what_is_passed_holds_by_brute_force():
         want(f"question {number - 1}", not wrong, f"{ways} {wrong[:1]} {question}")
 
 
+def a_lie_is_seen():
+    """Random recordings are run where z3 says that all is well."""
+    from workbench.proving.deciding import Decision, Limits
+
+    for net, holds in (("(arr (less x 10))", False), ("(arr (equal x x))", True), ("(>>> time (arr (less x 30)))", False)):
+        found = Decision(asked(net, [], {}), Limits(1)).contradicted()
+        want(f"a lie of {net}", (found is None) == holds, found)
+
+
 def try_all() -> None:
+    a_lie_is_seen()
     what_is_false_is_not_passed()
     what_is_passed_holds_by_brute_force()
