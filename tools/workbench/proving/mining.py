@@ -12,6 +12,7 @@ from workbench.proving.values import encoded
 from workbench.streams import Streams, Wishes
 
 RUNS, LENGTH, ROWS, SEED = 40, 100, 1_500, 7
+STEPS = 400_000
 GROUP, FEW, MODES, MOST, RAISED = 40, 12, 20, 2_000, 12
 
 
@@ -26,11 +27,13 @@ class Bound(Candidate):
 
 
 def simulated(system: System) -> list[tuple]:
-    """The leaves of states behind samples of random recordings, each state once; a sample that isn't fair is tried with a step of 1."""
+    """The leaves of states behind samples of random recordings, each state once, until their parts have taken so many steps; a sample
+    that isn't fair is tried with a step of 1."""
     question, pace = system.question, system.pace
     wishes = Wishes(LENGTH, [pace.step] if pace.step else None, pace.most or 2**63 - 1, pace.lists)
     streams = Streams(question.given, question.numbers, random.Random(SEED), wishes)
     rows: dict[tuple, None] = {}
+    taken = 0
     for _ in range(RUNS):
         state = system.start
         for number, (step, value) in enumerate(streams.recording()):
@@ -42,7 +45,8 @@ def simulated(system: System) -> list[tuple]:
                 break
             state = frame.state
             rows[tuple(system.leaves(state))] = None
-        if len(rows) > ROWS:
+            taken += system.terms.steps
+        if len(rows) > ROWS or taken > STEPS:
             break
     return list(rows)
 
