@@ -3,3 +3,4 @@ pub mod Layouts
 pub mod Rules
 pub mod Standing
 pub mod FitLaw
+pub mod CodeOfNet

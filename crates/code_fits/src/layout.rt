@@ -1,26 +1,26 @@
 // What the functions of a network's code work on.
 
+use crate::types::Types;
 use net_code::Function;
-use sample_core::Ty;
 
-/// What a function of the code works on.
+/// What a function of the code works on. Types are numbers in the program's table.
 #[derive(Drop)]
 pub struct Layout {
     /// Where its node stands in the network.
     pub position: Vec<u32>,
     /// The types of the parameters in scope.
-    pub params: Vec<Ty>,
+    pub params: Vec<usize>,
     /// The functions of the frozen networks in scope.
     pub olds: Vec<usize>,
     /// The type of its input.
-    pub input: Ty,
+    pub input: usize,
     /// The type of what it answers.
-    pub output: Ty,
+    pub output: usize,
     /// The types of its rows' values, in order, of those that set a register or answer.
-    pub values: Vec<Ty>,
+    pub values: Vec<usize>,
     /// The type of the value that it keeps itself: what is fed back, what a cell keeps, what has
     /// taken over.
-    pub kept: Option<Ty>,
+    pub kept: Option<usize>,
     /// Whether anything is kept, by it or by what it calls.
     pub keeps: bool,
 }
@@ -32,11 +32,10 @@ pub struct Program {
     pub functions: Vec<Function>,
     /// What each works on.
     pub layouts: Vec<Layout>,
-    /// Each type that occurs, once, its parts before it; of a list how many elements it has at most,
-    /// at least 1, and else 0.
-    pub bounds: Vec<(Ty, usize)>,
+    /// Each type that occurs.
+    pub types: Types,
+    /// Of each type of lists how many elements it has at most, at least 1; of another 0.
+    pub bounds: Vec<usize>,
     /// How many bytes the state has at most, where no type is aligned to more than 8 bytes.
     pub state_bytes: u64,
-    /// How many bytes of the stack the registers take at most.
-    pub stack_bytes: u64,
 }

@@ -1,0 +1,132 @@
+// The types that occur in code, each by a number.
+
+use crate::walk::Unlaid;
+use sample_core::{Memory, Ty, TyChild};
+use std::alloc::Global;
+
+/// A type over earlier ones, which are named by their numbers.
+#[derive(Clone, Copy, PartialEq, Eq)]
+pub enum TypeRow {
+    /// The one value `unit`.
+    Unit,
+    /// `true` and `false`.
+    Bool,
+    /// Signed numbers of 64 bits.
+    Int,
+    /// Pairs of a value of each.
+    Pair(usize, usize),
+    /// No event, or an event that carries a value.
+    Event(usize),
+    /// Lists.
+    List(usize),
+}
+
+/// Types, each once, its parts before it.
+#[derive(Drop)]
+pub struct Types {
+    /// The types as rows.
+    pub rows: Vec<TypeRow>,
+    /// The same as trees.
+    pub trees: Vec<Ty>,
+}
+
+impl Types {
+    /// No types.
+    pub(crate) fn new(alloc: Global) -> Types {
+        Types {
+            rows: Vec::new(alloc),
+            trees: Vec::new(alloc),
+        }
+    }
+
+    /// The number of a type, which is added where it isn't there.
+    #[cycle(number)]
+    pub(crate) fn number(&mut self, alloc: Global, ty: &Ty) -> Result<usize, Memory> {
+        match ty {
+            Ty::Unit => self.row(alloc, TypeRow::Unit),
+            Ty::Bool => self.row(alloc, TypeRow::Bool),
+            Ty::Int => self.row(alloc, TypeRow::Int),
+            Ty::Pair(a, b) => self.number_pair(alloc, a, b),
+            Ty::Event(a) => {
+                let a = self.number(alloc, a.get())?;
+                self.row(alloc, TypeRow::Event(a))
+            }
+            Ty::List(a) => {
+                let a = self.number(alloc, a.get())?;
+                self.row(alloc, TypeRow::List(a))
+            }
+        }
+    }
+
+    /// The number of a type of pairs.
+    #[cycle(number)]
+    fn number_pair(&mut self, alloc: Global, a: &TyChild, b: &TyChild) -> Result<usize, Memory> {
+        let a = self.number(alloc, a.get())?;
+        let b = self.number(alloc, b.get())?;
+        self.row(alloc, TypeRow::Pair(a, b))
+    }
+
+    /// The number of a row, which is added where it isn't there.
+    pub(crate) fn row(&mut self, alloc: Global, row: TypeRow) -> Result<usize, Memory> {
+        if let Some(k) = self.rows.iter().position(|known| *known == row) {
+            return Ok(k);
+        }
+        let tree = self.tree_of(alloc, row)?;
+        self.trees.push(tree)?;
+        self.rows.push(row)?;
+        Ok(self.rows.len().saturating_sub(1))
+    }
+
+    /// A row as a tree.
+    fn tree_of(&self, alloc: Global, row: TypeRow) -> Result<Ty, Memory> {
+        match row {
+            TypeRow::Unit => Ok(Ty::Unit),
+            TypeRow::Bool => Ok(Ty::Bool),
+            TypeRow::Int => Ok(Ty::Int),
+            TypeRow::Pair(a, b) => {
+                let a = self.child(alloc, a)?;
+                let b = self.child(alloc, b)?;
+                Ok(Ty::Pair(a, b))
+            }
+            TypeRow::Event(a) => Ok(Ty::Event(self.child(alloc, a)?)),
+            TypeRow::List(a) => Ok(Ty::List(self.child(alloc, a)?)),
+        }
+    }
+
+    /// A type of the table as a part of another.
+    fn child(&self, alloc: Global, k: usize) -> Result<TyChild, Memory> {
+        TyChild::new(alloc, self.tree(alloc, k)?)
+    }
+
+    /// A type of the table as a tree, `Unit` where it isn't there.
+    pub(crate) fn tree(&self, alloc: Global, k: usize) -> Result<Ty, Memory> {
+        match self.trees.get(k) {
+            Some(tree) => tree.try_copy(alloc),
+            None => Ok(Ty::Unit),
+        }
+    }
+
+    /// The parts of a type of pairs.
+    pub(crate) fn parts(&self, k: usize) -> Result<(usize, usize), Unlaid> {
+        match self.rows.get(k) {
+            Some(TypeRow::Pair(a, b)) => Ok((*a, *b)),
+            _ => Err(Unlaid::Untyped),
+        }
+    }
+
+    /// The type of what an event carries.
+    pub(crate) fn carried(&self, k: usize) -> Result<usize, Unlaid> {
+        match self.rows.get(k) {
+            Some(TypeRow::Event(a)) => Ok(*a),
+            _ => Err(Unlaid::Untyped),
+        }
+    }
+
+    /// The type of a list's elements.
+    pub(crate) fn element(&self, k: usize) -> Result<usize, Unlaid> {
+        match self.rows.get(k) {
+            Some(TypeRow::List(a)) => Ok(*a),
+            _ => Err(Unlaid::Untyped),
+        }
+    }
+}
