@@ -1,6 +1,6 @@
 """Recordings from the first sample on: whether one of so many samples makes the goal false."""
 import time
-from typing import Any, Optional
+from typing import Any, Iterator, Optional
 
 import z3
 
@@ -10,6 +10,17 @@ from workbench.proving.terms import Leaf, Terms, all_of, both, formula, is_known
 from workbench.proving.values import decoded, mapped
 
 DEPTHS = (1, 2, 4, 8, 12, 16, 24, 32, 48, 64, 96, 128, 192, 256, 384, 512, 768, 1024, 2048)
+
+
+def depths(most: int) -> Iterator[int]:
+    """How many samples are looked at, ever more, up to the most."""
+    depth = 0
+    for depth in DEPTHS:
+        if depth < most:
+            yield depth
+    while (depth := 2 * depth) < most:
+        yield depth
+    yield most
 
 
 class Unknown(Exception):

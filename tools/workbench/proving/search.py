@@ -4,7 +4,7 @@ from typing import Callable, Optional, Sequence
 
 import z3
 
-from workbench.proving.bounded import DEPTHS, Unknown, Unrolling, fair_samples
+from workbench.proving.bounded import Unknown, Unrolling, depths, fair_samples
 from workbench.proving.induction import Candidate, is_inductive, kept
 from workbench.proving.integers import Horn
 from workbench.proving.mining import Templates, simulated
@@ -23,8 +23,7 @@ WITHIN = " over integers, of which none leaves 64 bits"
 def looked_into(search: Search, system: System, until: float, told: str) -> Optional[bytes]:
     """A recording from the first sample on, ever longer; what was searched is told."""
     unrolling, clear = Unrolling(system), 0
-    for depth in DEPTHS:
-        depth = min(depth, search.depth)
+    for depth in depths(search.depth):
         try:
             found = unrolling.search(clear, depth, until)
         except Unknown:
@@ -33,8 +32,6 @@ def looked_into(search: Search, system: System, until: float, told: str) -> Opti
             return found
         clear = depth
         search.tell(Searched(told, f"none up to {clear} sample{'s' * (clear != 1)}{told}"))
-        if clear == search.depth:
-            return None
     return None
 
 
