@@ -10,15 +10,15 @@ use std::alloc::Global;
 
 /// Where two networks differ first, and what each has there.
 #[derive(Drop)]
-pub(crate) struct Difference {
-    pub(crate) position: Position,
-    pub(crate) first: Tree,
-    pub(crate) second: Tree,
+pub struct Difference {
+    pub position: Position,
+    pub first: Tree,
+    pub second: Tree,
 }
 
 /// The first position, a node before its children, at which the two have different nodes, with what
 /// each has there; `None` where they are the same.
-pub(crate) fn first_difference(
+pub fn first_difference(
     alloc: Global,
     first: &Net<Expr>,
     second: &Net<Expr>,

@@ -26,7 +26,7 @@ use Rattle.cert_check.specs.declared.answer.CheckFault.{CheckFault}
 use Rattle.cert_check.specs.declared.answer.CheckFault.TheVariants as C
 use Rattle.cert_check.specs.declared.derivation.TheConstants.{MOST_STEPS}
 use Rattle.net_opt.specs.Optimising.{Optimised}
-use Rattle.net_improve.specs.Improving.{Improved}
+use Rattle.net_search.specs.Improving.{Improved}
 use Rattle.leaf_table.specs.declared.fault.TableFault.{TableFault}
 use Rattle.leaf_table.specs.declared.fault.TableFault.TheVariants as A
 use Rattle.command_line.specs.CommandLine.{DerivationNames, LeadingNames, RequestTree, types, run, outline, laws, optimise, improve, check as checks, run_checked, apply, certify, request_in, AsksHelp, AsksNothing}

@@ -12,7 +12,7 @@ use crate::preparation::{Job, Refusal, load};
 use crate::printed::push_words;
 use crate::refused::{Role, none_found_line};
 use cert_check::CheckFault;
-use net_certify::{Certified, certify};
+use net_search::{Certified, certify};
 use net_syntax::TypedNet;
 use net_text::{print_cert, push_tree};
 use net_tree::{Position, Tree, push_position};

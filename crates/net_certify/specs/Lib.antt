@@ -1,2 +1,0 @@
--- Certificates found.
-pub mod Certifying

@@ -1,0 +1,6 @@
+-- Drafts, steps undone, and what the searches answer.
+pub mod Drafted
+pub mod Undoing
+pub mod Improving
+pub mod Certifying
+pub mod Laws
