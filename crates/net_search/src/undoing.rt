@@ -6,6 +6,7 @@ ghost use Rattle.net_syntax.specs.ChildParts.{seen};
 ghost use Rattle.net_search.specs.Undoing.{IsUndoing, given_back, turned_direction};
 
 use cert_check::place_in;
+use net_improve::copy_of;
 use net_syntax::{TreeRef, TypedNet};
 use net_tree::{Direction, LawStep, Tree};
 use sample_core::Memory;
@@ -42,22 +43,6 @@ fn given_back(alloc: Global, direction: Direction, stood: TreeRef) -> Result<Opt
             Ok(Some(copy))
         }
         Direction::Backward => Ok(None),
-    }
-}
-
-/// A copy of a tree.
-fn copy_of(alloc: Global, tree: TreeRef) -> Result<Tree, Memory>
-    ensures { IfOk result (λ copy. part_of copy ≡ seen tree.entry) }
-{
-    match tree {
-        TreeRef::Net(net) => {
-            let net = net.try_copy(alloc)?;
-            Ok(Tree::Net(net))
-        }
-        TreeRef::Expr(expr) => {
-            let expr = expr.try_copy(alloc)?;
-            Ok(Tree::Expr(expr))
-        }
     }
 }
 

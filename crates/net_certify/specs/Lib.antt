@@ -1,0 +1,2 @@
+-- Where two networks differ.
+pub mod Difference
