@@ -93,6 +93,7 @@ fn net_form(net: &Net<Expr>) -> u8
 }
 
 /// The number in the network's node.
+#[tactic(auto, using(crate::proofs::Counting::member_count))]
 fn number_in(net: &Net<Expr>) -> u64
     ensures { result ≡ number_in (parts_of (tree_of net.now)) }
 {
@@ -151,6 +152,7 @@ fn leaf_form(expr: &Expr) -> u8
 }
 
 /// The number in the expression's node.
+#[tactic(auto, using(crate::proofs::Counting::element_count))]
 fn number_inside(expr: &Expr) -> u64
     ensures { result ≡ number_inside (inside_of (expression_of expr.now)) }
 {
@@ -185,7 +187,7 @@ fn type_inside(expr: &Expr) -> Option<&Ty>
 /// Whether both are one type, or neither is there.
 fn same_told(a: Option<&Ty>, b: Option<&Ty>) -> bool
     ensures { IsTrue result
-        ↔ (option_map (λ t. type_of t.now) a ≡ option_map (λ t. type_of t.now) b) }
+        ↔ (option_map (λ t. type_of t.now) a.entry ≡ option_map (λ t. type_of t.now) b.entry) }
 {
     match (a, b) {
         (Some(t), Some(u)) => same_type(t, u),

@@ -1,6 +1,6 @@
 // Where two networks differ first.
 
-ghost use Rattle.std.specs.Prelude.{◌≡◌, ◌×◌, IfOk, IfSome, Some};
+ghost use Rattle.std.specs.Prelude.{◌≡◌, IfOk, IfSome, Some};
 ghost use Rattle.net_tree.specs.LawStep.{part_of};
 ghost use Rattle.net_tree.specs.NetworkView.{tree_of};
 ghost use Rattle.net_tree.specs.Place.{a_network};
@@ -40,7 +40,7 @@ pub fn first_difference(
 {
     let mut path = Vec::new(alloc);
     let mut pair = (TreeRef::Net(first), TreeRef::Net(second));
-    for _ in 0..MOST_DEPTH {
+    'deeper: for _ in 0..MOST_DEPTH {
         if !same_node(pair.0, pair.1) {
             return Ok(Some(difference_at(alloc, path, pair)?));
         }
@@ -59,8 +59,8 @@ fn difference_at(
     path: Vec<u32>,
     pair: (TreeRef<'_>, TreeRef<'_>),
 ) -> Result<Difference, Memory>
-    ensures { IfOk result (λ d. (d.position ≡ path.items) × (part_of d.first ≡ seen pair.0)
-        × (part_of d.second ≡ seen pair.1)) }
+    ensures { IfOk result (λ d. (d.position ≡ path.items) × (part_of d.first ≡ seen pair.entry.0)
+        × (part_of d.second ≡ seen pair.entry.1)) }
 {
     let first = copy_of(alloc, pair.0)?;
     match copy_of(alloc, pair.1) {
@@ -81,9 +81,9 @@ fn child_that_differs<'n>(
     a: TreeRef<'n>,
     b: TreeRef<'n>,
 ) -> Option<(u32, (TreeRef<'n>, TreeRef<'n>))>
-    ensures { IfSome result (λ x. SameBefore x.0 (seen a) (seen b)
-        × (tree_child (seen a) x.0 ≡ Some (seen x.1.0))
-        × (tree_child (seen b) x.0 ≡ Some (seen x.1.1))) }
+    ensures { IfSome result (λ x. SameBefore x.0 (seen a.entry) (seen b.entry)
+        × (tree_child (seen a.entry) x.0 ≡ Some (seen x.1.0))
+        × (tree_child (seen b.entry) x.0 ≡ Some (seen x.1.1))) }
 {
     for k in 0..MOST_CHILDREN {
         let (inner, other) = (inner_at(a, k)?, inner_at(b, k)?);
