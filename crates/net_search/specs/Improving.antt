@@ -6,11 +6,14 @@ use Rattle.net_meaning.specs.TypedNetwork.{TypedNetwork}
 use Rattle.net_tree.specs.LawStep.{Step}
 use Rattle.cert_check.specs.Derives.{Steps}
 use Rattle.cert_check.specs.declared.derivation.TheConstants.{MOST_STEPS}
+use Rattle.net_search.specs.ReadBack.{IsReadBack}
 
--- at most 10,000 steps lead from t to a typed network, which is this one
+-- at most 10,000 steps lead from t to a typed network, which is this one, and their certificate is
+-- read back
 pub record Improved (t : TypedNetwork) (net : Network Expression) (steps : List Step) : Type 0
   where
     pub last : TypedNetwork
     pub ends : last.net ≡ net
     pub lead : Steps t steps last
     pub few : length steps ≤ MOST_STEPS
+    pub read_back : IsReadBack steps

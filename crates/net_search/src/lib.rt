@@ -22,7 +22,7 @@ mod certifying;
 mod draft;
 mod improving;
 mod laws;
-mod room;
+mod reading_back;
 mod undoing;
 mod ways;
 
@@ -30,4 +30,5 @@ pub use certifying::{Certified, certify};
 pub use draft::Draft;
 pub use improving::improve;
 pub use laws::{improved_laws, undo_laws};
+pub use net_certify::Difference;
 pub use undoing::undo;

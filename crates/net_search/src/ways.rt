@@ -1,6 +1,11 @@
 // The ways from a network to another that are tried. They are only proposed.
 
-use crate::improving::improve;
+ghost use Rattle.std.specs.Prelude.{◌≡◌, IfOk, IfSome, IsTrue, map};
+ghost use Rattle.net_tree.specs.LawStep.{step_of};
+ghost use Rattle.cert_check.specs.Derives.{Next};
+ghost use Rattle.net_search.specs.Certifying.{LeadTo};
+
+use crate::improving::{MOST_IMPROVING, improve_within};
 use crate::undoing::undo;
 use cert_check::{CheckFault, take_step};
 use expr_improve::Means;
@@ -38,25 +43,38 @@ const WAYS: [Looking; 4] = [
     Looking::Formed,
 ];
 
-/// The fewest steps found that lead from the source to the target; nothing where none were found. Not
-/// all is tried once some are.
+/// The fewest steps found that lead from the source to the target, where some were found. Not all is
+/// tried once some are. Adds how many nodes the searches visited.
 pub(crate) fn shortest(
     alloc: Global,
     source: &TypedNet,
     target: &TypedNet,
-) -> Result<Vec<LawStep>, Memory> {
-    let mut best: Vec<LawStep> = Vec::new(alloc);
+    nodes: &mut u64,
+) -> Result<Option<Vec<LawStep>>, Memory>
+    ensures { IfOk result (λ found. IfSome found
+        (λ steps. LeadTo source.now target.now (map step_of steps.items))) }
+{
+    let mut best: Option<Vec<LawStep>> = None;
     for way in WAYS {
-        if !best.is_empty() && (best.len() <= FEW || way == Looking::Formed) {
+        let most = most_steps(&best, way);
+        if most == 0 {
             break;
         }
-        let steps = steps_by(alloc, way, source, target)?;
-        let is_better = best.is_empty() || steps.len() < best.len();
-        if is_better && is_led(alloc, source, target, &steps)? {
-            best = steps;
+        let steps = steps_by(alloc, way, source, target, nodes)?;
+        if steps.len() < most && is_led(alloc, source, target, &steps)? {
+            best = Some(steps);
         }
     }
     Ok(best)
+}
+
+/// Fewer steps than so many are better than the best ones found; none where the way isn't tried.
+fn most_steps(best: &Option<Vec<LawStep>>, way: Looking) -> usize {
+    match best {
+        None => usize::MAX,
+        Some(steps) if steps.len() <= FEW || way == Looking::Formed => 0,
+        Some(steps) => steps.len(),
+    }
 }
 
 /// Whether the steps lead from the source to the target.
@@ -65,7 +83,10 @@ fn is_led(
     source: &TypedNet,
     target: &TypedNet,
     steps: &[LawStep],
-) -> Result<bool, Memory> {
+) -> Result<bool, Memory>
+    ensures { IfOk result
+        (λ b. IsTrue b → LeadTo source.now target.now (map step_of steps.now)) }
+{
     let mut reached = source.try_copy(alloc)?;
     for step in steps {
         if !is_taken(alloc, &mut reached, step)? {
@@ -76,7 +97,9 @@ fn is_led(
 }
 
 /// Takes the step, and tells whether it may be taken.
-fn is_taken(alloc: Global, net: &mut TypedNet, step: &LawStep) -> Result<bool, Memory> {
+fn is_taken(alloc: Global, net: &mut TypedNet, step: &LawStep) -> Result<bool, Memory>
+    ensures { IfOk result (λ b. IsTrue b → Next net.old (step_of step.now) net.new) }
+{
     match take_step(alloc, net, step, 1) {
         Ok(()) => Ok(true),
         Err(CheckFault::Memory) => Err(Memory),
@@ -90,14 +113,18 @@ fn steps_by(
     way: Looking,
     source: &TypedNet,
     target: &TypedNet,
+    nodes: &mut u64,
 ) -> Result<Vec<LawStep>, Memory> {
     let (there, back) = match way {
-        Looking::AtPlaces => at_places(alloc, source, target)?,
+        Looking::AtPlaces => at_places(alloc, source, target, nodes)?,
         Looking::Optimised => (optimised(alloc, source)?, optimised(alloc, target)?),
-        Looking::Improved => (improved(alloc, source)?, improved(alloc, target)?),
+        Looking::Improved => (
+            improved(alloc, source, nodes)?,
+            improved(alloc, target, nodes)?,
+        ),
         Looking::Formed => (
-            steps_of(formed(alloc, source)?),
-            steps_of(formed(alloc, target)?),
+            steps_of(formed(alloc, source, nodes)?),
+            steps_of(formed(alloc, target, nodes)?),
         ),
     };
     through(alloc, target, there, &back)
@@ -108,9 +135,12 @@ fn at_places(
     alloc: Global,
     source: &TypedNet,
     target: &TypedNet,
+    nodes: &mut u64,
 ) -> Result<(Vec<LawStep>, Vec<LawStep>), Memory> {
     let means = Means::new(alloc, MOST_WORK)?;
-    match ways_between(&means, source.net(), target.net())? {
+    let ways = ways_between(&means, source.net(), target.net())?;
+    add_spent(nodes, MOST_WORK, &means);
+    match ways {
         Some(ways) => {
             let Ways { there, back } = ways;
             Ok((there, back))
@@ -127,16 +157,25 @@ fn optimised(alloc: Global, net: &TypedNet) -> Result<Vec<LawStep>, Memory> {
 }
 
 /// The steps to what costs less.
-fn improved(alloc: Global, net: &TypedNet) -> Result<Vec<LawStep>, Memory> {
-    let (last, steps) = improve(alloc, net)?;
+fn improved(alloc: Global, net: &TypedNet, nodes: &mut u64) -> Result<Vec<LawStep>, Memory> {
+    let means = Means::new(alloc, MOST_IMPROVING)?;
+    let (last, steps) = improve_within(&means, net)?;
     drop(last);
+    add_spent(nodes, MOST_IMPROVING, &means);
     Ok(steps)
 }
 
 /// The network's normal form, as far as the search comes.
-pub(crate) fn formed(alloc: Global, net: &TypedNet) -> Result<Formed, Memory> {
+pub(crate) fn formed(alloc: Global, net: &TypedNet, nodes: &mut u64) -> Result<Formed, Memory> {
     let means = Means::new(alloc, MOST_WORK)?;
-    normal_form(&means, net.net(), 0)
+    let formed = normal_form(&means, net.net(), 0)?;
+    add_spent(nodes, MOST_WORK, &means);
+    Ok(formed)
+}
+
+/// Adds how many of so many nodes were visited.
+fn add_spent(nodes: &mut u64, most: u64, means: &Means) {
+    *nodes = nodes.saturating_add(most.saturating_sub(means.left()));
 }
 
 /// The steps to a normal form.
