@@ -120,14 +120,15 @@ pub const IMPROVE: HelpText<'static> = HelpText {
     more: "\
 It tries more laws than `optimise`, in both directions, and estimates the cost of a sample. It takes
 at most 10,000 steps. If it finds nothing cheaper, it prints the network as it is, and no step.
-`yampa check` accepts the certificate from NET to the network that is printed, if the files are
-within their limits: so both output the same on every stream. The result is meant to be faster, but
-that isn't promised.
+To have network and certificate of one run, print the certificate, and let `yampa apply` make the
+network of it, as below: then `yampa check` accepts it, so both networks output the same on every
+stream. The result is meant to be faster, but that isn't promised.
 
 Example: if the file `net` holds
 `yampa 1 input (Pair Int Int) (>>> (first (arr (add x 1))) (arr (fst x)))`,
 
-  $ yampa improve net
+  $ yampa improve --certificate net > steps
+  $ yampa apply net steps
   yampa 1
   input (Pair Int Int)
   (arr (add (fst x) 1))
@@ -268,10 +269,14 @@ pub const CERTIFY: HelpText<'static> = HelpText {
     does: "Looks for a certificate that leads from one network to another",
     more: "\
 It rewrites both networks until they are the same, in the end to a normal form. Then it prints the
-steps of SRC, and after them those of TGT undone, at most 10,000: `yampa check` accepts them from SRC
-to TGT, if the files are within their limits, so both output the same on every stream. If the normal
-forms differ, it prints the first position at which they do, `- ` and what SRC's has there, and `+ `
-and what TGT's has; both networks may still output the same.
+steps of SRC, and after them those of TGT undone: `yampa check` accepts them from SRC to TGT, so both
+output the same on every stream. If it finds none, both may still output the same. It prints
+
+  (at 0)                               the first position at which their normal forms differ,
+  - (sub x 1)                          what SRC's has there, and what TGT's has;
+  + (add x -1)
+  too long: 10120 steps, 902115 bytes  that there are steps, too many for a certificate or a file;
+  gave up: 15000000 nodes visited      or that it came to no normal form.
 
 Example: if the file `source` holds `yampa 1 input Int (>>> (arr (add x 1)) (arr (mul x 2)))`,
 and the file `target` holds `yampa 1 input Int (arr (then (add x 1) (mul x 2)))`,

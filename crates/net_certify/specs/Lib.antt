@@ -1,2 +1,2 @@
--- Certificates found.
-pub mod Certifying
+-- Where two networks differ.
+pub mod Difference

@@ -51,18 +51,18 @@ struct Former {
 
 /// A normal form, with the steps to it.
 #[derive(Drop)]
-pub(crate) struct Formed {
+pub struct Formed {
     /// The network.
-    pub(crate) net: NetChild<Expr>,
+    pub net: NetChild<Expr>,
     /// The steps.
-    pub(crate) steps: Vec<LawStep>,
+    pub steps: Vec<LawStep>,
     /// Whether it is the normal form, which nothing kept the search from.
-    pub(crate) is_done: bool,
+    pub is_done: bool,
 }
 
 /// The normal form of the network, where so many frozen networks are in scope, as far as the search
 /// comes. It is only proposed: types aren't looked at. `Memory` where a growth was refused.
-pub(crate) fn normal_form(means: &Means, net: &Net<Expr>, olds: u32) -> Result<Formed, Memory> {
+pub fn normal_form(means: &Means, net: &Net<Expr>, olds: u32) -> Result<Formed, Memory> {
     let mut former = Former::new(means, net, olds)?;
     former.perform_all()?;
     Ok(former.into_formed())

@@ -1,20 +1,19 @@
-//! Certificates found: steps from a network to another.
+//! Ways from two networks to a third, by steps of laws: they are only proposed.
 //!
-//!     let found = certify(alloc, &source, &target)?;
+//!     let ways = ways_between(&means, &first, &second)?;
+//!     let formed = normal_form(&means, &net, 0)?;
+//!     let difference = first_difference(alloc, &first, &second)?;
 //!
 //! The two are walked together from the root; what is the same in both is left alone, and where they
 //! differ steps are looked for that make it the same, at the smallest places first, by normal forms at
-//! last (`src/places.rt`). A draft takes what is found, and its end is compared with the target, so
-//! that derives the target (`CertifyAnswer`), whatever the search did. Of the search itself nothing is
-//! promised but that it ends, and it visits at most so many nodes.
+//! last (`src/places.rt`). Nothing is proved but that the search is safe and ends; it visits at most so
+//! many nodes (`Means`). Who takes the steps checks each again (`net_search`).
 //!
-//! First `specs/Certifying`, then `src/certifying.rt`, then `src/places.rt`, `src/forming.rt` and
-//! `src/table.rt`.
+//! First `src/places.rt`, then `src/forming.rt` and `src/table.rt`.
 #![tactic(auto)]
 
 mod alike;
 mod arr_forms;
-mod certifying;
 mod difference;
 mod forming;
 mod loop_forms;
@@ -23,6 +22,7 @@ mod places;
 mod segments;
 mod shaping;
 mod table;
-mod ways;
 
-pub use certifying::{Certified, certify};
+pub use difference::{Difference, first_difference};
+pub use forming::{Formed, normal_form};
+pub use places::{Ways, ways_between};

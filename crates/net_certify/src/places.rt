@@ -14,17 +14,17 @@ use sample_core::Memory;
 
 /// Two ways that meet.
 #[derive(Drop)]
-pub(crate) struct Ways {
+pub struct Ways {
     /// The steps from the one network.
-    pub(crate) there: Vec<LawStep>,
+    pub there: Vec<LawStep>,
     /// The steps from the other.
-    pub(crate) back: Vec<LawStep>,
+    pub back: Vec<LawStep>,
 }
 
 /// Steps from each of two networks to a third, where the search finds some. What both have at one
 /// place is left alone, and of what differs as little as serves is brought to a normal form. They are
 /// only proposed: types aren't looked at. `Memory` where a growth was refused.
-pub(crate) fn ways_between(
+pub fn ways_between(
     means: &Means,
     first: &Net<Expr>,
     second: &Net<Expr>,

@@ -9,7 +9,7 @@ use net_tree::{Members, Net, NetChild};
 pub const MOST_DEPTH: u32 = 1_000;
 
 /// What a network costs for a sample, in instructions, about.
-pub(crate) fn net_cost(net: &Net<Expr>) -> u64 {
+pub fn net_cost(net: &Net<Expr>) -> u64 {
     cost_to(net, MOST_DEPTH)
 }
 

@@ -11,7 +11,7 @@ use sample_core::Memory;
 
 /// Moves that make the network cost less, each as its steps. They are only proposed: types aren't
 /// looked at, and a move is made of what those before it leave. `Memory` where a growth was refused.
-pub(crate) fn improving_moves(means: &Means, net: &Net<Expr>) -> Result<Vec<Vec<LawStep>>, Memory> {
+pub fn improving_moves(means: &Means, net: &Net<Expr>) -> Result<Vec<Vec<LawStep>>, Memory> {
     let alloc = means.alloc;
     let mut sketch = Sketch::new(means, copied(alloc, net)?, 0, Clearing::ByCost)?;
     let mut tries = MOST_TRIES;
@@ -58,7 +58,7 @@ fn last_steps(
 }
 
 /// The steps of a move that was found, as it is made of this network; nothing where it doesn't fit.
-pub(crate) fn made_again(
+pub fn made_again(
     means: &Means,
     net: &Net<Expr>,
     moved: Vec<LawStep>,

@@ -1,5 +1,9 @@
 // A network that is rewritten, with the steps so far.
 
+ghost use Rattle.std.specs.Prelude.{◌≡◌, IfOk};
+ghost use Rattle.net_tree.specs.LawStep.{part_of};
+ghost use Rattle.net_syntax.specs.ChildParts.{seen};
+
 use crate::build::copied;
 use expr_improve::{Means, joined};
 use expr_laws::apply_expr;
@@ -316,11 +320,19 @@ fn depth_of(path: &[u32]) -> u32 {
     u32::try_from(path.len()).unwrap_or(MOST_HEIGHT)
 }
 
-/// A copy of the tree.
-pub fn copy_of(alloc: Global, tree: TreeRef<'_>) -> Result<Tree, Memory> {
+/// A copy of the tree. `Memory` only where a count of references is full.
+pub fn copy_of(alloc: Global, tree: TreeRef<'_>) -> Result<Tree, Memory>
+    ensures { IfOk result (λ copy. part_of copy ≡ seen tree.entry) }
+{
     match tree {
-        TreeRef::Net(net) => Ok(Tree::Net(net.try_copy(alloc)?)),
-        TreeRef::Expr(expr) => Ok(Tree::Expr(expr.try_copy(alloc)?)),
+        TreeRef::Net(net) => {
+            let net = net.try_copy(alloc)?;
+            Ok(Tree::Net(net))
+        }
+        TreeRef::Expr(expr) => {
+            let expr = expr.try_copy(alloc)?;
+            Ok(Tree::Expr(expr))
+        }
     }
 }
 

@@ -6,7 +6,7 @@
 //! No contract can speak of the host's files and streams, so `main` stays thin: it reads the
 //! words, asks `prepare` for the job, stores a closure for each expression of the network
 //! (`fill_table!`), runs it by `run_network`, and prints a refusal's line. It answers the exit
-//! status: 0, or that of the refusal, which is 1 where a text is printed before it. `tests/examples` tries it.
+//! status: that of the job, of the run, or of the refusal. `tests/examples` tries it.
 //!
 //! First this file; the host's files are `src/host.rt`, and `src/streams.rt` is standard input and
 //! the writer that holds lines back until more input is asked for.
@@ -43,9 +43,15 @@ fn main(rt: HostRuntime) -> ExitCode {
 /// Does what is to be done. Answers the exit status.
 fn perform(rt: &HostRuntime, job: &Job) -> u8 {
     match job {
-        Job::Print(text) => print(rt, text),
+        Job::Print(text) => match print(rt, text) {
+            Ok(()) => job.status(),
+            Err(status) => status,
+        },
         Job::Run(net) => run(rt, net),
-        Job::PrintAndRefuse { text, line } => print_and_refuse(rt, text, line),
+        Job::PrintAndRefuse { text, line } => match print(rt, text) {
+            Ok(()) => complain(rt, job.status(), line),
+            Err(status) => status,
+        },
     }
 }
 
@@ -157,23 +163,15 @@ fn end_run(rt: &HostRuntime, ended: &Result<RunReport, Refusal>) -> u8 {
     run_status(ended)
 }
 
-/// Prints the text on standard output. Answers the exit status.
-fn print(rt: &HostRuntime, text: &str) -> u8 {
+/// Prints the text on standard output. Where the host refuses it, says so, and answers the status.
+fn print(rt: &HostRuntime, text: &str) -> Result<(), u8> {
     let mut stdout = rt.stdout();
     match stdout
         .write_all(text.as_bytes())
         .and_then(|()| stdout.flush())
     {
-        Ok(()) => 0,
-        Err(_) => refuse_output(rt),
-    }
-}
-
-/// Prints the text on standard output, and then the line on standard error. Answers the exit status.
-fn print_and_refuse(rt: &HostRuntime, text: &str, line: &str) -> u8 {
-    match print(rt, text) {
-        0 => complain(rt, 1, line),
-        status => status,
+        Ok(()) => Ok(()),
+        Err(_) => Err(refuse_output(rt)),
     }
 }
 

@@ -1,5 +1,5 @@
 -- What the command `apply` prints is read back, and is derived.
-use Rattle.std.proofs.Common.{◌≡◌, ℕ, List, Option, Some, refl, sym, ap, ◌∙◌, subst}
+use Rattle.std.proofs.Common.{ℕ, List, Option, refl, sym, ap, ◌∙◌, subst}
 use Rattle.net_tree.specs.LawStep.{Step}
 use Rattle.net_meaning.specs.NetworkLimits.{WithinLimits}
 use Rattle.net_meaning.specs.TypedNetwork.{TypedNetwork}
@@ -16,7 +16,7 @@ typed_of : (known : Option (List ℕ)) (t : TypedNetwork) → IsTold known → I
 typed_of known t (bytes, e) n = let i : IsNetworkIn bytes t = subst (λ o. IsNetworkOf o t) e n in i.typed
 
 -- where no number is given, the steps that are to be taken are all of the certificate
-all_taken : (told : KnownFiles) (names : DerivationNames) (source : TypedNetwork) (steps : List Step) → IsLeading told (all_steps names) source steps
+pub all_taken : (told : KnownFiles) (names : DerivationNames) (source : TypedNetwork) (steps : List Step) → IsLeading told (all_steps names) source steps
     → AreStepsOf (told names.certificate) steps
 all_taken told names source steps lead =
     subst (AreStepsOf (told names.certificate)) (sym (lead.leading ∙ ap (λ o. first_steps o lead.all) lead.is_first)) lead.are_steps

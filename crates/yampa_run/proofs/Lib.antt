@@ -11,3 +11,5 @@ mod OptimisedFiles
 mod AppliedFiles
 mod Numbers
 mod Places
+mod CertifiedFiles
+mod ImprovedFiles

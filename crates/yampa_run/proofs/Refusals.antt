@@ -24,6 +24,7 @@ use Rattle.cert_check.proofs.OneAnswer.{one_answer}
 use Rattle.cert_check.proofs.Taken.{applied}
 use Rattle.cert_check.specs.declared.derivation.TheConstants.{MOST_STEPS}
 use Rattle.net_meaning.specs.NetworkLimits.{WithinLimits}
+use Rattle.net_search.specs.Certifying.{AreApart}
 use Rattle.net_view.specs.Listed.{IsThere}
 use Rattle.net_view.specs.Trace.{TraceAnswer, first_steps}
 use Rattle.yampa_run.specs.Words.{TellsFirst}
@@ -137,7 +138,7 @@ no_place_fails : (known at : Option (List ℕ)) (text : List ℕ) (refusal : Ref
     → HasNoPlace known at refusal → ⊥
 no_place_fails known at text Refused.Memory m k n f = m refl
 no_place_fails known at text (Refused.Line status line) m k n (no_place h) = h.0 n.place n.place_is
-no_place_fails known at text (Refused.Line status line) m k n (no_such_network h) = no_file R.Network known n.net (Refused.Line status line) m k n.network h
+no_place_fails known at text (Refused.Line status line) m k n (no_such_network p i h) = no_file R.Network known n.net (Refused.Line status line) m k n.network h
 no_place_fails known at text (Refused.Line status line) m k n (not_there net p i j h) =
     let x : net ≡ n.net = one_of_file known net n.net k i n.network in
     let y : p ≡ n.place = one_place at p n.place j n.place_is in
@@ -202,8 +203,8 @@ typed_of known t (bytes, e) n = let i : IsNetworkIn bytes t = subst (λ o. IsNet
 no_applied_fails : (told : KnownFiles) (names : LeadingNames) (job : Job) (refusal : Refusal) → refusal ≢ Refused.Memory → AreTold told (apply names)
     → TellsApplied told names job → IsNotApplied told names refusal → ⊥
 no_applied_fails told names job refusal m k n (no_number h) = no_number_fails names.first n.leading.first refusal m n.leading.is_first h
-no_applied_fails told names job refusal m k n (without_source h) = no_file R.Source (told names.source) n.source refusal m k.0 n.leading.is_source h
-no_applied_fails told names job refusal m k n (without_steps source i h) =
+no_applied_fails told names job refusal m k n (without_source first t h) = no_file R.Source (told names.source) n.source refusal m k.0 n.leading.is_source h
+no_applied_fails told names job refusal m k n (without_steps first t source i h) =
     no_certificate (told names.certificate) n.leading.all refusal m k.1 n.leading.are_steps h
 no_applied_fails told names job refusal m k n (not_applied source steps l h) =
     let x : source ≡ n.source = one_of_file (told names.source) source n.source k.0 l.is_source n.leading.is_source in
@@ -216,9 +217,9 @@ no_applied_fails told names job refusal m k n (not_applied source steps l h) =
 
 -- where something is told of a certificate, the input types are the same
 same_inputs : (source target : TypedNetwork) (job : Job) → IsCertified source target job → source.input ≡ target.input
-same_inputs source target (J.Print text) n = let d : Derives source target n.0 = n.1 in d.same_input
+same_inputs source target (J.Print text) n = n.derives.same_input
 same_inputs source target (J.Run t) n = absurd n
-same_inputs source target (J.PrintAndRefuse text line) n = n.0
+same_inputs source target (J.PrintAndRefuse text line) n = let a : AreApart source target = n.0 in a.same_input
 
 no_certified_fails : (told : KnownFiles) (from to : List ℕ) (job : Job) (refusal : Refusal) → refusal ≢ Refused.Memory → AreTold told (certify from to)
     → TellsCertified told from to job → IsNotCertified told from to refusal → ⊥

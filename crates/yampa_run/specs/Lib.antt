@@ -11,3 +11,5 @@ pub mod NetworkRun
 pub mod WholeRun
 pub mod OptimisedFiles
 pub mod AppliedFiles
+pub mod CertifiedFiles
+pub mod ImprovedFiles

@@ -26,7 +26,8 @@ use Rattle.cert_check.specs.declared.answer.CheckFault.{CheckFault}
 use Rattle.cert_check.specs.declared.answer.CheckFault.TheVariants as C
 use Rattle.cert_check.specs.declared.derivation.TheConstants.{MOST_STEPS}
 use Rattle.net_opt.specs.Optimising.{Optimised}
-use Rattle.net_improve.specs.Improving.{Improved}
+use Rattle.net_search.specs.Certifying.{AreApart, DifferAt, LeadTooLong}
+use Rattle.net_search.specs.Improving.{Improved}
 use Rattle.leaf_table.specs.declared.fault.TableFault.{TableFault}
 use Rattle.leaf_table.specs.declared.fault.TableFault.TheVariants as A
 use Rattle.command_line.specs.CommandLine.{DerivationNames, LeadingNames, RequestTree, types, run, outline, laws, optimise, improve, check as checks, run_checked, apply, certify, request_in, AsksHelp, AsksNothing}
@@ -259,11 +260,12 @@ IsNotThere net p (Refused.Line status line) = (IsThere net p → ⊥)
     × RefusesWith 1 (not_there_words p) (Refused.Line status line)
 IsNotThere net p Refused.Memory = ⊤
 
--- why the steps that may be taken aren't printed: the word is no position; or there is no network of
--- the file; or nothing stands at the position in it
+-- why the steps that may be taken aren't printed: the word is no position; or it is one, and there is
+-- no network of the file; or nothing stands at the position in it
 pub data HasNoPlace (told at : Option (List ℕ)) (refusal : Refusal) : Type 0 where
   no_place : IsNowhere at refusal → HasNoPlace told at refusal
-  no_network : HasNoNetwork R.Network told refusal → HasNoPlace told at refusal
+  no_network : (p : List ℕ) → TellsPlace at p → HasNoNetwork R.Network told refusal
+      → HasNoPlace told at refusal
   not_there : (net : TypedNetwork) (p : List ℕ) → IsNetworkOf told net → TellsPlace at p
       → IsNotThere net p refusal → HasNoPlace told at refusal
 
@@ -335,13 +337,15 @@ IsNoNumber (Some word) (Refused.Line status line) = (number_in word ≡ None)
 IsNoNumber None (Refused.Line status line) = ⊥
 IsNoNumber word Refused.Memory = ⊤
 
--- why nothing is printed of steps: the word is no number; or the first of the two files, in this
--- order, that is no network or has no steps; or the steps are refused
+-- why nothing is printed of steps: the word is no number; or it is one, and the first of the two
+-- files, in this order, is no network or has no steps; or the steps are refused
 pub data IsNotApplied (told : KnownFiles) (names : LeadingNames) (refusal : Refusal) : Type 0 where
   no_number : IsNoNumber names.first refusal → IsNotApplied told names refusal
-  without_source : HasNoNetwork R.Source (told names.source) refusal → IsNotApplied told names refusal
-  without_steps : (source : TypedNetwork) → IsNetworkOf (told names.source) source
-      → HasNoSteps (told names.certificate) refusal → IsNotApplied told names refusal
+  without_source : (first : Option ℕ) → TellsFirst names.first first
+      → HasNoNetwork R.Source (told names.source) refusal → IsNotApplied told names refusal
+  without_steps : (first : Option ℕ) → TellsFirst names.first first → (source : TypedNetwork)
+      → IsNetworkOf (told names.source) source → HasNoSteps (told names.certificate) refusal
+      → IsNotApplied told names refusal
   not_applied : (source : TypedNetwork) (steps : List Step) → IsLeading told names source steps
       → RefusesSteps source steps names.shows refusal → IsNotApplied told names refusal
 
@@ -351,24 +355,43 @@ pub record ArePair (told : KnownFiles) (from to : List ℕ) (source target : Typ
     pub is_source : IsNetworkOf (told from) source
     pub is_target : IsNetworkOf (told to) target
 
--- what is printed of two networks that have these trees at a position
+-- what is printed of two networks that have these trees at a position where they differ
 abbrev pub difference_lines : List ℕ → Tree Expression → Tree Expression → List ℕ
 difference_lines p first second = position_spelling p
     ++ (10 ∷ marked_line (codes "- ") first ++ marked_line (codes "+ ") second)
 
--- what is printed where no certificate is found: where two networks differ, or nothing
-pub data TellsNone (text : List ℕ) : Type 0 where
-  at_position : (p : List ℕ) (first second : Tree Expression)
-      → text ≡ difference_lines p first second → TellsNone text
-  nowhere : text ≡ [] → TellsNone text
+-- the line on a certificate of so many steps, in so many bytes, that would be over the limits
+abbrev pub too_long_line : ℕ → ℕ → List ℕ
+too_long_line count bytes = codes "too long: "
+    ++ (decimal count ++ (codes " steps, " ++ (decimal bytes ++ codes " bytes\n")))
 
--- the job is to print a certificate from the source to the target; or that none is found, where
--- their input types are the same
+-- the line on a search that gave up behind so many nodes
+abbrev pub gave_up_line : ℕ → List ℕ
+gave_up_line nodes = codes "gave up: " ++ (decimal nodes ++ codes " nodes visited\n")
+
+-- what is printed where no certificate is found: where two networks differ to which steps lead; how
+-- long the certificate would be; or after how much work the search gave up
+pub data TellsNone (source target : TypedNetwork) (text : List ℕ) : Type 0 where
+  at_position : (p : List ℕ) (first second : Tree Expression)
+      → DifferAt source target p first second → text ≡ difference_lines p first second
+      → TellsNone source target text
+  over_limits : (count bytes : ℕ) → LeadTooLong source target count bytes
+      → text ≡ too_long_line count bytes → TellsNone source target text
+  gave_up : (nodes : ℕ) → text ≡ gave_up_line nodes → TellsNone source target text
+
+-- the text is the certificate file of steps that derive the target from the source
+pub record PrintsCertificate (source target : TypedNetwork) (text : List ℕ) : Type 0 where
+  pub steps : List Step
+  pub derives : Derives source target steps
+  pub read_back : IsCertificate text steps
+  pub printed : text ≡ certificate_spelling steps
+
+-- the job is to print a certificate from the source to the target; or that none is found, and why,
+-- where they have one input type and are other networks
 abbrev pub IsCertified : TypedNetwork → TypedNetwork → Job → Type 0
-IsCertified source target (J.Print text) = (steps : List Step) × Derives source target steps
-    × (string_bytes text ≡ certificate_spelling steps)
-IsCertified source target (J.PrintAndRefuse text line) = (source.input ≡ target.input)
-    × TellsNone (string_bytes text) × (string_bytes line ≡ none_found_words)
+IsCertified source target (J.Print text) = PrintsCertificate source target (string_bytes text)
+IsCertified source target (J.PrintAndRefuse text line) = AreApart source target
+    × TellsNone source target (string_bytes text) × (string_bytes line ≡ none_found_words)
 IsCertified source target (J.Run t) = ⊥
 
 -- the job is that of the source and the target of two files

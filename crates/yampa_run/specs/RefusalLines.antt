@@ -11,6 +11,8 @@ use Rattle.net_types.specs.declared.fault.TypeFault.TheVariants as T
 use Rattle.cert_check.specs.declared.answer.CheckFault.{CheckFault}
 use Rattle.cert_check.specs.declared.answer.CheckFault.TheVariants as C
 use Rattle.yampa_run.specs.declared.fault.RunReport.{RunReport}
+use Rattle.yampa_run.specs.declared.preparation.Job.{Job}
+use Rattle.yampa_run.specs.declared.preparation.Job.TheVariants as J
 use Rattle.yampa_run.specs.declared.preparation.Refusal.{Refusal}
 use Rattle.yampa_run.specs.declared.preparation.Refusal.TheVariants as Refused
 use Rattle.yampa_run.specs.declared.refused.Role.{Role}
@@ -96,6 +98,11 @@ not_there_words P = place_words R.Network (codes "no position ") P
 -- the line where no certificate is found
 abbrev pub none_found_words : List ℕ
 none_found_words = line_on R.Certificate (codes "none found")
+
+-- the exit status of a job that is done: 1 where a line is printed behind its text
+abbrev pub job_status : Job → ℕ
+job_status (J.PrintAndRefuse text line) = 1
+job_status _ = 0
 
 -- the exit status of a refusal: its own, or 3 where memory was short
 abbrev pub refusal_status : Refusal → ℕ

@@ -5,12 +5,14 @@ ghost use Rattle.yampa_run.specs.Preparation.{NoNetworkLaw, OneRefusalLaw, OnlyM
 ghost use Rattle.yampa_run.specs.Headline.{SameOutputLaw, SameFrontLaw, WritesOutputLaw, HeadlineLaw};
 ghost use Rattle.yampa_run.specs.AppliedFiles.{AppliedFilesLaw};
 ghost use Rattle.yampa_run.specs.OptimisedFiles.{OptimisedFilesLaw};
+ghost use Rattle.yampa_run.specs.CertifiedFiles.{CertifiedFilesLaw};
+ghost use Rattle.yampa_run.specs.ImprovedFiles.{ImprovedFilesLaw};
 ghost use Rattle.yampa_run.specs.WholeRun.{WholeRunLaw};
 
-use cert_check::{applied_laws, derivation_laws};
+use cert_check::{applied_laws, derivation_laws, one_answer_laws};
 use net_opt::optimised_laws;
 use net_syntax::typing_laws;
-use net_text::printing_laws;
+use net_text::{certificate_laws, printing_laws};
 use sample_core::reading_laws;
 use stream_text::stream_laws;
 
@@ -71,6 +73,25 @@ pub fn optimised_file_laws()
 pub fn applied_file_laws()
     ensures { AppliedFilesLaw }
 {
+    printing_laws();
+    applied_laws();
+}
+
+/// What `certify` prints of a source and a target, put into a file: it derives the target from the
+/// source. So `prepare` refuses `check` and `run-checked` of the three for lack of memory alone.
+pub fn certified_file_laws()
+    ensures { CertifiedFilesLaw }
+{}
+
+/// What one run of `improve --certificate` prints of a source, put into a file, and what `apply`
+/// prints of both, put into a file, within the limits of files: that is the improved network, and the
+/// certificate derives it from the source. So `prepare` refuses `check` and `run-checked` of the three
+/// for lack of memory alone.
+pub fn improved_file_laws()
+    ensures { ImprovedFilesLaw }
+{
+    certificate_laws();
+    one_answer_laws();
     printing_laws();
     applied_laws();
 }

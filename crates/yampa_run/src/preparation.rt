@@ -2,7 +2,7 @@
 
 ghost use Rattle.std.specs.Prelude.{◌≡◌, ℕ, List, Err, IfErr, IfOk, Some, map};
 ghost use Rattle.command_line.specs.CommandLine.{ReadsWords, request_view};
-ghost use Rattle.yampa_run.specs.RefusalLines.{refusal_line, refusal_status};
+ghost use Rattle.yampa_run.specs.RefusalLines.{job_status, refusal_line, refusal_status};
 ghost use Rattle.yampa_run.specs.Preparation.{Fails, HasNoNetwork, IsRequested, IsNetworkIn, IsNetworkOf, IsRefusal, Meets, RefusesText, RefusesTypes, KnownFiles};
 
 use crate::applied::applied;
@@ -26,8 +26,21 @@ pub enum Job {
     Print(String),
     /// The network is to be run.
     Run(TypedNet),
-    /// The text is to be printed, and the line on standard error, with status 1.
+    /// The text is to be printed, and the line on standard error.
     PrintAndRefuse { text: String, line: String },
+}
+
+impl Job {
+    /// The exit status once it is done: 0, and 1 where a line is printed behind its text. That of a run
+    /// is `run_status`.
+    pub fn status(&self) -> u8
+        ensures { result ≡ job_status self.now }
+    {
+        match self {
+            Job::PrintAndRefuse { .. } => 1,
+            Job::Print(_) | Job::Run(_) => 0,
+        }
+    }
 }
 
 /// Why nothing is to be done, or a run stopped before the end of its stream.

@@ -3,12 +3,15 @@ use Rattle.command_line.specs.CommandLine.{leading_view}
 use Rattle.net_tree.specs.LawStep.{step_of}
 use Rattle.net_tree.specs.declared.law_step.LawStep.{LawStep}
 use Rattle.net_view.specs.Trace.{first_steps}
-use Rattle.yampa_run.specs.Preparation.{without_steps}
+use Rattle.yampa_run.specs.Preparation.{without_source, without_steps}
 use Rattle.yampa_run.proofs.Networks.{not_taken}
 use Rattle.yampa_run.proofs.applied.applied.Goals as goal
 
+pub returns-in-Err-load-clause-refused : goal.returns-in-Err-load-clause-refused
+returns-in-Err-load-clause-refused g c = without_source c.in-Ok.first c.in-Ok.ensures.first c.in-Err-load.ensures.refused
+
 pub returns-in-Err-load_steps-clause-refused : goal.returns-in-Err-load_steps-clause-refused
-returns-in-Err-load_steps-clause-refused g c = without_steps c.in-Ok-load.source c.in-Ok-load.ensures.network c.in-Err-load_steps.ensures.refused
+returns-in-Err-load_steps-clause-refused g c = without_steps c.in-Ok.first c.in-Ok.ensures.first c.in-Ok-load.source c.in-Ok-load.ensures.network c.in-Err-load_steps.ensures.refused
 
 pub returns-clause-refused : goal.returns-clause-refused
 returns-clause-refused g c =

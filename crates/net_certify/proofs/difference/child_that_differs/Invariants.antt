@@ -1,0 +1,7 @@
+use Rattle.net_syntax.specs.ChildParts.{seen}
+use Rattle.net_certify.specs.Difference.{SameBefore}
+use Rattle.net_certify.proofs.difference.child_that_differs.Given as goal
+
+-- the children so far are the same
+abbrev pub invariant-loop-k : goal.invariant-loop-k
+invariant-loop-k l = SameBefore l.k (seen l.a) (seen l.b)

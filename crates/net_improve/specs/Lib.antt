@@ -1,3 +1,0 @@
--- What an improved network is.
-pub mod Improving
-pub mod Laws

@@ -1,0 +1,112 @@
+// What the search for a faster network found, taken step by step.
+
+ghost use Rattle.std.specs.Prelude.{◌≡◌, IfOk, IsTrue, map};
+ghost use Rattle.net_tree.specs.NetworkView.{tree_of};
+ghost use Rattle.net_tree.specs.LawStep.{step_of};
+ghost use Rattle.net_search.specs.{Improving.Improved, ReadBack.IsReadBack};
+
+use crate::draft::Draft;
+use crate::reading_back::is_read_back;
+use expr_improve::Means;
+use leaf_core::Expr;
+use leaf_expr::MOST_LENGTH;
+use net_improve::{improving_moves, made_again, net_cost};
+use net_opt::optimise;
+use net_syntax::TypedNet;
+use net_text::{print_cert, printing_laws};
+use net_tree::{LawStep, Net};
+use sample_core::Memory;
+use std::alloc::Global;
+
+/// How many nodes the search visits.
+pub(crate) const MOST_IMPROVING: u64 = 10_000_000;
+
+/// What laws alone make of the source, meant to be faster, with the steps that lead there: at most
+/// 10,000, and their certificate is within the limits of files. Where the search finds nothing that
+/// costs less, what the optimiser makes of the source; where that costs no less either, the source
+/// and no step. `Memory` where a growth was refused.
+pub fn improve(alloc: Global, source: &TypedNet) -> Result<(Net<Expr>, Vec<LawStep>), Memory>
+    ensures { IfOk result
+        (λ answer. Improved source.now (tree_of answer.0) (map step_of answer.1.items)) }
+{
+    let means = Means::new(alloc, MOST_IMPROVING)?;
+    improve_within(&means, source)
+}
+
+/// The same, where the search has these means.
+pub(crate) fn improve_within(
+    means: &Means,
+    source: &TypedNet,
+) -> Result<(Net<Expr>, Vec<LawStep>), Memory>
+    ensures { IfOk result
+        (λ answer. Improved source.now (tree_of answer.0) (map step_of answer.1.items)) }
+{
+    let mut draft = Draft::new(means.alloc, source)?;
+    make_moves(means, &mut draft)?;
+    if is_better(means.alloc, &draft, source)? {
+        return answered(means.alloc, draft);
+    }
+    let mut draft = Draft::new(means.alloc, source)?;
+    let (net, steps) = optimise(means.alloc, source)?;
+    drop(net);
+    let _taken = draft.take_all(means.alloc, steps)?;
+    if is_better(means.alloc, &draft, source)? {
+        return answered(means.alloc, draft);
+    }
+    unchanged(means.alloc, source)
+}
+
+/// Whether the draft's network costs less than the source, and the certificate of its steps is within
+/// the limits of files.
+fn is_better(alloc: Global, draft: &Draft, source: &TypedNet) -> Result<bool, Memory>
+    ensures { IfOk result (λ b. IsTrue b → IsReadBack draft.now.steps) }
+{
+    if net_cost(draft.net().net()) < net_cost(source.net()) {
+        is_read_back(alloc, draft.steps())
+    } else {
+        Ok(false)
+    }
+}
+
+/// The draft's network and its steps.
+fn answered(alloc: Global, draft: Draft) -> Result<(Net<Expr>, Vec<LawStep>), Memory>
+    requires { IsReadBack draft.steps }
+    ensures { IfOk result
+        (λ answer. Improved draft.source (tree_of answer.0) (map step_of answer.1.items)) }
+{
+    let (typed, steps) = draft.into_parts();
+    let net = typed.net().try_copy(alloc)?;
+    Ok((net, steps))
+}
+
+/// The source, and no step.
+fn unchanged(alloc: Global, source: &TypedNet) -> Result<(Net<Expr>, Vec<LawStep>), Memory>
+    ensures { IfOk result
+        (λ answer. Improved source.now (tree_of answer.0) (map step_of answer.1.items)) }
+{
+    printing_laws();
+    let net = source.net().try_copy(alloc)?;
+    Ok((net, Vec::new(alloc)))
+}
+
+/// Makes the moves that the search finds, as far as a certificate has room for their steps, but for
+/// each of which a step may not be taken, or isn't within the limits of files.
+fn make_moves(means: &Means, draft: &mut Draft) -> Result<(), Memory>
+    ensures { draft.new.source ≡ draft.old.source }
+{
+    let moves = improving_moves(means, draft.net().net())?;
+    let mut bytes = 0usize;
+    for moved in moves {
+        if let Some(moved) = made_again(means, draft.net().net(), moved)? {
+            if !is_read_back(means.alloc, &moved)? {
+                continue;
+            }
+            bytes = bytes.saturating_add(print_cert(means.alloc, &moved)?.len());
+            if bytes > MOST_LENGTH {
+                return Ok(());
+            }
+            let _made = draft.take_all(means.alloc, moved)?;
+        }
+    }
+    Ok(())
+}

@@ -1,0 +1,216 @@
+// The ways from a network to another that are tried. They are only proposed.
+
+ghost use Rattle.std.specs.Prelude.{◌≡◌, IfOk, IfSome, IsTrue, map};
+ghost use Rattle.net_tree.specs.LawStep.{step_of};
+ghost use Rattle.cert_check.specs.Derives.{Next};
+ghost use Rattle.net_search.specs.Certifying.{LeadTo};
+
+use crate::improving::{MOST_IMPROVING, improve_within};
+use crate::undoing::undo;
+use cert_check::{CheckFault, take_step};
+use expr_improve::Means;
+use net_certify::{Formed, Ways, normal_form, ways_between};
+use net_opt::optimise;
+use net_syntax::TypedNet;
+use net_tree::{LawStep, same_net};
+use sample_core::Memory;
+use std::alloc::Global;
+
+/// How many nodes each of the searches visits.
+const MOST_WORK: u64 = 5_000_000;
+
+/// So few steps are taken as they are found.
+const FEW: usize = 60;
+
+/// How the way to another network is looked for.
+#[derive(Clone, Copy, PartialEq, Eq)]
+enum Looking {
+    /// At the places where they differ.
+    AtPlaces,
+    /// By what the optimiser makes of both.
+    Optimised,
+    /// By what costs less than both.
+    Improved,
+    /// By their normal forms.
+    Formed,
+}
+
+/// In this order.
+const WAYS: [Looking; 4] = [
+    Looking::AtPlaces,
+    Looking::Optimised,
+    Looking::Improved,
+    Looking::Formed,
+];
+
+/// The fewest steps found that lead from the source to the target, where some were found. Not all is
+/// tried once some are. Adds how many nodes the searches visited.
+pub(crate) fn shortest(
+    alloc: Global,
+    source: &TypedNet,
+    target: &TypedNet,
+    nodes: &mut u64,
+) -> Result<Option<Vec<LawStep>>, Memory>
+    ensures { IfOk result (λ found. IfSome found
+        (λ steps. LeadTo source.now target.now (map step_of steps.items))) }
+{
+    let mut best: Option<Vec<LawStep>> = None;
+    for way in WAYS {
+        let most = most_steps(&best, way);
+        if most == 0 {
+            break;
+        }
+        let steps = steps_by(alloc, way, source, target, nodes)?;
+        if steps.len() < most && is_led(alloc, source, target, &steps)? {
+            best = Some(steps);
+        }
+    }
+    Ok(best)
+}
+
+/// Fewer steps than so many are better than the best ones found; none where the way isn't tried.
+fn most_steps(best: &Option<Vec<LawStep>>, way: Looking) -> usize {
+    match best {
+        None => usize::MAX,
+        Some(steps) if steps.len() <= FEW || way == Looking::Formed => 0,
+        Some(steps) => steps.len(),
+    }
+}
+
+/// Whether the steps lead from the source to the target.
+fn is_led(
+    alloc: Global,
+    source: &TypedNet,
+    target: &TypedNet,
+    steps: &[LawStep],
+) -> Result<bool, Memory>
+    ensures { IfOk result
+        (λ b. IsTrue b → LeadTo source.now target.now (map step_of steps.now)) }
+{
+    let mut reached = source.try_copy(alloc)?;
+    for step in steps {
+        if !is_taken(alloc, &mut reached, step)? {
+            return Ok(false);
+        }
+    }
+    Ok(same_net(reached.net(), target.net()))
+}
+
+/// Takes the step, and tells whether it may be taken.
+fn is_taken(alloc: Global, net: &mut TypedNet, step: &LawStep) -> Result<bool, Memory>
+    ensures { IfOk result (λ b. IsTrue b → Next net.old (step_of step.now) net.new) }
+{
+    match take_step(alloc, net, step, 1) {
+        Ok(()) => Ok(true),
+        Err(CheckFault::Memory) => Err(Memory),
+        Err(_) => Ok(false),
+    }
+}
+
+/// Steps that may lead from the source to the target.
+fn steps_by(
+    alloc: Global,
+    way: Looking,
+    source: &TypedNet,
+    target: &TypedNet,
+    nodes: &mut u64,
+) -> Result<Vec<LawStep>, Memory> {
+    let (there, back) = match way {
+        Looking::AtPlaces => at_places(alloc, source, target, nodes)?,
+        Looking::Optimised => (optimised(alloc, source)?, optimised(alloc, target)?),
+        Looking::Improved => (
+            improved(alloc, source, nodes)?,
+            improved(alloc, target, nodes)?,
+        ),
+        Looking::Formed => (
+            steps_of(formed(alloc, source, nodes)?),
+            steps_of(formed(alloc, target, nodes)?),
+        ),
+    };
+    through(alloc, target, there, &back)
+}
+
+/// The steps to where two networks are one, at the places where they differ.
+fn at_places(
+    alloc: Global,
+    source: &TypedNet,
+    target: &TypedNet,
+    nodes: &mut u64,
+) -> Result<(Vec<LawStep>, Vec<LawStep>), Memory> {
+    let means = Means::new(alloc, MOST_WORK)?;
+    let ways = ways_between(&means, source.net(), target.net())?;
+    add_spent(nodes, MOST_WORK, &means);
+    match ways {
+        Some(ways) => {
+            let Ways { there, back } = ways;
+            Ok((there, back))
+        }
+        None => Ok((Vec::new(alloc), Vec::new(alloc))),
+    }
+}
+
+/// The steps of the optimiser.
+fn optimised(alloc: Global, net: &TypedNet) -> Result<Vec<LawStep>, Memory> {
+    let (last, steps) = optimise(alloc, net)?;
+    drop(last);
+    Ok(steps)
+}
+
+/// The steps to what costs less.
+fn improved(alloc: Global, net: &TypedNet, nodes: &mut u64) -> Result<Vec<LawStep>, Memory> {
+    let means = Means::new(alloc, MOST_IMPROVING)?;
+    let (last, steps) = improve_within(&means, net)?;
+    drop(last);
+    add_spent(nodes, MOST_IMPROVING, &means);
+    Ok(steps)
+}
+
+/// The network's normal form, as far as the search comes.
+pub(crate) fn formed(alloc: Global, net: &TypedNet, nodes: &mut u64) -> Result<Formed, Memory> {
+    let means = Means::new(alloc, MOST_WORK)?;
+    let formed = normal_form(&means, net.net(), 0)?;
+    add_spent(nodes, MOST_WORK, &means);
+    Ok(formed)
+}
+
+/// Adds how many of so many nodes were visited.
+fn add_spent(nodes: &mut u64, most: u64, means: &Means) {
+    *nodes = nodes.saturating_add(most.saturating_sub(means.left()));
+}
+
+/// The steps to a normal form.
+pub(crate) fn steps_of(formed: Formed) -> Vec<LawStep> {
+    let Formed { net, steps, .. } = formed;
+    drop(net);
+    steps
+}
+
+/// The steps there, and then those back undone, which were taken from the target on.
+fn through(
+    alloc: Global,
+    target: &TypedNet,
+    there: Vec<LawStep>,
+    back: &[LawStep],
+) -> Result<Vec<LawStep>, Memory> {
+    let mut steps = there;
+    let mut undone = undone_steps(alloc, target, back)?;
+    steps.append(&mut undone)?;
+    Ok(steps)
+}
+
+/// The steps that undo these, which were taken from the network on, last first; nothing where one
+/// may not be taken.
+fn undone_steps(alloc: Global, net: &TypedNet, steps: &[LawStep]) -> Result<Vec<LawStep>, Memory> {
+    let mut reached = net.try_copy(alloc)?;
+    let mut undone = Vec::new(alloc);
+    for step in steps {
+        if let Some(back) = undo(alloc, &reached, step)? {
+            undone.push(back)?;
+        }
+        if !is_taken(alloc, &mut reached, step)? {
+            return Ok(Vec::new(alloc));
+        }
+    }
+    undone.reverse();
+    Ok(undone)
+}
