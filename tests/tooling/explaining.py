@@ -73,6 +73,10 @@ NETWORK_MISTAKES = [
     (NUMBERS + "(arr (equal x true))", "the parts of equal have one type; x is an Int, but true is a Bool"),
     (NUMBERS + "(parB)", "parB takes 1 to 64 members; here are 0"),
     (NUMBERS + "(second time)", "second takes a pair, but gets an Int"),
+    (NUMBERS + f"(arr (list Int {'5 ' * 9_999}true))", "each element of this list is an Int, but true is a Bool"),
+    ("yampa 2 input (Pair Int (Event Int)) (rpSwitchB (col) (pair (list Int) (list Int)) time)", "rpSwitchB takes 1 to 64 members; here are 0"),
+    ("yampa 2 input Int (rpSwitchB (col) (pair (list Int) (list Int)) time)", "rpSwitchB takes 1 to 64 members; here are 0"),
+    (NUMBERS + "(pSwitch x (col) time time)", "pSwitch takes 1 to 64 members; here are 0"),
     (NUMBERS + "(arr (list Int 1 true))", "each element of this list is an Int, but true is a Bool"),
     ("yampa 1\ninput Bool\nintegral", "integral takes an Int, but gets a Bool"),
     ("yampa 1\ninput (List Int)\n(arr (nth x 0 true))", "the last part of nth is what it gives outside of the list"),
@@ -219,6 +223,8 @@ def faults_are_explained():
     cases += [(("explain", "--line", line, "net"), {"net": NUMBERS + "(arr x)"}, wanted) for line, wanted in OTHER_LINES.items()]
     for (words, _, wanted), told in each(lambda case: in_folder(case[0], **case[1]), cases):
         told_as(f"{' '.join(words)} {wanted}", told, wanted)
+    right = [TOP / "examples/boiler" / name for name in ("net", "fast", "certificate")]
+    told_as("another line", tool("explain", "--line", "certificate: no match at step 3", *right), "is this the line of another file?")
     told_as("no such file", in_folder(("explain", "nofile")), "nofile: no such file", 3)
     told_as("a folder", in_folder(("explain", ".")), "this is a folder", 3)
     laws_are_the_pages()

@@ -7,17 +7,46 @@ members of one, make one file, of which `outline` tells the types.
 import re
 
 from model.texts import network_text
-from model.trees import SWAP, at, head
+from model.trees import SWAP, at, head, shown
 from workbench.outline import SWITCHES, rows_of
 from workbench.program import call, kept
 
 MEMBERS = 64
+# What one file asks at most, that is within its limits.
+MOST_BYTES = 500_000
 
 
 def asked(file, questions, base=()):
     """The type that the program tells for each question, a position and the part that stands there in its place, up to the first
     part that it refuses; or None where it tells nothing, since the file that it is asked with is over a limit. All positions are
     that of the base, or below it."""
+    types = []
+    for part in together(questions):
+        found = asked_at_once(file, part, base)
+        if found is None:
+            return None
+        types += found
+        if len(found) < len(part):
+            break
+    return types
+
+
+def together(questions):
+    """The questions, as many together as one file can ask."""
+    part, size = [], 0
+    for question in questions:
+        length = len(shown(question[1]))
+        if part and (len(part) == MEMBERS**2 or size + length > MOST_BYTES):
+            yield part
+            part, size = [], 0
+        part.append(question)
+        size += length
+    if part:
+        yield part
+
+
+def asked_at_once(file, questions, base):
+    """The same of questions that one file asks."""
     if not questions:
         return []
     nets, places = zip(*[cut(at(file.tree, base), position[len(base) :], part) for position, part in questions])
@@ -27,7 +56,7 @@ def asked(file, questions, base=()):
         told = call(["outline", name])
     if told.status:
         number = refused_number(told.fault(), before)
-        return None if number is None else asked(file, questions[:number], base)
+        return None if number is None else asked_at_once(file, questions[:number], base)
     rows = rows_of(told.output)
     return [rows[(*before, number // MEMBERS, 0, number % MEMBERS, 0, *place)].type for number, place in enumerate(places)]
 
@@ -104,7 +133,7 @@ def in_switch(whole, number, part):
         case ("rpSwitchB", (_, *nets), choice, _), _ if number == len(nets):
             return at_event(("snd", "x"), ("snd", "x"), part)
         case ("rpSwitchB", (_, *nets) as started, choice, _), _ if number > len(nets):
-            return ("rpSwitchB", started, choice, beside(part, nets[0])), (number, *BESIDE)
+            return ("rpSwitchB", started, choice, beside(part, nets[0] if nets else part)), (number, *BESIDE)
     return (">>>", ("arr", ("fst", "x")), part), (1,)
 
 

@@ -49,10 +49,8 @@ def explained(line: str, files: Files, stream) -> Told:
     if fault == "cannot be read":
         return unread(name)
     told = of_text(role, files)
-    if told is None and role == "certificate":
-        return of_steps(fault, files)
     if told is None:
-        told = of_network(files.program(role), fault)
+        told = of_steps(fault, files) if role == "certificate" else of_network(files.program(role), fault)
     return told or Told(line, name, notes=["the file is right as it stands here: is this the line of another file?"])
 
 

@@ -151,10 +151,10 @@ def walked(tree, position):
 def up_to(tree, number, part):
     """An expression that is typed where the part is and fits to those before it."""
     word = head(tree)
+    if word == "list":
+        return (*tree[:2], part)
     if number == len(children(tree)) - 1:
         return tree
-    if word == "list":
-        return tree[: number + 3]
     if word in ("add", "sub", "mul", "less") or (word, number) == ("nth", 1):
         return ("neg", part)
     if word in ("and", "or") or (word, number) == ("if", 0):

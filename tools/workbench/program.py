@@ -111,8 +111,9 @@ def kept(text):
 
 
 def again(name, reading=read):
-    """A name under which the file can be read more than once: of a pipe that of a copy, of a network with names that of what it means."""
-    if os.path.isfile(name):
+    """A name under which the file can be read more than once, by the program too: of a pipe, and of a number under which a file is open
+    here alone, that of a copy; of a network with names that of what it means."""
+    if os.path.isfile(name) and not name.startswith(("/dev/", "/proc/")):
         return network_path(name, name)
     stack = contextlib.ExitStack()
     atexit.register(stack.close)

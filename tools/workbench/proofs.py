@@ -37,8 +37,8 @@ of its input and its output, and what helps to prove that; then each guarantee h
   guarantee safe (arr (not (and (green (snd x)) (walk (snd x)))))
 
 Recordings are searched from the first sample on, with small numbers and with all; a proof is sought by
-induction, with guessed invariants, and over integers of which none leaves 64 bits. A recording that is
-found is run by the program, and made as short and simple as possible.
+induction with guessed invariants, over numbers that wrap and over integers of which none leaves 64 bits, and
+by z3's Spacer. A recording that is found is run by the program, and made as short and simple as possible.
 
 Assume what is true of the world, such as a speed from 0 to 300: else the recording that is found has a
 speed of 2^63 - 1. An assumption is an observer of the input."""

@@ -233,7 +233,7 @@ module _ (val : Expr → List Datum → Datum → Datum) (D : Code) where
         let d : Code = emit f n ps c in
         let id : Begins d D = before d _ i in
         let hf : (g : Given) → Below (counter_of val d (latest d) g) (weight f ws) = at-most-earlier d (latest d) _ id (latest_below f n ps c) (calls f n ps ws c w id) in
-        node-calls d _ _ i (λ g s x. zero-and _ _ (zero-and _ _ (zero-and _ _ (zero-and _ _ (and-none _ _ (hf _ _ _))))))
+        node-calls d _ _ i (λ g s x. zero-and _ _ (zero-and _ _ (zero-and _ _ (and-none _ _ (hf _ _ _)))))
     calls (i_pre e) n ps ws c w i = node-calls c _ 0 i (λ g s x. none _)
     calls (delay q e) n ps ws c w i = node-calls c _ 0 i (λ g s x. none _)
     calls (hold e) n ps ws c w i = node-calls c _ 0 i (λ g s x. none _)

@@ -10,7 +10,12 @@ use Rattle.net_machine.specs.Machine.{Scope, push_param, push_olds, machine, mac
 use Rattle.net_machine.proofs.Typed.{stream_law}
 use Rattle.net_code.specs.Running.{nothing_given}
 use Rattle.net_code.specs.CodeOf.{code_of}
-use Rattle.net_code.specs.CodeLaw.{value_in, CodeMachineLaw, CodeLaw}
+use Rattle.leaf_core.specs.ExpressionView.{expression_of}
+use Rattle.leaf_code.proofs.Values.{leaf-value}
+use Rattle.sample_core.specs.TypeTree.{TypeTree}
+use Rattle.leaf_core.specs.declared.expr.Expr.{Expr}
+use Rattle.net_code.specs.Running.{run_code}
+use Rattle.net_code.specs.CodeLaw.{value_in, leaf_in, CodeMachineLaw, CodeLaw, LeafCodeLaw}
 use Rattle.net_code.proofs.Codes.{no_place, code_is}
 
 -- the machine of a network with other leaves
@@ -62,3 +67,10 @@ machine_law net s xs =
 
 pub code_law : CodeLaw
 code_law net A B h s xs = machine_law net s xs ∙ stream_law (tree net) A B h s xs
+
+-- the code of an expression computes its value
+leaf_is : (types : Expr → List TypeTree × TypeTree) → leaf_in types ≡ value_in
+leaf_is types = fun_ext (λ e. fun_ext (λ ps. fun_ext (λ x. leaf-value ps x (types e).0 (types e).1 (expression_of e))))
+
+pub leaf_code_law : LeafCodeLaw
+leaf_code_law types net A B h s xs = ap (λ val. run_code val (code_of net) s xs) (leaf_is types) ∙ code_law net A B h s xs

@@ -51,13 +51,12 @@ par_body fs = member_rows fs ++ answer (A.Each P.Whole 0) ∷ []
 abbrev pub loop_body : Expr → ℕ → Body
 loop_body c f =
     S.Set (A.Constant c)
-    ∷ S.Set A.Fed
-    ∷ S.Set (A.FirstOr 1 2)
-    ∷ S.Set (A.Pair 0 3)
-    ∷ S.Set (A.Call f C.Same P.Looped W.Now 4)
-    ∷ S.Set (A.Right 5)
-    ∷ S.Do (E.Feed 6)
-    ∷ answer (A.Left 5)
+    ∷ S.Set (A.FedOr 1)
+    ∷ S.Set (A.Pair 0 2)
+    ∷ S.Set (A.Call f C.Same P.Looped W.Now 3)
+    ∷ S.Set (A.Right 4)
+    ∷ S.Do (E.Feed 5)
+    ∷ answer (A.Left 4)
     ∷ []
 
 -- a cell with a constant

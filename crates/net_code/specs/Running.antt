@@ -229,7 +229,7 @@ module _ (val : Expr → List Datum → Datum → Datum) (F : ℕ → Linked) (g
   act (A.Beside k) l = (l.store, beside_in (register l k))
   act (A.Pair j k) l = (l.store, pair (register l j) (register l k))
   act (A.FirstOr j k) l = (l.store, first_or l.now (register l j) (register l k))
-  act A.Fed l = (l.store, fed_value l.store)
+  act (A.FedOr j) l = (l.store, first_or l.now (register l j) (fed_value l.store))
   act (A.Call j c p w k) l =
       on_part (F j (scope_for c g l.store)) p l.store (moment_for w l.now, register l k)
   act (A.GoesOn f t k) l = going f t l.store (l.now, register l k) (mode_of l.store)

@@ -1,4 +1,4 @@
-// The function of each form of network.
+// The rows of each function.
 
 ghost use Rattle.std.specs.Prelude.{◌≡◌, ◌++◌, IfOk};
 ghost use Rattle.net_code.specs.Bodies.{
@@ -23,6 +23,7 @@ ghost use Rattle.net_code.specs.Bodies.{
   switch_body,
 };
 ghost use Rattle.net_tree.specs.Network.{at_once, delayed};
+ghost use Rattle.net_code.specs.CodeView.{rows_of};
 
 use crate::statement::{Action, Effect, Function, Guard, Part, Scope, Statement, When};
 use cell_core::Form;
@@ -30,98 +31,126 @@ use leaf_core::Expr;
 use sample_core::Memory;
 use std::alloc::Global;
 
+impl Function {
+    /// The function's rows, in order. `Memory` where a growth was refused.
+    pub fn rows(&self, alloc: Global) -> Result<Vec<Statement>, Memory>
+        ensures { IfOk result (λ rows. rows.items ≡ rows_of self.now) }
+    {
+        match self {
+            Function::Arr(e) => arr_rows(alloc, e),
+            Function::Seq(f, g) => seq_rows(alloc, *f, *g),
+            Function::First(f) => first_rows(alloc, *f),
+            Function::Par(fs) => par_rows(alloc, fs.as_slice()),
+            Function::Loop(c, f) => loop_rows(alloc, c, *f),
+            Function::Cell(form, c) => cell_rows(alloc, *form, c),
+            Function::Clock(form) => clock_rows(alloc, *form),
+            Function::Accum(g, z) => accum_rows(alloc, g, z),
+            Function::Switch(f, t) => switch_rows(alloc, *f, *t),
+            Function::DSwitch(f, t) => late_switch_rows(alloc, *f, *t),
+            Function::RSwitch(f, t) => restart_rows(alloc, *f, *t),
+            Function::DrSwitch(f, t) => late_restart_rows(alloc, *f, *t),
+            Function::KSwitch(f, e, t) => k_switch_rows(alloc, *f, *e, *t),
+            Function::PSwitch(r, fs, e, t) => p_switch_rows(alloc, r, fs.as_slice(), *e, *t),
+            Function::Old(k, f, params, olds) => old_rows(alloc, *k, *f, *params, *olds),
+            Function::Same => same_rows(alloc),
+            Function::InitialOut(c, f) => out_rows(alloc, c, *f),
+            Function::InitialIn(c, f) => in_rows(alloc, c, *f),
+            Function::Collection(fs, m, t) => collection_rows(alloc, fs.as_slice(), m, *t),
+        }
+    }
+}
+
 /// `arr`.
-pub(crate) fn arr_function(alloc: Global, e: &Expr) -> Result<Function, Memory>
-    ensures { IfOk result (λ b. b.statements.items ≡ arr_body e.now) }
+fn arr_rows(alloc: Global, e: &Expr) -> Result<Vec<Statement>, Memory>
+    ensures { IfOk result (λ rows. rows.items ≡ arr_body e.now) }
 {
     let e = e.try_copy(alloc)?;
-    let statements = vec![in alloc; Statement::Exit(Guard::Always, Action::Leaf(e, 0))]?;
-    Ok(Function { statements })
+    let rows = vec![in alloc; Statement::Exit(Guard::Always, Action::Leaf(e, 0))]?;
+    Ok(rows)
 }
 
 /// `>>>` of functions f and g.
-pub(crate) fn seq_function(alloc: Global, f: usize, g: usize) -> Result<Function, Memory>
-    ensures { IfOk result (λ b. b.statements.items ≡ seq_body f g) }
+fn seq_rows(alloc: Global, f: usize, g: usize) -> Result<Vec<Statement>, Memory>
+    ensures { IfOk result (λ rows. rows.items ≡ seq_body f g) }
 {
-    let statements = vec![in alloc;
+    let rows = vec![in alloc;
         Statement::Set(Action::Call(f, Scope::Same, Part::One, When::Now, 0)),
         Statement::Exit(
             Guard::Always,
             Action::Call(g, Scope::Same, Part::Other, When::Now, 1)
         ),
     ]?;
-    Ok(Function { statements })
+    Ok(rows)
 }
 
 /// `loopPre`.
-pub(crate) fn loop_function(alloc: Global, c: &Expr, f: usize) -> Result<Function, Memory>
-    ensures { IfOk result (λ b. b.statements.items ≡ loop_body c.now f) }
+fn loop_rows(alloc: Global, c: &Expr, f: usize) -> Result<Vec<Statement>, Memory>
+    ensures { IfOk result (λ rows. rows.items ≡ loop_body c.now f) }
 {
     let c = c.try_copy(alloc)?;
-    let statements = vec![in alloc;
+    let rows = vec![in alloc;
         Statement::Set(Action::Constant(c)),
-        Statement::Set(Action::Fed),
-        Statement::Set(Action::FirstOr(1, 2)),
-        Statement::Set(Action::Pair(0, 3)),
-        Statement::Set(Action::Call(f, Scope::Same, Part::Looped, When::Now, 4)),
-        Statement::Set(Action::Right(5)),
-        Statement::Do(Effect::Feed(6)),
-        Statement::Exit(Guard::Always, Action::Left(5)),
+        Statement::Set(Action::FedOr(1)),
+        Statement::Set(Action::Pair(0, 2)),
+        Statement::Set(Action::Call(f, Scope::Same, Part::Looped, When::Now, 3)),
+        Statement::Set(Action::Right(4)),
+        Statement::Do(Effect::Feed(5)),
+        Statement::Exit(Guard::Always, Action::Left(4)),
     ]?;
-    Ok(Function { statements })
+    Ok(rows)
 }
 
 /// `first`.
-pub(crate) fn first_function(alloc: Global, f: usize) -> Result<Function, Memory>
-    ensures { IfOk result (λ b. b.statements.items ≡ first_body f) }
+fn first_rows(alloc: Global, f: usize) -> Result<Vec<Statement>, Memory>
+    ensures { IfOk result (λ rows. rows.items ≡ first_body f) }
 {
-    let statements = vec![in alloc;
+    let rows = vec![in alloc;
         Statement::Set(Action::Left(0)),
         Statement::Set(Action::Call(f, Scope::Same, Part::Whole, When::Now, 1)),
         Statement::Set(Action::Right(0)),
         Statement::Exit(Guard::Always, Action::Pair(2, 3)),
     ]?;
-    Ok(Function { statements })
+    Ok(rows)
 }
 
 /// A cell with a constant.
-pub(crate) fn cell_function(alloc: Global, form: Form, c: &Expr) -> Result<Function, Memory>
-    ensures { IfOk result (λ b. b.statements.items ≡ cell_body form c.now) }
+fn cell_rows(alloc: Global, form: Form, c: &Expr) -> Result<Vec<Statement>, Memory>
+    ensures { IfOk result (λ rows. rows.items ≡ cell_body form c.now) }
 {
     let c = c.try_copy(alloc)?;
-    let statements = vec![in alloc;
+    let rows = vec![in alloc;
         Statement::Set(Action::Constant(c)),
         Statement::Exit(Guard::Always, Action::Cell(form, 1, 0)),
     ]?;
-    Ok(Function { statements })
+    Ok(rows)
 }
 
 /// A cell without one.
-pub(crate) fn clock_function(alloc: Global, form: Form) -> Result<Function, Memory>
-    ensures { IfOk result (λ b. b.statements.items ≡ clock_body form) }
+fn clock_rows(alloc: Global, form: Form) -> Result<Vec<Statement>, Memory>
+    ensures { IfOk result (λ rows. rows.items ≡ clock_body form) }
 {
-    let statements = vec![in alloc; Statement::Exit(Guard::Always, Action::Cell(form, 0, 0))]?;
-    Ok(Function { statements })
+    let rows = vec![in alloc; Statement::Exit(Guard::Always, Action::Cell(form, 0, 0))]?;
+    Ok(rows)
 }
 
 /// `accumBy`.
-pub(crate) fn accum_function(alloc: Global, next: &Expr, first: &Expr) -> Result<Function, Memory>
-    ensures { IfOk result (λ b. b.statements.items ≡ accum_body next.now first.now) }
+fn accum_rows(alloc: Global, next: &Expr, first: &Expr) -> Result<Vec<Statement>, Memory>
+    ensures { IfOk result (λ rows. rows.items ≡ accum_body next.now first.now) }
 {
     let first = first.try_copy(alloc)?;
     let next = next.try_copy(alloc)?;
-    let statements = vec![in alloc;
+    let rows = vec![in alloc;
         Statement::Set(Action::Constant(first)),
         Statement::Exit(Guard::Always, Action::Accumulate(next, 1, 0)),
     ]?;
-    Ok(Function { statements })
+    Ok(rows)
 }
 
 /// `switch`.
-pub(crate) fn switch_function(alloc: Global, f: usize, t: usize) -> Result<Function, Memory>
-    ensures { IfOk result (λ b. b.statements.items ≡ switch_body at_once f t) }
+fn switch_rows(alloc: Global, f: usize, t: usize) -> Result<Vec<Statement>, Memory>
+    ensures { IfOk result (λ rows. rows.items ≡ switch_body at_once f t) }
 {
-    let statements = vec![in alloc;
+    let rows = vec![in alloc;
         Statement::Do(Effect::Clear),
         Statement::Exit(
             Guard::Taken,
@@ -137,14 +166,14 @@ pub(crate) fn switch_function(alloc: Global, f: usize, t: usize) -> Result<Funct
             Action::Call(t, Scope::Value, Part::Taker, When::Start, 0)
         ),
     ]?;
-    Ok(Function { statements })
+    Ok(rows)
 }
 
 /// `dSwitch`.
-pub(crate) fn late_switch_function(alloc: Global, f: usize, t: usize) -> Result<Function, Memory>
-    ensures { IfOk result (λ b. b.statements.items ≡ switch_body delayed f t) }
+fn late_switch_rows(alloc: Global, f: usize, t: usize) -> Result<Vec<Statement>, Memory>
+    ensures { IfOk result (λ rows. rows.items ≡ switch_body delayed f t) }
 {
-    let statements = vec![in alloc;
+    let rows = vec![in alloc;
         Statement::Do(Effect::Clear),
         Statement::Exit(
             Guard::Taken,
@@ -158,14 +187,14 @@ pub(crate) fn late_switch_function(alloc: Global, f: usize, t: usize) -> Result<
         Statement::Set(Action::Call(t, Scope::Value, Part::Taker, When::Start, 0)),
         Statement::Exit(Guard::Always, Action::Register(2)),
     ]?;
-    Ok(Function { statements })
+    Ok(rows)
 }
 
 /// `rSwitch`.
-pub(crate) fn restart_function(alloc: Global, f: usize, t: usize) -> Result<Function, Memory>
-    ensures { IfOk result (λ b. b.statements.items ≡ r_switch_body at_once f t) }
+fn restart_rows(alloc: Global, f: usize, t: usize) -> Result<Vec<Statement>, Memory>
+    ensures { IfOk result (λ rows. rows.items ≡ r_switch_body at_once f t) }
 {
-    let statements = vec![in alloc;
+    let rows = vec![in alloc;
         Statement::Do(Effect::Clear),
         Statement::Set(Action::Left(0)),
         Statement::Set(Action::Beside(0)),
@@ -176,14 +205,14 @@ pub(crate) fn restart_function(alloc: Global, f: usize, t: usize) -> Result<Func
             Action::Call(t, Scope::Value, Part::Taker, When::Start, 1)
         ),
     ]?;
-    Ok(Function { statements })
+    Ok(rows)
 }
 
 /// `drSwitch`.
-pub(crate) fn late_restart_function(alloc: Global, f: usize, t: usize) -> Result<Function, Memory>
-    ensures { IfOk result (λ b. b.statements.items ≡ r_switch_body delayed f t) }
+fn late_restart_rows(alloc: Global, f: usize, t: usize) -> Result<Vec<Statement>, Memory>
+    ensures { IfOk result (λ rows. rows.items ≡ r_switch_body delayed f t) }
 {
-    let statements = vec![in alloc;
+    let rows = vec![in alloc;
         Statement::Do(Effect::Clear),
         Statement::Set(Action::Left(0)),
         Statement::Set(Action::Beside(0)),
@@ -193,7 +222,7 @@ pub(crate) fn late_restart_function(alloc: Global, f: usize, t: usize) -> Result
         Statement::Set(Action::Call(t, Scope::Value, Part::Taker, When::Start, 1)),
         Statement::Exit(Guard::Always, Action::Register(3)),
     ]?;
-    Ok(Function { statements })
+    Ok(rows)
 }
 
 /// The rows of a switch that freezes what it watches, which answers by an action.
@@ -227,49 +256,47 @@ fn freezing_rows(
 }
 
 /// `kSwitch`.
-pub(crate) fn k_switch_function(
-    alloc: Global,
-    f: usize,
-    e: usize,
-    t: usize,
-) -> Result<Function, Memory>
-    ensures { IfOk result (λ b. b.statements.items ≡ k_switch_body f e t) }
+fn k_switch_rows(alloc: Global, f: usize, e: usize, t: usize) -> Result<Vec<Statement>, Memory>
+    ensures { IfOk result (λ rows. rows.items ≡ k_switch_body f e t) }
 {
     let watch = Action::Call(f, Scope::Same, Part::Watched, When::Now, 0);
-    let statements = freezing_rows(alloc, watch, Scope::Frozen, e, t)?;
-    Ok(Function { statements })
+    freezing_rows(alloc, watch, Scope::Frozen, e, t)
 }
 
 /// The rows of members, and others behind them.
-fn with_members(alloc: Global, members: &[usize], rows: Vec<Statement>) -> Result<Function, Memory>
-    ensures { IfOk result (λ b. b.statements.items ≡ member_rows members.now ++ rows.items) }
+fn with_members(
+    alloc: Global,
+    members: &[usize],
+    rows: Vec<Statement>,
+) -> Result<Vec<Statement>, Memory>
+    ensures { IfOk result (λ all. all.items ≡ member_rows members.now ++ rows.items) }
 {
     let mut rows = rows;
-    let mut statements = Vec::new(alloc);
+    let mut all = Vec::new(alloc);
     for member in members.iter() {
-        statements.push(Statement::Do(Effect::Member(*member)))?;
+        all.push(Statement::Do(Effect::Member(*member)))?;
     }
-    statements.append(&mut rows)?;
-    Ok(Function { statements })
+    all.append(&mut rows)?;
+    Ok(all)
 }
 
 /// `parB`.
-pub(crate) fn par_function(alloc: Global, members: &[usize]) -> Result<Function, Memory>
-    ensures { IfOk result (λ b. b.statements.items ≡ par_body members.now) }
+fn par_rows(alloc: Global, members: &[usize]) -> Result<Vec<Statement>, Memory>
+    ensures { IfOk result (λ rows. rows.items ≡ par_body members.now) }
 {
     let rows = vec![in alloc; Statement::Exit(Guard::Always, Action::Each(Part::Whole, 0))]?;
     with_members(alloc, members, rows)
 }
 
 /// `pSwitch`.
-pub(crate) fn p_switch_function(
+fn p_switch_rows(
     alloc: Global,
     route: &Expr,
     members: &[usize],
     e: usize,
     t: usize,
-) -> Result<Function, Memory>
-    ensures { IfOk result (λ b. b.statements.items ≡ p_switch_body route.now members.now e t) }
+) -> Result<Vec<Statement>, Memory>
+    ensures { IfOk result (λ rows. rows.items ≡ p_switch_body route.now members.now e t) }
 {
     let route = route.try_copy(alloc)?;
     let watch = Action::Routed(route, Part::Watched, 0);
@@ -278,13 +305,13 @@ pub(crate) fn p_switch_function(
 }
 
 /// `rpSwitchB`.
-pub(crate) fn collection_function(
+fn collection_rows(
     alloc: Global,
     members: &[usize],
     choose: &Expr,
     t: usize,
-) -> Result<Function, Memory>
-    ensures { IfOk result (λ b. b.statements.items ≡ collection_body members.now choose.now t) }
+) -> Result<Vec<Statement>, Memory>
+    ensures { IfOk result (λ rows. rows.items ≡ collection_body members.now choose.now t) }
 {
     let choose = choose.try_copy(alloc)?;
     let rows = vec![in alloc; Statement::Exit(Guard::Always, Action::Collect(choose, t, 0))]?;
@@ -292,53 +319,53 @@ pub(crate) fn collection_function(
 }
 
 /// `old` of frozen network k, whose function has so much in scope.
-pub(crate) fn old_function(
+fn old_rows(
     alloc: Global,
     k: usize,
     f: usize,
     params: usize,
     olds: usize,
-) -> Result<Function, Memory>
-    ensures { IfOk result (λ b. b.statements.items ≡ old_body k f params olds) }
+) -> Result<Vec<Statement>, Memory>
+    ensures { IfOk result (λ rows. rows.items ≡ old_body k f params olds) }
 {
     let scope = Scope::First(params, olds);
-    let statements = vec![in alloc;
+    let rows = vec![in alloc;
         Statement::Do(Effect::Resume(k)),
         Statement::Exit(
             Guard::Always,
             Action::Call(f, scope, Part::Whole, When::Now, 0)
         ),
     ]?;
-    Ok(Function { statements })
+    Ok(rows)
 }
 
 /// `old` of a frozen network that is not there.
-pub(crate) fn same_function(alloc: Global) -> Result<Function, Memory>
-    ensures { IfOk result (λ b. b.statements.items ≡ same_body) }
+fn same_rows(alloc: Global) -> Result<Vec<Statement>, Memory>
+    ensures { IfOk result (λ rows. rows.items ≡ same_body) }
 {
-    let statements = vec![in alloc; Statement::Exit(Guard::Always, Action::Register(0))]?;
-    Ok(Function { statements })
+    let rows = vec![in alloc; Statement::Exit(Guard::Always, Action::Register(0))]?;
+    Ok(rows)
 }
 
 /// `-->`.
-pub(crate) fn out_function(alloc: Global, c: &Expr, f: usize) -> Result<Function, Memory>
-    ensures { IfOk result (λ b. b.statements.items ≡ out_body c.now f) }
+fn out_rows(alloc: Global, c: &Expr, f: usize) -> Result<Vec<Statement>, Memory>
+    ensures { IfOk result (λ rows. rows.items ≡ out_body c.now f) }
 {
     let c = c.try_copy(alloc)?;
-    let statements = vec![in alloc;
+    let rows = vec![in alloc;
         Statement::Set(Action::Constant(c)),
         Statement::Set(Action::Call(f, Scope::Same, Part::Whole, When::Now, 0)),
         Statement::Exit(Guard::Always, Action::FirstOr(1, 2)),
     ]?;
-    Ok(Function { statements })
+    Ok(rows)
 }
 
 /// `>--`.
-pub(crate) fn in_function(alloc: Global, c: &Expr, f: usize) -> Result<Function, Memory>
-    ensures { IfOk result (λ b. b.statements.items ≡ in_body c.now f) }
+fn in_rows(alloc: Global, c: &Expr, f: usize) -> Result<Vec<Statement>, Memory>
+    ensures { IfOk result (λ rows. rows.items ≡ in_body c.now f) }
 {
     let c = c.try_copy(alloc)?;
-    let statements = vec![in alloc;
+    let rows = vec![in alloc;
         Statement::Set(Action::Constant(c)),
         Statement::Set(Action::FirstOr(1, 0)),
         Statement::Exit(
@@ -346,5 +373,5 @@ pub(crate) fn in_function(alloc: Global, c: &Expr, f: usize) -> Result<Function,
             Action::Call(f, Scope::Same, Part::Whole, When::Now, 2)
         ),
     ]?;
-    Ok(Function { statements })
+    Ok(rows)
 }

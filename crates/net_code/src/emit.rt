@@ -13,8 +13,8 @@ ghost use Rattle.std.specs.Prelude.{
   suc,
 };
 ghost use Rattle.net_code.specs.CodeOf.{and_body, body_of_old, code_of, emit, emit_all, place};
-ghost use Rattle.net_code.specs.CodeView.{AddsFunctions, code_in};
-ghost use Rattle.net_code.specs.Bodies.{cell_body};
+ghost use Rattle.net_code.specs.CodeView.{AddsFunctions, code_in, rows_of};
+ghost use Rattle.net_code.specs.Bodies.{accum_body, cell_body};
 ghost use Rattle.net_code.specs.Running.{latest};
 ghost use Rattle.net_tree.specs.Network.{
   at_once,
@@ -33,7 +33,6 @@ ghost use Rattle.net_tree.specs.Network.{
 };
 ghost use Rattle.net_tree.specs.NetworkView.{members_of, network_of};
 
-use crate::bodies;
 use crate::place::Place;
 use crate::statement::Function;
 use cell_core::Form;
@@ -69,7 +68,7 @@ pub fn compile(alloc: Global, net: &Net<Expr>) -> Result<Vec<Function>, Memory>
 /// Adds a function.
 fn push_function(code: &mut Vec<Function>, function: Function) -> Result<(), Memory>
     ensures { IfOk result (λ _. code_in code.new.items
-        ≡ and_body (code_in code.old.items) function.statements.items) }
+        ≡ and_body (code_in code.old.items) (rows_of function)) }
 {
     code.push(function)?;
     Ok(())
@@ -91,15 +90,15 @@ fn emit_net(net: &Net<Expr>, around: Around<'_>, code: &mut Vec<Function>) -> Re
 {
     let alloc = around.alloc;
     match net {
-        Net::Arr(e) => push_function(code, bodies::arr_function(alloc, e)?),
+        Net::Arr(e) => push_function(code, Function::Arr(e.try_copy(alloc)?)),
         Net::IPre(c) => push_cell(around, Form::IPre, c, code),
         Net::Delay(q, c) => push_cell(around, Form::Delay(*q), c, code),
         Net::Hold(c) => push_cell(around, Form::Hold, c, code),
         Net::After(q, c) => push_cell(around, Form::After(*q), c, code),
         Net::Repeatedly(q, c) => push_cell(around, Form::Repeatedly(*q), c, code),
-        Net::AccumBy(g, z) => push_function(code, bodies::accum_function(alloc, g, z)?),
-        Net::Time => push_function(code, bodies::clock_function(alloc, Form::Time)?),
-        Net::Integral => push_function(code, bodies::clock_function(alloc, Form::Integral)?),
+        Net::AccumBy(g, z) => push_accum(around, g, z, code),
+        Net::Time => push_function(code, Function::Clock(Form::Time)),
+        Net::Integral => push_function(code, Function::Clock(Form::Integral)),
         Net::Old(k) => push_old(around, *k, code),
         Net::First(f) => emit_first(f, around, code),
         Net::Par(fs) => emit_par(fs, around, code),
@@ -127,7 +126,23 @@ fn push_cell(
     ensures { IfOk result (λ _. code_in code.new.items
         ≡ and_body (code_in code.old.items) (cell_body form c.now)) }
 {
-    push_function(code, bodies::cell_function(around.alloc, form, c)?)
+    let c = c.try_copy(around.alloc)?;
+    push_function(code, Function::Cell(form, c))
+}
+
+/// Adds an `accumBy`.
+fn push_accum(
+    around: Around<'_>,
+    g: &Expr,
+    z: &Expr,
+    code: &mut Vec<Function>,
+) -> Result<(), Memory>
+    ensures { IfOk result (λ _. code_in code.new.items
+        ≡ and_body (code_in code.old.items) (accum_body g.now z.now)) }
+{
+    let z = z.try_copy(around.alloc)?;
+    let g = g.try_copy(around.alloc)?;
+    push_function(code, Function::Accum(g, z))
 }
 
 /// Place k, where there is one.
@@ -143,13 +158,12 @@ fn place_at(places: &[Place], k: usize) -> Option<Place>
 
 /// What resumes the frozen network k, or the identity where there is none.
 #[tactic(auto, using(crate::proofs::Olds::found, crate::proofs::Olds::absent))]
-fn old_or_same(around: Around<'_>, k: usize) -> Result<Function, Memory>
-    ensures { IfOk result (λ b. b.statements.items
-        ≡ body_of_old around.entry.places.now k k) }
+fn old_or_same(around: Around<'_>, k: usize) -> Function
+    ensures { rows_of result ≡ body_of_old around.entry.places.now k k }
 {
     match place_at(around.places, k) {
-        Some(p) => bodies::old_function(around.alloc, k, p.function, p.params, p.olds),
-        None => bodies::same_function(around.alloc),
+        Some(p) => Function::Old(k, p.function, p.params, p.olds),
+        None => Function::Same,
     }
 }
 
@@ -158,7 +172,7 @@ fn push_old(around: Around<'_>, k: u32, code: &mut Vec<Function>) -> Result<(), 
     ensures { IfOk result (λ _. code_in code.new.items
         ≡ and_body (code_in code.old.items) (body_of_old around.entry.places.now k k)) }
 {
-    push_function(code, old_or_same(around, k as usize)?)
+    push_function(code, old_or_same(around, k as usize))
 }
 
 /// Adds the code of a network inside a network; its function.
@@ -302,7 +316,7 @@ fn emit_seq(
 {
     let f = emit_part(f, around, code)?;
     let g = emit_part(g, around, code)?;
-    push_function(code, bodies::seq_function(around.alloc, f, g)?)
+    push_function(code, Function::Seq(f, g))
 }
 
 /// Adds a `first`.
@@ -316,7 +330,7 @@ fn emit_first(
         ≡ emit (first f.now) around.entry.params around.entry.places.now (code_in code.old.items)) }
 {
     let f = emit_part(f, around, code)?;
-    push_function(code, bodies::first_function(around.alloc, f)?)
+    push_function(code, Function::First(f))
 }
 
 /// Adds a `parB`.
@@ -326,7 +340,7 @@ fn emit_par(fs: &Members<Expr>, around: Around<'_>, code: &mut Vec<Function>) ->
         ≡ emit (par fs.now) around.entry.params around.entry.places.now (code_in code.old.items)) }
 {
     let fs = emit_all(fs, around, code)?;
-    push_function(code, bodies::par_function(around.alloc, fs.as_slice())?)
+    push_function(code, Function::Par(fs))
 }
 
 /// Adds a `loopPre`.
@@ -342,7 +356,8 @@ fn emit_loop(
         (code_in code.old.items)) }
 {
     let f = emit_part(f, around, code)?;
-    push_function(code, bodies::loop_function(around.alloc, c, f)?)
+    let c = c.try_copy(around.alloc)?;
+    push_function(code, Function::Loop(c, f))
 }
 
 /// Adds a `-->`.
@@ -358,7 +373,8 @@ fn emit_out(
         (code_in code.old.items)) }
 {
     let f = emit_part(f, around, code)?;
-    push_function(code, bodies::out_function(around.alloc, c, f)?)
+    let c = c.try_copy(around.alloc)?;
+    push_function(code, Function::InitialOut(c, f))
 }
 
 /// Adds a `>--`.
@@ -374,7 +390,8 @@ fn emit_in(
         (code_in code.old.items)) }
 {
     let f = emit_part(f, around, code)?;
-    push_function(code, bodies::in_function(around.alloc, c, f)?)
+    let c = c.try_copy(around.alloc)?;
+    push_function(code, Function::InitialIn(c, f))
 }
 
 /// Adds a `switch`.
@@ -391,7 +408,7 @@ fn emit_switch(
 {
     let f = emit_part(f, around, code)?;
     let t = emit_taker(t, around, code)?;
-    push_function(code, bodies::switch_function(around.alloc, f, t)?)
+    push_function(code, Function::Switch(f, t))
 }
 
 /// Adds a `dSwitch`.
@@ -408,7 +425,7 @@ fn emit_late_switch(
 {
     let f = emit_part(f, around, code)?;
     let t = emit_taker(t, around, code)?;
-    push_function(code, bodies::late_switch_function(around.alloc, f, t)?)
+    push_function(code, Function::DSwitch(f, t))
 }
 
 /// Adds an `rSwitch`.
@@ -425,7 +442,7 @@ fn emit_restart(
 {
     let f = emit_part(f, around, code)?;
     let t = emit_taker(t, around, code)?;
-    push_function(code, bodies::restart_function(around.alloc, f, t)?)
+    push_function(code, Function::RSwitch(f, t))
 }
 
 /// Adds a `drSwitch`.
@@ -442,7 +459,7 @@ fn emit_late_restart(
 {
     let f = emit_part(f, around, code)?;
     let t = emit_taker(t, around, code)?;
-    push_function(code, bodies::late_restart_function(around.alloc, f, t)?)
+    push_function(code, Function::DrSwitch(f, t))
 }
 
 /// Adds a `kSwitch`.
@@ -461,7 +478,7 @@ fn emit_k_switch(
     let f = emit_part(f, around, code)?;
     let e = emit_part(e, around, code)?;
     let t = emit_resumer(t, &[f], around, code)?;
-    push_function(code, bodies::k_switch_function(around.alloc, f, e, t)?)
+    push_function(code, Function::KSwitch(f, e, t))
 }
 
 /// Adds a `pSwitch`.
@@ -481,10 +498,8 @@ fn emit_p_switch(
     let fs = emit_all(fs, around, code)?;
     let e = emit_part(e, around, code)?;
     let t = emit_resumer(t, fs.as_slice(), around, code)?;
-    push_function(
-        code,
-        bodies::p_switch_function(around.alloc, r, fs.as_slice(), e, t)?,
-    )
+    let r = r.try_copy(around.alloc)?;
+    push_function(code, Function::PSwitch(r, fs, e, t))
 }
 
 /// Adds an `rpSwitchB`.
@@ -502,8 +517,6 @@ fn emit_collection(
 {
     let fs = emit_all(fs, around, code)?;
     let t = emit_taker(t, around, code)?;
-    push_function(
-        code,
-        bodies::collection_function(around.alloc, fs.as_slice(), m, t)?,
-    )
+    let m = m.try_copy(around.alloc)?;
+    push_function(code, Function::Collection(fs, m, t))
 }

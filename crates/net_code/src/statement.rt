@@ -59,8 +59,8 @@ pub enum Action {
     Pair(usize, usize),
     /// Register j at the first sample, and else k.
     FirstOr(usize, usize),
-    /// What was fed back.
-    Fed,
+    /// Register j at the first sample, and else what was fed back.
+    FedOr(usize),
     /// Function j, on a part, at register k.
     Call(usize, Scope, Part, When, usize),
     /// Function g by the value, where that has taken over, and else f, at register k.
@@ -116,9 +116,47 @@ pub enum Statement {
     Do(Effect),
 }
 
-/// A function of the code: one of a network's nodes. It calls earlier ones only.
+/// A function of the code: one of a network's nodes. f, g, e, t are the numbers of the functions that
+/// it calls, which are earlier ones.
 #[derive(Drop)]
-pub struct Function {
-    /// Its rows, in order.
-    pub statements: Vec<Statement>,
+pub enum Function {
+    /// `arr`.
+    Arr(Expr),
+    /// `>>>` of f and g.
+    Seq(usize, usize),
+    /// `first`.
+    First(usize),
+    /// `parB`.
+    Par(Vec<usize>),
+    /// `loopPre` of the constant and f.
+    Loop(Expr, usize),
+    /// A cell with a constant.
+    Cell(Form, Expr),
+    /// A cell without one.
+    Clock(Form),
+    /// `accumBy` of the step and the constant.
+    Accum(Expr, Expr),
+    /// `switch` of f and t.
+    Switch(usize, usize),
+    /// `dSwitch` of f and t.
+    DSwitch(usize, usize),
+    /// `rSwitch` of f and t.
+    RSwitch(usize, usize),
+    /// `drSwitch` of f and t.
+    DrSwitch(usize, usize),
+    /// `kSwitch` of f, e and t.
+    KSwitch(usize, usize, usize),
+    /// `pSwitch` of the route, the members, e and t.
+    PSwitch(Expr, Vec<usize>, usize, usize),
+    /// `old`: the frozen network of this number, its function, and how many parameters and frozen
+    /// networks that has in scope.
+    Old(usize, usize, usize, usize),
+    /// `old` of a frozen network that is not there.
+    Same,
+    /// `-->` of the constant and f.
+    InitialOut(Expr, usize),
+    /// `>--` of the constant and f.
+    InitialIn(Expr, usize),
+    /// `rpSwitchB` of the members, the choice and t.
+    Collection(Vec<usize>, Expr, usize),
 }

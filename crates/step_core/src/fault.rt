@@ -4,19 +4,16 @@ ghost use Rattle.std.specs.Prelude.{◌≡◌};
 
 use net_tree::Position;
 use sample_core::OutOfMemory;
-use thiserror::Error;
 
 /// Why a network is not bound to a table.
-#[derive(Debug, Drop, PartialEq, Eq, Error)]
+#[derive(Drop)]
 pub enum BindFault {
     /// The table has no row for the expression at this position, the first such in preorder.
-    #[error("no row for an expression")]
     MissingLeaf {
         /// Where the expression stands.
         position: Position,
     },
     /// A growth was refused.
-    #[error("memory")]
     Memory,
 }
 

@@ -20,6 +20,7 @@ use std::alloc::Global;
 
 /// The scope of what takes over, with an event's value as a further parameter; nothing where what
 /// was seen is no event.
+#[inline(always)]
 pub(crate) fn fire<'n>(
     alloc: Global,
     seen: &Sample,
@@ -38,7 +39,7 @@ pub(crate) fn fire<'n>(
 
 /// The scope of what takes over, with the event's value and the part at the first place, frozen as
 /// it was before the sample.
-#[inline(never)]
+#[inline(always)]
 pub(crate) fn fire_one<'n, R: Rows>(
     on: &On<'_, 'n, R>,
     seen: &Sample,
@@ -61,7 +62,7 @@ pub(crate) fn fire_one<'n, R: Rows>(
 
 /// The scope of what takes over, with the event's value and all members, frozen as they were before
 /// the sample.
-#[inline(never)]
+#[inline(always)]
 pub(crate) fn fire_all<'n, R: Rows>(
     on: &On<'_, 'n, R>,
     seen: &Sample,
@@ -83,6 +84,7 @@ pub(crate) fn fire_all<'n, R: Rows>(
 }
 
 /// The scope with what ran at the first place frozen in it.
+#[inline(never)]
 fn with_frozen<'n, R: Rows>(
     on: &On<'_, 'n, R>,
     env: &Env<'n>,
@@ -99,6 +101,7 @@ fn with_frozen<'n, R: Rows>(
 }
 
 /// The scope with all members frozen in it.
+#[inline(never)]
 fn with_all_frozen<'n, R: Rows>(
     on: &On<'_, 'n, R>,
     env: &Env<'n>,

@@ -13,7 +13,9 @@ ghost use Rattle.step_core.specs.Flow.{Flows, AllFlow, IsCell, IsFedBack, IsOneC
 
 use crate::cells::{start_accum, start_cell, step_accum};
 use crate::on::{On, both, node};
-use crate::part::{answer_places, first, let_parts_go, make_place, put_pair, restart_of, second};
+use crate::part::{
+    answer_places, first, let_go, let_parts_go, make_place, put_pair, restart_of, second,
+};
 use crate::rows::Rows;
 use crate::run::{go_on, run_place, start_under};
 use cell_core::Form;
@@ -105,7 +107,7 @@ fn flow_seq<'n, R: Rows>(
     match flow(on, f, x, kept, &mut between) {
         Ok(one) => {
             let others = flow_rest(on, g, &mut between, kept, out);
-            between.let_go();
+            let_go(between);
             Ok(node(one, others?))
         }
         Err(memory) => {
@@ -144,7 +146,7 @@ fn flow_rest<'n, R: Rows>(
         rest = g.get();
     }
     let last = flow(on, rest, between, kept, out);
-    place.let_go();
+    let_go(place);
     Ok(both(visits, last?))
 }
 
@@ -166,7 +168,7 @@ fn flow_first<'n, R: Rows>(
     match flow(on, f, first(x), kept, &mut answer) {
         Ok(one) => {
             let done = put_pair(on.alloc, &answer, second(x), out);
-            answer.let_go();
+            let_go(answer);
             done?;
             Ok(node(one, 0))
         }

@@ -81,6 +81,15 @@ pub(crate) fn put_pair(
     Ok(())
 }
 
+/// Lets a value go. Mostly it has no parts.
+#[inline(always)]
+pub(crate) fn let_go(value: Sample) {
+    match value {
+        Sample::Unit | Sample::Bool(_) | Sample::Int(_) | Sample::NoEvent => {}
+        value => value.let_go(),
+    }
+}
+
 /// Puts a number in the place of an answer that is a pair or an event: a row keeps a copy of its last
 /// answer, and the next one comes into its memory where no one else holds it.
 #[inline(always)]

@@ -6,7 +6,7 @@ ghost use Rattle.leaf_core.specs.KeyTree.{KeyTree};
 ghost use Rattle.leaf_table.specs.Rows.{rows_of};
 ghost use Rattle.step_core.specs.Called.{Called};
 
-use crate::part::put_pair;
+use crate::part::{let_go, put_pair};
 use leaf_table::{LeafId, LeafTable};
 use sample_core::{Memory, Sample};
 use std::alloc::Global;
@@ -51,6 +51,7 @@ impl<'a> Rows for Workspace<'a> {
         }
     }
 
+    #[inline(always)]
     fn pair(&self, alloc: Global, v: &Sample, w: &Sample) -> Result<Sample, Memory> {
         let mut place = self.spare.replace(Sample::Unit);
         match put_pair(alloc, v, w, &mut place) {
@@ -64,6 +65,6 @@ impl<'a> Rows for Workspace<'a> {
 
     #[inline(always)]
     fn give_back(&self, pair: Sample) {
-        self.spare.replace(pair).let_go();
+        let_go(self.spare.replace(pair));
     }
 }

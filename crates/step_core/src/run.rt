@@ -18,7 +18,7 @@ use crate::collection::run_collection;
 use crate::fire::{fire, fire_all, fire_one};
 use crate::flow::{call_into, flow};
 use crate::on::{On, both, node};
-use crate::part::{answer_places, first, let_second_go, make_place, second};
+use crate::part::{answer_places, first, let_go, let_second_go, make_place, put_pair, second};
 use crate::rows::Rows;
 use leaf_table::LeafId;
 use net_tree::Net;
@@ -502,20 +502,31 @@ fn run_members<'n, R: Rows>(
         (scope_of on.now.env.now) (past_in on.now.before on.now.dt) (datum_of x.now)
         (kept_of kept.old) (kept_of kept.new) (datum_of out.new) n) }
 {
-    let mut answers = answer_places(on.alloc, members.nets.len(), out)?;
-    match run_each(on, members, x, kept, &mut answers) {
-        Ok(all) => {
-            out.put_list(on.alloc, answers)?;
-            Ok(all)
+    let mut asked = on.rows.pair(on.alloc, x, &Sample::Int(0))?;
+    match answer_places(on.alloc, members.nets.len(), out) {
+        Ok(mut answers) => {
+            let done = run_each(on, members, x, kept, &mut answers, &mut asked);
+            on.rows.give_back(asked);
+            match done {
+                Ok(all) => {
+                    out.put_list(on.alloc, answers)?;
+                    Ok(all)
+                }
+                Err(memory) => {
+                    drop(answers);
+                    Err(memory)
+                }
+            }
         }
         Err(memory) => {
-            drop(answers);
+            drop(asked);
             Err(memory)
         }
     }
 }
 
-/// Puts what the members answer, in order, in the places of the answers.
+/// Puts what the members answer, in order, in the places of the answers. The router is asked with
+/// a pair in the memory of `asked`.
 #[cycle(run)]
 #[inline(never)]
 fn run_each<'n, R: Rows>(
@@ -524,6 +535,7 @@ fn run_each<'n, R: Rows>(
     x: &Sample,
     kept: &mut Kept<'n>,
     answers: &mut Vec<Sample>,
+    asked: &mut Sample,
 ) -> Result<u32, Memory>
     ensures { IfOk result (λ n. AllRun (R.keys on.now.rows.now) (row_number members.entry.router)
         (map_networks row_number (members_of members.entry.nets.now))
@@ -536,9 +548,9 @@ fn run_each<'n, R: Rows>(
     let mut visits: u32 = 0;
     'members: while let Some((f, others)) = rest.split_first() {
         make_place(answers, before)?;
-        let input = routed(on, members.router, x, before)?;
+        let input = routed(on, members.router, x, before, asked)?;
         let one = run_place(on, f, &input, kept, &mut answers[before]);
-        input.let_go();
+        let_go(input);
         visits = both(visits, one?);
         rest = others;
         before += 1;
@@ -547,22 +559,21 @@ fn run_each<'n, R: Rows>(
     Ok(visits)
 }
 
-/// What the row makes of the sample and member i's number.
+/// What the row makes of the sample and member i's number, whose pair comes in that place.
 #[inline(always)]
 fn routed<R: Rows>(
     on: &On<'_, '_, R>,
     router: LeafId,
     x: &Sample,
     i: usize,
+    asked: &mut Sample,
 ) -> Result<Sample, Memory>
     requires { i < 2 ^ 63 }
     ensures { IfOk result (λ y. Called (R.keys on.now.rows.now) (row_number router)
         on.now.env.now.params (pair (datum_of x.now) (int (pos i))) (datum_of y)) }
 {
-    let asked = on.rows.pair(on.alloc, x, &Sample::Int(i as i64))?;
-    let input = on.rows.call(router, on.params(), &asked);
-    on.rows.give_back(asked);
-    input
+    put_pair(on.alloc, x, &Sample::Int(i as i64), asked)?;
+    on.rows.call(router, on.params(), asked)
 }
 
 /// `-->`: its part starts, and the constant is put out. What runs at a place is never a `-->` that

@@ -6,6 +6,7 @@ from dataclasses import dataclass, field
 from typing import Any, Callable, Optional
 
 from model.texts import read_stream
+from model.trees import GREATEST
 from workbench.batches import Observer, Shortening, read_recording
 from workbench.ending import Refused, defect, missing
 from workbench.program import call
@@ -14,7 +15,7 @@ from workbench.proving.race import raced
 from workbench.proving.told import Hindered, Holds, Search, Searched, Tried, Unfair, Wrong
 from workbench.streams import Recording, Streams, Wishes, stream_text
 
-SHORTENING, CERTIFYING, BATCH = 8.0, 10.0, 4_000
+SHORTENING, CERTIFYING, BATCH, CONTRADICTING = 8.0, 10.0, 4_000, 100
 Way = Callable[[Search], None]
 
 
@@ -103,6 +104,8 @@ class Decision:
         seconds, waits = self.limits.seconds, "certify" in ways
         try:
             for name, told in raced(running, seconds):
+                if isinstance(told, Holds) and name != "certify":
+                    told = self.contradicted() or told
                 if isinstance(told, Wrong):
                     if self.shortened(name, told.recording):
                         return self.verdict
@@ -115,6 +118,15 @@ class Decision:
         except KeyboardInterrupt:
             self.verdict.interrupted = True
         return self.verdict
+
+    def contradicted(self) -> Optional[Wrong]:
+        """A recording on which the program outputs false, of some random ones that are run where z3 says that there is none."""
+        pace = self.question.pace
+        wishes = Wishes(steps=[pace.step] if pace.step else None, most_step=pace.most or GREATEST, lists=pace.lists)
+        streams = Streams(self.question.given, self.question.numbers, random.Random(1), wishes)
+        recordings = list(filter(self.allowed, (streams.recording() for _ in range(CONTRADICTING))))
+        found = zip(recordings, self.observer.firsts(recordings))
+        return next((Wrong(stream_text(recording[:first])) for recording, first in found if first is not None), None)
 
     def shortened(self, name: str, stream: bytes) -> bool:
         """Whether the program confirms a recording; it is made as short as the time allows."""

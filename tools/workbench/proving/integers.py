@@ -1,4 +1,4 @@
-"""Invariants over unbounded integers, of which none leaves 64 bits, that z3's Spacer finds by itself."""
+"""Invariants that z3's Spacer finds by itself, over unbounded integers: they are enough for the goal where none leaves 64 bits."""
 import time
 from typing import Any, Optional
 
@@ -6,7 +6,7 @@ import z3
 
 from workbench.proving.induction import Candidate
 from workbench.proving.system import System
-from workbench.proving.terms import Leaf, formula, is_truth
+from workbench.proving.terms import Leaf, formula, is_truth, negation
 
 
 def unknowns(found: list[z3.ExprRef]) -> list[z3.ExprRef]:
@@ -49,7 +49,7 @@ class Horn:
         step, sample, bounds = self.system.sample("first" if first else "next", first)
         frame = self.system.step(state, step, sample)
         self.rule(self.at(frame.state), [*before, *bounds, frame.passed])
-        self.rule(self.wrong(), [*before, *bounds, frame.wrong])
+        self.rule(self.wrong(), [*before, *bounds, frame.fair, frame.known, frame.inside, negation(frame.good)])
 
     def rule(self, head: z3.BoolRef, body: list[Leaf]) -> None:
         terms = [formula(leaf) for leaf in body]

@@ -4,9 +4,10 @@ from dataclasses import dataclass
 from itertools import combinations, permutations
 from typing import Any, Iterator, Optional
 
+from model.trees import GREATEST
 from workbench.proving.induction import Candidate
 from workbench.proving.system import System
-from workbench.proving.terms import Leaf, Terms, both, either, implied, negation
+from workbench.proving.terms import LEAST, Leaf, Terms, both, either, implied, negation
 from workbench.proving.values import encoded
 from workbench.streams import Streams, Wishes
 
@@ -53,7 +54,8 @@ class Templates:
         self.terms: Terms = system.terms
         self.names, self.truths = system.names(), system.truths
         self.columns = list(zip(*rows)) or [()] * len(self.names)
-        self.numbers = sorted({number + by for number in [0, *system.question.numbers] for by in (-1, 0, 1)})
+        near = {number + by for number in [0, *system.question.numbers] for by in (-1, 0, 1)}
+        self.numbers = sorted(number for number in near if LEAST <= number <= GREATEST)
         self.far = 4 * sum(abs(number) for number in system.question.numbers if abs(number) < 2**20) + 16
         self.rows = range(len(rows))
         self.distances: dict = {}
@@ -80,10 +82,13 @@ class Templates:
                 found.append(Candidate(told, lambda s, i=place, c=column[0]: self.terms.equal(s[i], c), (place, column[0]), True))
         return found
 
-    def others(self) -> list[Candidate]:
-        """Bounds, differences, and the same in modes."""
-        found = [*self.bounds(), *self.differences(), *self.in_modes()]
-        return found[:MOST]
+    def plain(self) -> list[Candidate]:
+        """Bounds and differences."""
+        return [*self.bounds(), *self.differences()][:MOST]
+
+    def in_modes(self) -> list[Candidate]:
+        """The same in modes; what is plain is guessed before."""
+        return [*self.of_modes()][:MOST]
 
     def bounds(self) -> Iterator[Candidate]:
         for place in self.ints:
@@ -160,7 +165,7 @@ class Templates:
         together = set(zip(self.columns[one], self.columns[other]))
         return len(together) == len(set(self.columns[one])) > len(set(self.columns[other]))
 
-    def in_modes(self) -> Iterator[Candidate]:
+    def of_modes(self) -> Iterator[Candidate]:
         modes = self.modes()
         for mode, rows in modes:
             yield from self.in_mode((mode,), rows)

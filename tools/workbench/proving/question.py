@@ -25,9 +25,8 @@ class Pace:
 
     def told(self, timed: bool, listed: bool) -> str:
         """Which recordings these are, in words."""
-        words = []
+        words = [f"of at most {power(self.total)} ticks"] if self.total and (timed or self.total != TOTAL) else []
         if timed:
-            words += [f"of at most {power(self.total)} ticks"] if self.total else []
             words += [f"with steps of {self.step}"] if self.step else [f"with steps of at most {self.most}"] if self.most else []
         words += [f"with lists of at most {self.lists} elements"] if listed else []
         return "".join(f" {word}" for word in words)

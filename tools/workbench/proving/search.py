@@ -1,6 +1,6 @@
 """The ways to answer a question, run side by side: bounded search, induction, unbounded integers."""
 from dataclasses import replace
-from typing import Callable, Optional
+from typing import Callable, Optional, Sequence
 
 import z3
 
@@ -94,13 +94,13 @@ def by_integers(search: Search) -> None:
 
 
 def by_spacer(search: Search) -> None:
-    """Over integers too; z3 finds the invariants, which are then tried as any other."""
+    """Over integers too; z3 finds invariants, which are tried as those that are guessed, and with them."""
     system = System(search.question, Terms(None))
     if not keeps_to_it(search):
         return
     horn = Horn(system, search.until)
     found = horn.invariant() if horn.holds() else None
-    if not found or not by_depths(search, system, (0,), kept(system, [found], search.until), search.until, "Spacer"):
+    if not found or not proved(search, system, simulated(system), search.until, [found], "Spacer"):
         search.tell(Searched("spacer", "Spacer finds none"))
 
 
@@ -117,20 +117,27 @@ def keeps_to_it(search: Search) -> bool:
     return count > 0
 
 
-def proved(search: Search, system: System, rows: list, until: float) -> bool:
-    """Tries induction from any state: bare, with equal leaves, with all that is guessed. What is proved is told."""
+def proved(search: Search, system: System, rows: list, until: float, given: Sequence[Candidate] = (), way: str = "") -> bool:
+    """Tries induction from any state: with what is given, with equal leaves, with bounds and differences, with all that is guessed. What is proved is told."""
     try:
-        if by_depths(search, system, (0, 1), [], min(until, search.by(0.1))):
+        found = kept(system, [*given], until)
+        if by_depths(search, system, (0, 1), found, min(until, search.by(0.1)), way):
             return True
-        equal = kept(system, Templates(system, rows).equal_leaves(), until)
+        equal = kept(system, found + Templates(system, rows).equal_leaves(), until)
         for candidate in equal:
-            system.learn(candidate.equal, candidate.fixed)
-        if equal and by_depths(search, system, (0, 1), equal, until):
+            if candidate.equal:
+                system.learn(candidate.equal, candidate.fixed)
+        if len(equal) > len(found) and by_depths(search, system, (0, 1), equal, until, way):
             return True
-        others = Templates(system, rows).others()
-        invariants = equal + kept(system, others, until)
-        search.tell(Searched("induction", f"induction with {len(invariants)} invariants of {len(equal) + len(others)} guessed"))
-        return by_depths(search, system, (0, 1, 2, 4, 8), invariants, until)
+        templates = Templates(system, rows)
+        plain, others = templates.plain(), templates.in_modes()
+        bounded = kept(system, equal + plain, until)
+        if len(bounded) > len(equal) and by_depths(search, system, (0, 1), bounded, until, way):
+            return True
+        invariants = kept(system, bounded + others, until)
+        guessed = len(equal) + len(plain) + len(others)
+        search.tell(Searched("induction", f"induction with {len(invariants)} invariants of {guessed} guessed"))
+        return by_depths(search, system, (0, 1, 2, 4, 8), invariants, until, way)
     except Unknown:
         return False
 

@@ -115,7 +115,7 @@ class System:
         if first:
             return 0, tree, bounds
         if not self.timed:
-            return 1, tree, bounds
+            return self.pace.step or 1, tree, bounds
         if self.pace.step:
             return self.pace.step, tree, bounds
         step = self.terms.variable(f"step.{name}", False)
@@ -142,7 +142,7 @@ class System:
     # ---- the step
 
     def step(self, state: Tree, step: Leaf, sample: Tree) -> Frame:
-        self.terms.steps = 0
+        self.terms.steps, self.terms.facts = 0, []
         states, nets, lemmas = list(state[1:-1]), len(self.question.nets), len(self.question.lemmas)
         try:
             fair, doubtful, total = self.counted(states, state[-1], step, sample)
@@ -154,7 +154,8 @@ class System:
             raise Refused("a sample of it takes too many steps for z3") from None
         inside = all_of([self.begun, *[inside for _, inside in outputs + helping]])
         known = implied(inside, all_of([truth for truth, _ in helping]))
-        return Frame(fair, known, good, both(inside, more), doubtful, ("state", *states, total))
+        facts = all_of(self.terms.facts)
+        return Frame(both(facts, fair), known, good, both(inside, more), both(facts, doubtful), ("state", *states, total))
 
     def part(self, states: list, number: int, step: Leaf, given: Tree) -> tuple:
         """What a network outputs, and whether all its numbers have their bits; its state is put in the place of the one before."""
@@ -176,7 +177,9 @@ class System:
     def in_time(self, total: Leaf, step: Leaf) -> tuple:
         """Whether the recording is short enough with this step, and the sum of the steps; of one whose steps don't matter the samples
         are counted."""
-        most = self.pace.total if self.timed else SAMPLES - 1
+        most = self.pace.total
+        if not self.timed:
+            most, step = min(SAMPLES - 1, (most or SAMPLES) // (self.pace.step or 1)), min(step, 1)
         if most is None:
             return True, total
         if self.terms.width not in (None, 64):

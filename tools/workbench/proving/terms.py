@@ -70,13 +70,14 @@ def formula(a: Leaf) -> z3.BoolRef:
 
 
 class Terms:
-    """Numbers of `width` bits, which wrap; where that is None they are unbounded integers, and `ranges` keeps what must hold so
-    that none leaves 64 bits. With `named` the product of two unknown numbers is a function of which nothing else is known."""
+    """Numbers of `width` bits, which wrap; where that is None they are unbounded integers, `ranges` keeps what must hold so that
+    none leaves 64 bits, and `facts` what new numbers are. With `named` the product of two unknown numbers is a function of which nothing else is known."""
 
     def __init__(self, width: Optional[int] = 64, named: bool = False):
         self.width, self.named = width, named
         self.guard: Leaf = True
         self.ranges: list[Leaf] = []
+        self.facts: list[Leaf] = []
         self.steps, self.most_step, self.uses_function = 0, None, False
         sort = self.sort()
         self.function = z3.Function("product", sort, sort, sort)
@@ -107,9 +108,10 @@ class Terms:
         return z3.Bool(name) if truth else z3.Const(name, self.sort())
 
     def number(self, a: Leaf) -> z3.ExprRef:
-        """A number as z3 takes it."""
+        """A number as z3 takes it. Few bits, in which things are only looked for, may cut it."""
         if not is_known(a):
             return a
+        assert self.width != 64 or LEAST <= a <= GREATEST, a
         return z3.BitVecVal(a, self.width) if self.width else z3.IntVal(a)
 
     def wrapped(self, a: Leaf) -> Leaf:
@@ -145,13 +147,19 @@ class Terms:
         return self.wrapped(a * b)
 
     def less(self, a: Leaf, b: Leaf) -> Leaf:
-        return False if identical(a, b) else a < b
+        if is_known(a) and is_known(b):
+            return a < b
+        return False if identical(a, b) else self.number(a) < self.number(b)
 
     def remainder(self, a: Leaf, q: int) -> Leaf:
-        """Of a number that isn't negative."""
-        if is_known(a) or self.width is None:
+        """Of a number that isn't negative; over integers by a fact about a new number, which Spacer takes more easily."""
+        if is_known(a):
             return a % q
-        return z3.URem(a, self.number(q))
+        if self.width:
+            return z3.URem(a, self.number(q))
+        rest, times = z3.FreshInt("rest"), z3.FreshInt("times")
+        self.facts += [a == q * times + rest, rest >= 0, rest < q]
+        return rest
 
     def equal(self, a: Leaf, b: Leaf) -> Leaf:
         if identical(a, b):
@@ -159,7 +167,7 @@ class Terms:
         if is_known(a) and is_known(b):
             return False
         if not is_truth(a):
-            return a == b
+            return self.number(a) == self.number(b)
         for one, other in ((a, b), (b, a)):
             if isinstance(one, bool):
                 return other if one else negation(other)

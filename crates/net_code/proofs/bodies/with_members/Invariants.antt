@@ -4,4 +4,4 @@ use Rattle.net_code.proofs.bodies.with_members.Given as goal
 
 -- the rows of the members so far
 abbrev pub invariant-loop-member : goal.invariant-loop-member
-invariant-loop-member l = l.statements.items ≡ member_rows (take l.member-index l.members)
+invariant-loop-member l = l.all.items ≡ member_rows (take l.member-index l.members)

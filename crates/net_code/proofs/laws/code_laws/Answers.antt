@@ -1,4 +1,4 @@
-use Rattle.net_code.proofs.Streams.{code_law, machine_law}
+use Rattle.net_code.proofs.Streams.{code_law, leaf_code_law, machine_law}
 use Rattle.net_code.proofs.CallBounds.{calls_law}
 use Rattle.net_code.proofs.laws.code_laws.Goals as goal
 
@@ -10,3 +10,6 @@ returns-clause-outputs c = code_law
 
 pub returns-clause-calls : goal.returns-clause-calls
 returns-clause-calls c = calls_law
+
+pub returns-clause-leaves : goal.returns-clause-leaves
+returns-clause-leaves c = leaf_code_law

@@ -1,0 +1,6 @@
+-- That code fits, a file a line.
+pub mod Cells
+pub mod Shapes
+pub mod Values
+pub mod Functions
+pub mod Links

@@ -1,0 +1,150 @@
+"""Networks of every kind with what is to hold of them, and pairs that are equal or nearly so: what z3 makes of each. Those that take
+long are tried where `tests/tools --dear` asks for it."""
+import os
+import re
+
+from model.texts import network_text, read_network
+from model.trees import expanded
+from workbench.program import call
+
+from tooling.common import NUMBERS, TOP, each, in_folder, leave_out, own_folder, want
+
+NEEDS = ["z3"]
+# The searches are held to the clock: no other module runs beside this one.
+ALONE = True
+
+HERE = TOP / "tests/proving"
+DEAR = bool(os.environ.get("DEAR"))
+COUNTED = "yampa 1\ninput (Event Unit)\n(>>> (accumHoldBy (add (fst x) 1) 0) (arr (less x {})))"
+FORGETS = ("(goes 4 pushed)", "(goes 4 false)")
+HASTY, SHORT = ("(lasted 3)", "(lasted 2)"), ("(lasted 10)", "(lasted 9)")
+SANE = ["--assume", str(HERE / "sane.source")]
+HOLDS, FALSE = "holds", "false"
+
+# A network, what is changed in it, the words of the call, and of each goal the answer: that it holds, or is false, or at which sample.
+GOALS = [
+    ("alarm", None, [], {"loud": HOLDS}),
+    ("boiler", None, [], {"apart": HOLDS}),
+    ("debouncer", None, [], {"pressed": HOLDS, "long": HOLDS}),
+    ("debouncer", None, ["--total", "1000000"], {"long": HOLDS}),
+    ("handover", None, [], {"percent": HOLDS}),
+    ("heartbeat", None, [], {"two": 4, "three": HOLDS}),
+    ("motor", None, [], {"speeds": HOLDS}),
+    ("tank", None, [], {"over": HOLDS}),
+    ("thermostat", None, [], {"levels": HOLDS, "off": HOLDS}),
+    ("vote", None, [], {"middle": HOLDS}),
+    ("squash", None, [], {"few": FALSE}),
+    ("junction", FORGETS, [], {"safe": HOLDS}),
+    ("junction", FORGETS, ["--step", "1"], {"fair": 48}),
+    ("cruise", None, [], {"modes": HOLDS, "wished": 1}),
+    ("cruise", None, SANE, {"wished": HOLDS}),
+]
+DEAR_GOALS = [
+    ("lift", None, [], {"floors": HOLDS}),
+    ("junction", None, [], {"fair": HOLDS}),
+    ("junction", FORGETS, [], {"fair": FALSE}),
+    ("junction", HASTY, [], {"fair": HOLDS}),
+    ("junction", SHORT, [], {"fair": HOLDS}),
+    ("junction", FORGETS, ["--step", "1"], {"soon": FALSE}),
+    ("junction", None, ["--step", "1"], {"soon": HOLDS}),
+    ("cruise", None, SANE, {"throttled": HOLDS}),
+]
+SAMPLES = NUMBERS + "(>>> (loopPre 0 (arr (then (add (snd x) 1) (pair x x)))) (arr (less x 1000)))"
+COUNTS = [(COUNTED.format(20), 20), (COUNTED.format(30), 30), (SAMPLES, 1000), (NUMBERS + "(arr (not (equal x 7319)))", 1)]
+
+# A network, and what is changed in it: `differ` tells them apart.
+UNWOUND = ("(if full (sum kept) (add (sum kept) error))", "(add (sum kept) error)")
+LESS = ("(sub (aim kept) 100)", "(sub (aim kept) 200)")
+MUTANTS = [("cruise", UNWOUND, []), ("cruise", UNWOUND, SANE), ("cruise", LESS, []), ("junction", FORGETS, [])]
+
+# A network, and what makes of it one that does the same: a file beside it, a command of the program, or what is changed in it.
+LATER = ("(not (less (sub clock (since kept)) d))", "(not (less clock (add d (since kept))))")
+TURNED = ("(if (equal (phase x) 0) 1 (if (equal (phase x) 1) 2 0))", "(if (equal (phase x) 1) 2 (if (equal (phase x) 0) 1 0))")
+EQUAL = [("boiler", "fast"), ("marble", "fast"), ("junction", "optimise"), ("junction", LATER), ("junction", TURNED), ("cruise", "optimise")]
+DEAR_EQUAL = [("boiler", "improved"), ("marble", "improved"), ("handover", "fast"), ("handover", "improved"), ("squash", "fast")]
+DEAR_EQUAL += [("squash", "improved"), ("junction", "improve"), ("cruise", "improve"), ("sensors", "improve")]
+
+
+def text_of(name, change=None):
+    """The file of a network with what is to hold of it, where that is there; what stands in NAME.said goes round the example's network."""
+    source, said, net = HERE / f"{name}.source", HERE / f"{name}.said", TOP / "examples" / name / "net"
+    text = source.read_text() if source.exists() else net.read_text()
+    if said.exists():
+        text = "yampa source 1\n" + said.read_text().replace("network\n", re.sub(r"^(;.*\n)*yampa [12]\n", "", text), 1)
+    if change:
+        assert change[0] in text, change
+        text = text.replace(*change)
+    return text
+
+
+def flat(text):
+    """The network's file that a text means."""
+    return in_folder(("expand", "--flat", "file"), file=text)[1]
+
+
+def answer_of(case):
+    name, change, words, goals = case
+    asked = [word for goal in goals for word in ("--goal", goal)]
+    return in_folder(("prove", "net", "--seconds", "110", *words, *asked), net=text_of(name, change))
+
+
+def goals_are_decided():
+    for case, (_, output, error) in each(answer_of, GOALS + DEAR_GOALS * DEAR):
+        name, change, words, goals = case
+        for goal, answer in goals.items():
+            row = HOLDS if answer == HOLDS else rf"false .* at sample {answer if answer != FALSE else '[0-9]+'}:"
+            found = re.search(rf"^(.*?) +{goal} .*$", output, re.M)
+            want(f"{goal} of {name} {change or ''} {words[:2]}", found and re.match(row, found.group()), output + error)
+
+
+def counts_are_found():
+    for (net, most), (_, output, error) in each(lambda case: in_folder(("prove", "net", "--seconds", "60"), net=case[0]), COUNTS):
+        want(f"a count to {most}", output == f"false at sample {most}: net.false\n", output + error)
+
+
+def mutants_are_told_apart():
+    def told(case):
+        name, change, words = case
+        return in_folder(("differ", "source", "target", "--seconds", "60", *words), source=text_of(name), target=text_of(name, change))
+
+    for (name, change, words), (status, output, error) in each(told, MUTANTS):
+        nets = [flat(text_of(name, one)) for one in (None, change)]
+        with own_folder() as folder:
+            files = [folder / "source", folder / "target"]
+            for file, net in zip(files, nets):
+                file.write_text(net)
+            lines = [call(["run", str(file)], output.encode()).output for file in files]
+        want(f"{name} with {change[1]} {words[:1]}", status == 1 and lines[0] != lines[1], output + error)
+
+
+def other_of(name, how):
+    """The network's file of one that does the same."""
+    if isinstance(how, tuple):
+        return flat(text_of(name, how))
+    if (TOP / "examples" / name / how).exists():
+        return (TOP / "examples" / name / how).read_text()
+    with own_folder() as folder:
+        (folder / "net").write_text(flat(text_of(name)))
+        return call([how, str(folder / "net")]).output.decode()
+
+
+def equal_ones_are_proved():
+    """By z3 alone: of an observer that runs both."""
+
+    def told(case):
+        name, how = case
+        (given, net), (_, other) = (read_network(text.encode()) for text in (flat(text_of(name)), other_of(name, how)))
+        both = network_text(given, expanded((">>>", ("&&&", net, other), ("arr", ("equal", ("fst", "x"), ("snd", "x"))))))
+        return in_folder(("prove", "both", "--seconds", "110", "--lists", "5"), both=both)
+
+    for (name, how), (status, output, error) in each(told, EQUAL + DEAR_EQUAL * DEAR):
+        want(f"{name} does the same by {how}", status == 0 and output.startswith("holds on every recording"), output + error)
+
+
+def try_all() -> None:
+    goals_are_decided()
+    counts_are_found()
+    mutants_are_told_apart()
+    equal_ones_are_proved()
+    if not DEAR:
+        leave_out("the properties and pairs that take long: `tests/tools --dear` tries them")
