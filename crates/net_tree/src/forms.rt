@@ -2,9 +2,8 @@
 
 ghost use Rattle.std.specs.Prelude.{◌≡◌, IfOk};
 ghost use Rattle.net_tree.specs.FormView.{fed_form_of, leaf_form_of, pair_form_of};
-ghost use Rattle.net_tree.specs.declared.net.Net.TheVariants as Form;
 
-use crate::net::{Members, Net, NetChild};
+use crate::net::{Net, NetChild};
 use leaf_core::Expr;
 use sample_core::Memory;
 use std::alloc::Global;
@@ -89,120 +88,38 @@ impl Net<Expr> {
         ensures { IfOk result (λ n. n ≡ self.now) }
     {
         match self {
-            Net::Arr(e) => copied_leaf(alloc, LeafForm::Arr, e),
-            Net::Seq(f, g) => copied_pair(PairForm::Seq, f, g),
+            Net::Arr(e) => Ok(Net::Arr(e.try_copy(alloc)?)),
+            Net::Seq(f, g) => Ok(Net::Seq(f.try_copy()?, g.try_copy()?)),
             Net::First(f) => Ok(Net::First(f.try_copy()?)),
             Net::Par(fs) => Ok(Net::Par(fs.try_copy()?)),
-            Net::LoopPre(c, f) => copied_fed(alloc, FedForm::LoopPre, c, f),
-            Net::IPre(c) => copied_leaf(alloc, LeafForm::IPre, c),
-            Net::Delay(q, c) => copied_leaf(alloc, LeafForm::Delay(*q), c),
-            Net::Hold(c) => copied_leaf(alloc, LeafForm::Hold, c),
-            Net::AccumBy(g, z) => copied_accum(alloc, g, z),
-            Net::After(q, c) => copied_leaf(alloc, LeafForm::After(*q), c),
-            Net::Repeatedly(q, c) => copied_leaf(alloc, LeafForm::Repeatedly(*q), c),
+            Net::LoopPre(c, f) => Ok(Net::LoopPre(c.try_copy(alloc)?, f.try_copy()?)),
+            Net::IPre(c) => Ok(Net::IPre(c.try_copy(alloc)?)),
+            Net::Delay(q, c) => Ok(Net::Delay(*q, c.try_copy(alloc)?)),
+            Net::Hold(c) => Ok(Net::Hold(c.try_copy(alloc)?)),
+            Net::AccumBy(g, z) => Ok(Net::AccumBy(g.try_copy(alloc)?, z.try_copy(alloc)?)),
+            Net::After(q, c) => Ok(Net::After(*q, c.try_copy(alloc)?)),
+            Net::Repeatedly(q, c) => Ok(Net::Repeatedly(*q, c.try_copy(alloc)?)),
             Net::Time => Ok(Net::Time),
             Net::Integral => Ok(Net::Integral),
-            Net::Switch(f, t) => copied_pair(PairForm::Switch, f, t),
-            Net::DSwitch(f, t) => copied_pair(PairForm::DSwitch, f, t),
-            Net::RSwitch(f, t) => copied_pair(PairForm::RSwitch, f, t),
-            Net::KSwitch(f, e, t) => copied_k_switch(f, e, t),
-            Net::PSwitch(r, fs, e, t) => copied_p_switch(alloc, r, fs, e, t),
+            Net::Switch(f, t) => Ok(Net::Switch(f.try_copy()?, t.try_copy()?)),
+            Net::DSwitch(f, t) => Ok(Net::DSwitch(f.try_copy()?, t.try_copy()?)),
+            Net::RSwitch(f, t) => Ok(Net::RSwitch(f.try_copy()?, t.try_copy()?)),
+            Net::KSwitch(f, e, t) => {
+                Ok(Net::KSwitch(f.try_copy()?, e.try_copy()?, t.try_copy()?))
+            }
+            Net::PSwitch(r, fs, e, t) => Ok(Net::PSwitch(
+                r.try_copy(alloc)?,
+                fs.try_copy()?,
+                e.try_copy()?,
+                t.try_copy()?,
+            )),
             Net::Old(k) => Ok(Net::Old(*k)),
-            Net::InitialOut(c, f) => copied_fed(alloc, FedForm::InitialOut, c, f),
-            Net::InitialIn(c, f) => copied_fed(alloc, FedForm::InitialIn, c, f),
-            Net::DrSwitch(f, t) => copied_pair(PairForm::DrSwitch, f, t),
-            Net::RpSwitch(fs, m, t) => copied_rp_switch(alloc, fs, m, t),
+            Net::InitialOut(c, f) => Ok(Net::InitialOut(c.try_copy(alloc)?, f.try_copy()?)),
+            Net::InitialIn(c, f) => Ok(Net::InitialIn(c.try_copy(alloc)?, f.try_copy()?)),
+            Net::DrSwitch(f, t) => Ok(Net::DrSwitch(f.try_copy()?, t.try_copy()?)),
+            Net::RpSwitch(fs, m, t) => {
+                Ok(Net::RpSwitch(fs.try_copy()?, m.try_copy(alloc)?, t.try_copy()?))
+            }
         }
     }
-}
-
-/// A network of that form, of a copy of its expression.
-fn copied_leaf(alloc: Global, form: LeafForm, e: &Expr) -> Result<Net<Expr>, Memory>
-    ensures { IfOk result (λ n. n ≡ leaf_form_of form e.now) }
-{
-    let e = e.try_copy(alloc)?;
-    Ok(form.of(e))
-}
-
-/// A network of that form, of copies of its networks.
-fn copied_pair(form: PairForm, f: &NetChild<Expr>, g: &NetChild<Expr>) -> Result<Net<Expr>, Memory>
-    ensures { IfOk result (λ n. n ≡ pair_form_of form f.now g.now) }
-{
-    let f = f.try_copy()?;
-    let g = g.try_copy()?;
-    Ok(form.of(f, g))
-}
-
-/// A network of that form, of copies of its expression and its network.
-fn copied_fed(
-    alloc: Global,
-    form: FedForm,
-    c: &Expr,
-    f: &NetChild<Expr>,
-) -> Result<Net<Expr>, Memory>
-    ensures { IfOk result (λ n. n ≡ fed_form_of form c.now f.now) }
-{
-    let f = f.try_copy()?;
-    let c = c.try_copy(alloc)?;
-    Ok(form.of(c, f))
-}
-
-/// An `accumBy` of copies of its expressions.
-fn copied_accum(alloc: Global, g: &Expr, z: &Expr) -> Result<Net<Expr>, Memory>
-    ensures { IfOk result (λ n. n ≡ Form.AccumBy g.now z.now) }
-{
-    let g = g.try_copy(alloc)?;
-    match z.try_copy(alloc) {
-        Ok(z) => Ok(Net::AccumBy(g, z)),
-        Err(memory) => {
-            drop(g);
-            Err(memory)
-        }
-    }
-}
-
-/// A `kSwitch` of copies of its networks.
-fn copied_k_switch(
-    f: &NetChild<Expr>,
-    e: &NetChild<Expr>,
-    t: &NetChild<Expr>,
-) -> Result<Net<Expr>, Memory>
-    ensures { IfOk result (λ n. n ≡ Form.KSwitch f.now e.now t.now) }
-{
-    let f = f.try_copy()?;
-    let e = e.try_copy()?;
-    let t = t.try_copy()?;
-    Ok(Net::KSwitch(f, e, t))
-}
-
-/// A `pSwitch` of copies of its expression and its networks.
-fn copied_p_switch(
-    alloc: Global,
-    r: &Expr,
-    fs: &Members<Expr>,
-    e: &NetChild<Expr>,
-    t: &NetChild<Expr>,
-) -> Result<Net<Expr>, Memory>
-    ensures { IfOk result (λ n. n ≡ Form.PSwitch r.now fs.now e.now t.now) }
-{
-    let fs = fs.try_copy()?;
-    let e = e.try_copy()?;
-    let t = t.try_copy()?;
-    let r = r.try_copy(alloc)?;
-    Ok(Net::PSwitch(r, fs, e, t))
-}
-
-/// An `rpSwitchB` of copies of its networks and its expression.
-fn copied_rp_switch(
-    alloc: Global,
-    fs: &Members<Expr>,
-    m: &Expr,
-    t: &NetChild<Expr>,
-) -> Result<Net<Expr>, Memory>
-    ensures { IfOk result (λ n. n ≡ Form.RpSwitch fs.now m.now t.now) }
-{
-    let fs = fs.try_copy()?;
-    let t = t.try_copy()?;
-    let m = m.try_copy(alloc)?;
-    Ok(Net::RpSwitch(fs, m, t))
 }
