@@ -3,7 +3,6 @@
 ghost use Rattle.std.specs.Prelude.{◌≡◌};
 
 use sample_core::OutOfMemory;
-use thiserror::Error;
 
 /// A certificate that leads from its source to its target.
 #[derive(Debug, Drop)]
@@ -13,30 +12,23 @@ pub struct Accepted {
 }
 
 /// Why a certificate is refused. Steps are counted from 1.
-#[derive(Debug, Drop, Error)]
+#[derive(Drop)]
 pub enum CheckFault {
     /// The input types of source and target differ.
-    #[error("inputs differ")]
     InputsDiffer,
     /// The certificate has more than 10,000 steps.
-    #[error("too many steps")]
     TooManySteps,
     /// The step's position isn't there.
-    #[error("no position")]
     NoPosition { step: u32 },
     /// The step's law has no answer at its position, as where it is of the other kind than the
     /// tree there.
-    #[error("no match")]
     NoMatch { step: u32 },
     /// The network that the step leads to is refused by the typing or a limit, or the output type
     /// at the position has changed.
-    #[error("ill typed")]
     IllTyped { step: u32 },
     /// The steps lead to another network than the target.
-    #[error("ends elsewhere")]
     EndsElsewhere,
     /// A growth was refused.
-    #[error("memory")]
     Memory,
 }
 

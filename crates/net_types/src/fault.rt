@@ -5,57 +5,46 @@ ghost use Rattle.std.specs.Prelude.{◌≡◌};
 use leaf_core::ExprFault;
 use net_tree::Position;
 use sample_core::OutOfMemory;
-use thiserror::Error;
 
 /// Why a network has no types within the limits. A position is that of the node or of the
 /// expression that is refused.
-#[derive(Debug, Drop, Error)]
+#[derive(Drop)]
 pub enum TypeFault {
     /// The expression is refused, for that fault, which isn't `Memory`.
-    #[error("an expression is refused")]
     Expr {
         position: Position,
         fault: ExprFault,
     },
     /// A type of the node's parts differs from the one that is wanted.
-    #[error("types differ")]
     Joint {
         position: Position,
     },
     /// No frozen network has the node's level.
-    #[error("no old")]
     NoOld {
         position: Position,
     },
     /// The node wants an event type.
-    #[error("no event")]
     NotEvent {
         position: Position,
     },
     /// The node wants a pair type.
-    #[error("no pair")]
     NotPair {
         position: Position,
     },
     /// The node has no members, or more than 64.
-    #[error("members")]
     Members {
         position: Position,
     },
     /// A number of the node is outside the range of its place.
-    #[error("number")]
     Number {
         position: Position,
     },
     /// The input type or a type that a node makes has a depth over 32 or more than 256 nodes, or
     /// the network's height is over 256.
-    #[error("too deep")]
     TooDeep,
     /// The network's weight is over 1,000,000.
-    #[error("too heavy")]
     TooHeavy,
     /// A growth was refused.
-    #[error("memory")]
     Memory,
 }
 
