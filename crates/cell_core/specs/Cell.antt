@@ -48,7 +48,7 @@ enqueue q v r = (queue q r.0 (r.1 ++ (q, v) ∷ []), r.0)
 abbrev pub after_cell : ℕ → Datum → Cell × Datum
 after_cell q c = if nat_le q 0 then (over, event c) else (waiting q c, no_event)
 
--- the step of a cell. An `accumBy` is handed the new accumulator in the place of the event's value
+-- the step of a cell. An `accumBy` is handed the new accumulator in place of the event's value
 abbrev pub cell_step : Cell → ℕ × Datum → Cell × Datum
 cell_step (previous v) x = (previous x.1, v)
 cell_step (queue q out is) x = enqueue q x.1 (due x.0 out is)

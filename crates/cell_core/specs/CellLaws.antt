@@ -18,7 +18,7 @@ formula_of (F.Repeatedly q) c g = repeatedly_value q c
 formula_of F.Time c g = time_value
 formula_of F.Integral c g = integral_value
 
--- in the place of an event v, the event of what g gives at the pair of the accumulator and v
+-- in place of an event v, the event of what g gives at the pair of the accumulator and v
 abbrev pub put_in : (Datum → Datum) → Datum → Datum → Datum
 put_in g acc (event v) = event (g (pair acc v))
 put_in g acc a = a

@@ -93,7 +93,7 @@ impl Earlier {
         Earlier { last: None }
     }
 
-    /// The newest block; nothing where there is none.
+    /// The newest block; nothing if there is none.
     pub(crate) fn last(&self) -> Option<&Block>
         ensures { MatchOption result (self.now ≡ [])
             (λ b. self.now ≡ b.now.samples ∷ b.now.earlier) }
@@ -104,8 +104,7 @@ impl Earlier {
         }
     }
 
-    /// These blocks, shared. It takes no memory; `Memory` only where a count of references is
-    /// full.
+    /// These blocks, shared. It takes no memory; `Memory` only if a count of references is full.
     #[inline(always)]
     fn try_copy(&self) -> Result<Earlier, Memory>
         ensures { IfOk result (λ e. e ≡ self.now) }
@@ -117,7 +116,7 @@ impl Earlier {
         Ok(Earlier { last })
     }
 
-    /// These blocks and a further one, of copies. `Memory` where a growth was refused.
+    /// These blocks and a further one, of copies. `Memory` if allocation fails.
     #[inline(never)]
     fn and(&self, alloc: Global, entries: &[Entry]) -> Result<Earlier, Memory>
         ensures { IfOk result (λ e. e ≡ entries_of entries.now ∷ self.now) }
@@ -136,7 +135,7 @@ impl Earlier {
     }
 }
 
-/// Copies of these, in a place that fits them. `Memory` where a growth was refused.
+/// Copies of these, in a place that fits them. `Memory` if allocation fails.
 fn copies(alloc: Global, from: &[Entry]) -> Result<Entries, Memory>
     ensures { IfOk result (λ es. es ≡ entries_of from.now) }
 {
@@ -164,7 +163,7 @@ impl Behind {
     }
 
     /// Becomes what was behind and the sample, dt after it, at that age of the front, where what is
-    /// out stands at that place. `Memory` where a growth was refused.
+    /// out stands at that place. `Memory` if allocation fails.
     #[inline(always)]
     pub(crate) fn follow(
         &mut self,
@@ -191,7 +190,7 @@ impl Behind {
     }
 
     /// No newest samples yet: these come into a block, of copies, behind the earlier ones. `Memory`
-    /// where a growth was refused.
+    /// if allocation fails.
     #[inline(never)]
     fn begin_block(
         &mut self,

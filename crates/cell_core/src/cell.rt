@@ -22,8 +22,8 @@ use std::rc::Rc;
 pub enum Cell {
     /// `iPre`: the sample before.
     IPre(Sample),
-    /// `delay`: those in front, of which one is out, and those behind. The front is let go of
-    /// first: where a large place is given back, malloc joins the small ones that are free.
+    /// `delay`: those in front, of which one is out, and those behind. The front is dropped first:
+    /// where a large place is given back, malloc joins the small ones that are free.
     Delay(Rc<Front>, Box<Behind>),
     /// `hold`: the value of the latest event, or the constant.
     Hold(Sample),
@@ -46,7 +46,7 @@ impl Cell {
     /// sample is, in place of an event v, the event of the leaf's answer at the pair of the
     /// constant and v. A `delay` and a `repeatedly` need a q of at least 1.
     ///
-    /// `Memory` where a growth was refused, or a count of references is full.
+    /// `Memory` if allocation fails, or a count of references is full.
     pub fn start(
         alloc: Global,
         form: Form,
@@ -73,8 +73,8 @@ impl Cell {
     /// before. For `accumBy` the sample is, in place of an event v, the event of
     /// the leaf's answer at the pair of the `accumulator` and v.
     ///
-    /// Only a `delay` takes memory: `Memory` where a growth was refused, or a count of references
-    /// is full. This cell stays as it is.
+    /// Only a `delay` takes memory: `Memory` if allocation fails, or a count of references is full.
+    /// This cell stays as it is.
     pub fn step(&self, alloc: Global, dt: u64, sample: &Sample) -> Result<(Cell, Sample), Memory>
         ensures { IfOk result
             (λ r. outcome_of r ≡ cell_step (cell_of self.now) (dt, datum_of sample.now)) }
@@ -85,9 +85,9 @@ impl Cell {
         answered(done, next, answer)
     }
 
-    /// The step of `step`, with the cell after it in the place of another one, and the answer in
-    /// that of another value. After a refusal some cell stands in the one place, and some value in
-    /// the other.
+    /// The step of `step`, with the cell after it in place of another one, and the answer in that
+    /// of another value. After a refusal some cell stands in the one place, and some value in the
+    /// other.
     #[inline(always)]
     pub fn step_into(
         &self,
@@ -118,7 +118,7 @@ impl Cell {
         }
     }
 
-    /// Another cell in the place of this one. A place that holds no parts is written at once.
+    /// Another cell in place of this one. A place that holds no parts is written at once.
     #[inline(always)]
     pub(crate) fn put(&mut self, cell: Cell)
         ensures { self.new ≡ cell }
@@ -129,9 +129,9 @@ impl Cell {
         }
     }
 
-    /// An `iPre` that keeps a copy of the value, in the place of this cell, whose memory it takes
-    /// where that is an `iPre` too. `Memory` only where a count of references is full: some cell
-    /// stands there then.
+    /// An `iPre` that keeps a copy of the value, in place of this cell, whose memory it takes where
+    /// that is an `iPre` too. `Memory` only if a count of references is full: some cell stands
+    /// there then.
     #[inline(always)]
     pub fn put_previous(&mut self, alloc: Global, value: &Sample) -> Result<(), Memory>
         ensures { OnOk result (cell_of self.new ≡ keeping (datum_of value.now)) }

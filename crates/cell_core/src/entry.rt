@@ -18,7 +18,7 @@ pub(crate) struct Entry {
 }
 
 impl Entry {
-    /// An entry with that time and a copy of the value. `Memory` where a growth was refused.
+    /// An entry with that time and a copy of the value. `Memory` if allocation fails.
     #[inline(always)]
     fn copied(alloc: Global, time: u64, value: &Sample) -> Result<Entry, Memory>
         ensures { IfOk result (λ e. entry_of e ≡ (time, datum_of value.now)) }
@@ -27,8 +27,7 @@ impl Entry {
         Ok(Entry { time, value })
     }
 
-    /// Becomes the entry with that time and a copy of the value. `Memory` where a growth was
-    /// refused.
+    /// Becomes the entry with that time and a copy of the value. `Memory` if allocation fails.
     #[inline(always)]
     fn renew(&mut self, alloc: Global, time: u64, value: &Sample) -> Result<(), Memory>
         ensures { OnOk result (entry_of self.new ≡ (time, datum_of value.now)) }
@@ -64,7 +63,7 @@ impl Model for Entries {
 }
 
 impl Entries {
-    /// No entries, with room for so many. `Memory` where a growth was refused.
+    /// No entries, with room for so many. `Memory` if allocation fails.
     pub(crate) fn with_room(alloc: Global, room: usize) -> Result<Entries, Memory>
         ensures { IfOk result (λ es. es ≡ []) }
     {
@@ -98,7 +97,7 @@ impl Entries {
         self.used = 0;
     }
 
-    /// One entry more, with that time and a copy of the value. `Memory` where a growth was refused.
+    /// One entry more, with that time and a copy of the value. `Memory` if allocation fails.
     #[inline(always)]
     pub(crate) fn push(&mut self, alloc: Global, time: u64, value: &Sample) -> Result<(), Memory>
         ensures { OnOk result (self.new ≡ self.old ++ (time, datum_of value.now) ∷ []) }
@@ -112,7 +111,7 @@ impl Entries {
         Ok(())
     }
 
-    /// Copies of these entries behind those that are there. `Memory` where a growth was refused.
+    /// Copies of these entries behind those that are there. `Memory` if allocation fails.
     #[inline(always)]
     pub(crate) fn push_all(&mut self, alloc: Global, from: &[Entry]) -> Result<(), Memory>
         ensures { OnOk result (self.new ≡ self.old ++ entries_of from.now) }
@@ -123,7 +122,7 @@ impl Entries {
         Ok(())
     }
 
-    /// Copies of these entries in the place of those before. `Memory` where a growth was refused.
+    /// Copies of these entries in place of those before. `Memory` if allocation fails.
     #[inline(always)]
     pub(crate) fn renew(&mut self, alloc: Global, from: &[Entry]) -> Result<(), Memory>
         ensures { OnOk result (self.new ≡ entries_of from.now) }
@@ -136,8 +135,7 @@ impl Entries {
     }
 }
 
-/// Copies of these entries in the first places, whose entries go. `Memory` where a growth was
-/// refused.
+/// Copies of these entries in the first places, whose entries go. `Memory` if allocation fails.
 #[inline(always)]
 fn put_copies(alloc: Global, places: &mut [Entry], from: &[Entry]) -> Result<(), Memory>
     requires { length from.now ≤ length places.old }

@@ -15,7 +15,7 @@ pub struct Recurring {
 }
 
 impl Recurring {
-    /// The q and the value, to be shared. `Memory` where a growth was refused.
+    /// The q and the value, to be shared. `Memory` if allocation fails.
     pub(crate) fn new(alloc: Global, q: u64, value: SampleChild) -> Result<Rc<Recurring>, Memory>
         requires { 1 ≤ q }
         ensures { IfOk result (λ r. (r.value.q ≡ q) × (r.value.value ≡ value)) }

@@ -151,7 +151,7 @@ pub(crate) fn accum_by(
     Ok(())
 }
 
-/// No event in the place of a value: mostly there was none before.
+/// No event in place of a value: mostly there was none before.
 #[inline(always)]
 fn put_no_event(out: &mut Sample)
     ensures { datum_of out.new ≡ no_event }

@@ -55,8 +55,8 @@ pub record LeadsElsewhere (source target : TypedNetwork) (steps : List Step) : T
   pub leads : Steps source steps last
   pub elsewhere : last.net ≡ target.net → ⊥
 
--- that this is the answer; want of memory comes only where a growth was refused, so never before
--- the steps begin
+-- that this is the answer; want of memory comes only where allocation failed, so never before the
+-- steps begin
 abbrev pub CheckAnswer : TypedNetwork → TypedNetwork → List Step → Result Accepted CheckFault
     → Type 0
 CheckAnswer source target steps (Ok accepted) =

@@ -46,7 +46,7 @@ AnswerStandsLaw = (t u : TypedNetwork) (s : Step) (x : Next t s u)
 abbrev pub OneNextLaw : Type 0
 OneNextLaw = (t u v : TypedNetwork) (s : Step) → Next t s u → Next t s v → u ≡ v
 
--- two answers are one, but for want of memory
+-- two answers are one, but for lack of memory
 abbrev pub OneCheckAnswerLaw : Type 0
 OneCheckAnswerLaw = (source target : TypedNetwork) (steps : List Step) (a b : Result Accepted CheckFault)
     → CheckAnswer source target steps a → CheckAnswer source target steps b

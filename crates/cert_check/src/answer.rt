@@ -28,7 +28,7 @@ pub enum CheckFault {
     IllTyped { step: u32 },
     /// The steps lead to another network than the target.
     EndsElsewhere,
-    /// A growth was refused.
+    /// Allocation failed.
     Memory,
 }
 

@@ -22,8 +22,8 @@ pub const MOST_STEPS: usize = 10_000;
 /// than 10,000 steps; neither takes memory. Then the steps in their order, counted from 1:
 /// `NoPosition` where a step's position isn't there, `NoMatch` where its law has no answer at it,
 /// `IllTyped` where the network with that answer is refused by the typing or a limit, or the output
-/// type at the position changes. `EndsElsewhere` where they lead to another network. `Memory` where
-/// a growth was refused.
+/// type at the position changes. `EndsElsewhere` where they lead to another network. `Memory` if
+/// allocation fails.
 ///
 /// A target that is accepted has its source's types, and outputs the same on every stream.
 pub fn check(
@@ -50,8 +50,8 @@ pub fn check(
 
 /// The network that the steps lead to from the source, one after the other.
 ///
-/// `TooManySteps` for more than 10,000 steps, without taking memory; then the first fault of a step,
-/// as of `check`. `Memory` where a growth was refused.
+/// `TooManySteps` for more than 10,000 steps, without taking memory; then the first fault of a
+/// step, as of `check`. `Memory` if allocation fails.
 pub fn apply_steps(
     alloc: Global,
     source: &TypedNet,

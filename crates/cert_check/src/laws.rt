@@ -19,7 +19,7 @@ pub fn derivation_laws()
 {}
 
 /// A step leads from a network to at most one other, and a check has at most one answer but for
-/// want of memory: so it accepts exactly where the steps derive the target, and else it tells the
+/// lack of memory: so it accepts if and only if the steps derive the target, and else it tells the
 /// first fault.
 pub fn one_answer_laws()
     ensures one_next { OneNextLaw }

@@ -3,10 +3,10 @@
 //!
 //!     let accepted = check(alloc, &source, &target, &steps)?;
 //!
-//! `check` accepts exactly where the steps derive the target (`Derives`): at most 10,000 steps,
-//! each of which puts a law's answer in the place of a tree (`Next`), lead to just its network.
-//! Then both have the same types and output the same (`derivation_laws`). Else it answers the
-//! first fault, with its step (`CheckAnswer`).
+//! `check` accepts if and only if the steps derive the target (`Derives`): at most 10,000 steps,
+//! each of which puts a law's answer in place of a tree (`Next`), lead to just its network. Then
+//! both have the same types and output the same (`derivation_laws`). Else it answers the first
+//! fault, with its step (`CheckAnswer`).
 //!
 //! First `specs/Derives`, then `src/derivation.rt`.
 #![tactic(auto)]

@@ -23,8 +23,8 @@ use std::alloc::Global;
 ///
 /// `NoPosition` where the step's position isn't there, `NoMatch` where its law has no answer at it,
 /// `IllTyped` where the network with that answer is refused by the typing or a limit, or the output
-/// type at the position changes, each with the number; `Memory` where a growth was refused. The
-/// network is then as before.
+/// type at the position changes, each with the number; `Memory` if allocation fails. The network is
+/// then as before.
 pub fn take_step(
     alloc: Global,
     net: &mut TypedNet,
@@ -70,7 +70,7 @@ fn step_answer(alloc: Global, step: &LawStep, place: Place) -> Result<Option<Tre
     answer_at(alloc, step.law, step.direction, place, given)
 }
 
-/// What stands at the position in the typed network; `None` where the position isn't there. It takes
+/// What stands at the position in the typed network; `None` if the position isn't there. It takes
 /// no memory.
 pub fn place_in<'n>(net: &'n TypedNet, position: &Position) -> Option<Place<'n>>
     ensures { option_map seen_place result
@@ -80,8 +80,8 @@ pub fn place_in<'n>(net: &'n TypedNet, position: &Position) -> Option<Place<'n>>
 }
 
 /// What a law that is taken in this direction answers at a place, where the tree is given, if one
-/// is; `None` where it has no answer there, as where it, or what is given, is of the other kind than
-/// what stands there. `Memory` where a growth was refused.
+/// is; `None` if it has no answer there, as where it, or what is given, is of the other kind than
+/// what stands there. `Memory` if allocation fails.
 pub fn answer_at(
     alloc: Global,
     law: Law,

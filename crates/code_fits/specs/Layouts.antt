@@ -18,7 +18,7 @@ abbrev pub layout : List TypeTree → List ℕ → TypeTree → TypeTree → Lis
 layout Ps Os A B Ts K =
     record { params = Ps; olds = Os; input = A; output = B; values = Ts; kept = K }
 
--- the type, where there is one
+-- the type, if there is one
 abbrev pub type_or_unit : Option TypeTree → TypeTree
 type_or_unit None = unit_ty
 type_or_unit (Some T) = T

@@ -85,7 +85,7 @@ values_stand [] [] = []
 values_stand (T ∷ Ts) (v ∷ vs) = value T v ∷ values_stand Ts vs
 values_stand Ts vs = untyped ∷ []
 
--- a value, where there is one
+-- a value, if there is one
 abbrev pub event_stands : TypeTree → Option Datum → List Stand
 event_stands T None = []
 event_stands T (Some v) = value T v ∷ []

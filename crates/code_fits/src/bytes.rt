@@ -13,7 +13,7 @@ pub(crate) fn rounded(bytes: u64) -> u64 {
     bytes.saturating_add(7) / 8 * 8
 }
 
-/// The number at a place, 0 where there is none.
+/// The number at a place, 0 if there is none.
 pub(crate) fn at(all: &[u64], k: usize) -> u64 {
     match all.get(k) {
         Some(bytes) => *bytes,

@@ -22,7 +22,7 @@ pub enum Refused {
     State(Vec<u32>),
     /// A part has not the type that it must have: never of a typed network.
     Untyped,
-    /// A growth was refused.
+    /// Allocation failed.
     Memory,
 }
 

@@ -39,7 +39,7 @@ impl Types {
         }
     }
 
-    /// The number of a type, which is added where it isn't there.
+    /// The number of a type, which is added if it isn't there.
     #[cycle(number)]
     pub(crate) fn number(&mut self, alloc: Global, ty: &Ty) -> Result<usize, Memory> {
         match ty {
@@ -66,7 +66,7 @@ impl Types {
         self.row(alloc, TypeRow::Pair(a, b))
     }
 
-    /// The number of a row, which is added where it isn't there.
+    /// The number of a row, which is added if it isn't there.
     pub(crate) fn row(&mut self, alloc: Global, row: TypeRow) -> Result<usize, Memory> {
         if let Some(k) = self.rows.iter().position(|known| *known == row) {
             return Ok(k);
@@ -98,7 +98,7 @@ impl Types {
         TyChild::new(alloc, self.tree(alloc, k)?)
     }
 
-    /// A type of the table as a tree, `Unit` where it isn't there.
+    /// A type of the table as a tree, `Unit` if it isn't there.
     pub(crate) fn tree(&self, alloc: Global, k: usize) -> Result<Ty, Memory> {
         match self.trees.get(k) {
             Some(tree) => tree.try_copy(alloc),

@@ -13,7 +13,7 @@ use std::alloc::Global;
 pub enum Unlaid {
     /// A part has not the type that it must have: never of a typed network.
     Untyped,
-    /// A growth was refused.
+    /// Allocation failed.
     Memory,
 }
 

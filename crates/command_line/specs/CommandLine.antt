@@ -108,7 +108,7 @@ pub record DerivationNames : Type 0 where
   pub certificate : List ℕ
 
 -- the names of a source and a certificate; the word that tells how many of its steps are taken, all
--- where there is none; and whether the steps are shown
+-- if there is none; and whether the steps are shown
 pub record LeadingNames : Type 0 where
   pub source : List ℕ
   pub certificate : List ℕ

@@ -11,13 +11,13 @@ use crate::work::Means;
 use leaf_core::{Expr, ExprChild, part, same_expr};
 use sample_core::Memory;
 
-/// What costs less than the expression, and the steps to it. `Memory` where a growth was refused.
+/// What costs less than the expression, and the steps to it. `Memory` if allocation fails.
 pub fn improve_expr(means: &Means, expr: &Expr) -> Result<Rewriting, Memory> {
     searched(means, expr, Aim::Cheap)
 }
 
 /// The expression's normal form, and the steps to it: each `then` carried inwards, the terms of
-/// each sum in order. `Memory` where a growth was refused.
+/// each sum in order. `Memory` if allocation fails.
 pub fn normal_expr(means: &Means, expr: &Expr) -> Result<Rewriting, Memory> {
     searched(means, expr, Aim::Normal)
 }
@@ -30,8 +30,8 @@ fn searched(means: &Means, expr: &Expr, aim: Aim) -> Result<Rewriting, Memory> {
 }
 
 /// `(then f g)` and the steps to it from e, where f, carried into g, leads to e; where it leads to
-/// another expression, what costs less than that, or its normal form, may be e too. Nothing where it
-/// isn't. `Memory` where a growth was refused.
+/// another expression, what costs less than that, or its normal form, may be e too. Nothing where
+/// it isn't. `Memory` if allocation fails.
 pub fn as_then(means: &Means, e: &Expr, f: &Expr, g: &Expr) -> Result<Option<Rewriting>, Memory> {
     let Some(steps) = steps_from(means, f, g, e)? else {
         return Ok(None);

@@ -12,7 +12,7 @@
 //!
 //! First `src/improve.rt`, then `src/push.rt`, the heart of it, and `src/weight.rt`, the costs.
 //! `src/tree.rt` makes expressions, here and for the crates above: each as a part of others, since
-//! to let go of one by itself is dear to prove.
+//! to drop one by itself is dear to prove.
 #![tactic(auto)]
 
 mod carry;

@@ -45,7 +45,7 @@ pub(crate) struct Log {
     path: Vec<u32>,
     /// The steps so far.
     steps: Vec<Step>,
-    /// Whether a growth for these was refused.
+    /// Whether an allocation for these failed.
     refused: bool,
     /// What is left to it.
     pub(crate) means: Means,
@@ -88,7 +88,7 @@ impl Log {
         self.steps.truncate(mark);
     }
 
-    /// Takes off so many nodes, and tells whether it may go on.
+    /// Takes off so many nodes, and returns whether it may go on.
     pub(crate) fn spend(&self, nodes: u64) -> bool {
         self.means.spend(nodes) && self.steps.len() < MOST_STEPS
     }
@@ -99,7 +99,7 @@ impl Log {
         self.spend(depth.saturating_add(nodes))
     }
 
-    /// The steps that it took. `Memory` where a growth for them was refused.
+    /// The steps that it took. `Memory` if an allocation for them failed.
     pub(crate) fn into_steps(self) -> Result<Vec<Step>, Memory> {
         if self.refused {
             Err(Memory)

@@ -11,7 +11,7 @@ use sample_core::Memory;
 use std::alloc::Global;
 
 /// `(pair (then (fst x) g) (snd x))` and the steps to it. Nothing where the expression isn't that.
-/// `Memory` where a growth was refused.
+/// `Memory` if allocation fails.
 pub fn as_left(means: &Means, e: &Expr) -> Result<Option<Rewriting>, Memory> {
     let second = second_input(means.alloc)?;
     match e {
@@ -26,7 +26,7 @@ pub fn as_left(means: &Means, e: &Expr) -> Result<Option<Rewriting>, Memory> {
 }
 
 /// `(pair (fst x) (then (snd x) g))` and the steps to it. Nothing where the expression isn't that.
-/// `Memory` where a growth was refused.
+/// `Memory` if allocation fails.
 pub fn as_right(means: &Means, e: &Expr) -> Result<Option<Rewriting>, Memory> {
     let first = first_input(means.alloc)?;
     match e {
@@ -49,8 +49,8 @@ fn input_as_right(means: &Means, first: ExprChild) -> Result<Option<Rewriting>, 
     looked_at(log, both.get(), &[1], second_input(means.alloc)?)
 }
 
-/// `(then (pair a x) (pair (fst x) (then (snd x) b)))` and the steps to it, of `(pair a b)`. Nothing
-/// where the expression isn't that. `Memory` where a growth was refused.
+/// `(then (pair a x) (pair (fst x) (then (snd x) b)))` and the steps to it, of `(pair a b)`.
+/// Nothing where the expression isn't that. `Memory` if allocation fails.
 pub fn as_late(means: &Means, e: &Expr) -> Result<Option<Rewriting>, Memory> {
     let Expr::Pair(a, b) = e else {
         return Ok(None);
@@ -62,7 +62,7 @@ pub fn as_late(means: &Means, e: &Expr) -> Result<Option<Rewriting>, Memory> {
 }
 
 /// `(on x (none T) (event (then (snd x) g)))` and the steps to it. Nothing where the expression
-/// isn't that. `Memory` where a growth was refused.
+/// isn't that. `Memory` if allocation fails.
 pub fn as_map(means: &Means, e: &Expr) -> Result<Option<Rewriting>, Memory> {
     if is_mapping(e) {
         looked_at(

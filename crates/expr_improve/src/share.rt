@@ -28,7 +28,7 @@ struct Place {
 }
 
 /// `(then h e')` where h is the dearest part that e computes more than once, and without which it
-/// doesn't use its input, with the steps from e. `Memory` where a growth was refused.
+/// doesn't use its input, with the steps from e. `Memory` if allocation fails.
 pub fn shared_at(means: &Means, e: &Expr) -> Result<Option<Rewriting>, Memory> {
     let alloc = means.alloc;
     let mut most = 0;

@@ -22,7 +22,7 @@ struct View {
 }
 
 /// The g for which `(then f g)` is e, where e uses its input by f and by the parts alone of which f
-/// is a pair. Nothing where it uses it in another way. `Memory` where a growth was refused.
+/// is a pair. Nothing where it uses it in another way. `Memory` if allocation fails.
 pub fn seen_through(means: &Means, e: &Expr, f: &Expr) -> Result<Option<ExprChild>, Memory> {
     let alloc = means.alloc;
     let mut views = Vec::new(alloc);

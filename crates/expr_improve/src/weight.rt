@@ -210,7 +210,7 @@ fn weight_of(expr: &Expr, depth: u32) -> Weight {
     }
 }
 
-/// The weight of part k; nothing where there is none.
+/// The weight of part k; nothing if there is none.
 #[cycle(weight)]
 fn part_weight(expr: &Expr, k: u32, depth: u32) -> Weight {
     match part(expr, k) {

@@ -5,7 +5,7 @@ use std::alloc::Global;
 use std::cell::Cell;
 use std::rc::Rc;
 
-/// Where a search allocates, and the work that is left to it, reckoned in nodes that it visits.
+/// Where a search allocates, and the work that is left to it, estimated in nodes that it visits.
 /// Copies share what is left.
 #[derive(Drop)]
 pub struct Means {
@@ -15,20 +15,20 @@ pub struct Means {
 }
 
 impl Means {
-    /// So many nodes are left to be visited. `Memory` where a growth was refused.
+    /// So many nodes are left to be visited. `Memory` if allocation fails.
     pub fn new(alloc: Global, nodes: u64) -> Result<Means, Memory> {
         let left = Rc::new(alloc, Cell::new(nodes))?;
         Ok(Means { alloc, left })
     }
 
-    /// The same means, shared. `Memory` only where a count of references is full.
+    /// The same means, shared. `Memory` only if a count of references is full.
     pub fn share(&self) -> Result<Means, Memory> {
         let left = self.left.clone()?;
         let alloc = self.alloc;
         Ok(Means { alloc, left })
     }
 
-    /// Takes off so many nodes, and tells whether some are left.
+    /// Takes off so many nodes, and returns whether some are left.
     pub fn spend(&self, nodes: u64) -> bool {
         let left = self.left.get().saturating_sub(nodes);
         self.left.set(left);

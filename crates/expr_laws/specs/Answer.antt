@@ -29,7 +29,7 @@ abbrev pub given_of : Option (Bor Expr) → Option Expression
 given_of None = None
 given_of (Some e) = Some (expression_of e.now)
 
--- an answer, or none where there is none
+-- an answer, or none if there is none
 abbrev pub IsExpressionAnswer : Law → Direction → Expression → Option Expression → Option Expr → Type 0
 IsExpressionAnswer law direction e given answer =
     MatchOption answer

@@ -18,8 +18,8 @@ use std::alloc::Global;
 
 /// What a law answers at an expression: forward, with none given, the right side of the law's row
 /// where the expression is its left side; backward the expression that is given, where the row
-/// leads from it forward to exactly the one at hand; else `None`. Types don't matter. `Memory`
-/// where a growth was refused.
+/// leads from it forward to exactly the one at hand; else `None`. Types don't matter. `Memory` if
+/// allocation fails.
 pub fn apply_expr(
     alloc: Global,
     law: Law,

@@ -22,7 +22,7 @@ letter_choice a L.G = a.g
 letter_choice a L.H = a.h
 letter_choice a L.I = a.i
 
--- a form of one part, around the first of some trees; None where there is none
+-- a form of one part, around the first of some trees; None if there is none
 abbrev pub around_one : {A : Type 0} → (A → A) → List A → Option (List A)
 around_one form (d ∷ es) = Some (form d ∷ es)
 around_one form _ = None

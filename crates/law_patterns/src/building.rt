@@ -14,7 +14,7 @@ use sample_core::Memory;
 use std::alloc::Global;
 
 /// The expression that the pattern is with these trees for its letters, whose parts it shares;
-/// `None` where it isn't one expression. `Memory` where a growth was refused.
+/// `None` if it isn't one expression. `Memory` if allocation fails.
 pub(crate) fn build(
     alloc: Global,
     pattern: &[Sym],

@@ -85,7 +85,7 @@ impl<'t> Letters<'t> {
         }
     }
 
-    /// A copy of what the letter stands for; `x` where it stands for nothing. `Memory` where a count
+    /// A copy of what the letter stands for; `x` where it stands for nothing. `Memory` if a count
     /// of references is full.
     pub(crate) fn copy_of(&self, alloc: Global, letter: Letter) -> Result<Expr, Memory>
         ensures { IfOk result (λ e. expression_of e ≡ letter_choice (completed (found_of self.now)) letter) }
@@ -98,8 +98,8 @@ impl<'t> Letters<'t> {
         }
     }
 
-    /// A copy of what the type letter stands for; `Unit` where it stands for nothing. `Memory` where
-    /// a count of references is full.
+    /// A copy of what the type letter stands for; `Unit` where it stands for nothing. `Memory` if a
+    /// count of references is full.
     pub(crate) fn copy_of_type(&self, alloc: Global) -> Result<Ty, Memory>
         ensures { IfOk result (λ t. type_of t ≡ (completed (found_of self.now)).t) }
     {
@@ -110,7 +110,7 @@ impl<'t> Letters<'t> {
     }
 }
 
-/// A copy of the expression; `x` where there is none.
+/// A copy of the expression; `x` if there is none.
 fn copy_or_input(alloc: Global, expr: Option<&Expr>) -> Result<Expr, Memory>
     ensures { IfOk result (λ e. expression_of e ≡ or_input (held_expression expr.entry)) }
 {

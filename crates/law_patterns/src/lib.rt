@@ -2,11 +2,10 @@
 //!
 //!     let made = rewrite_net(alloc, LEFT, RIGHT, &net)?;
 //!
-//! A rule is two patterns. `rewrite_expr` and `rewrite_net` answer the right side exactly where
-//! one choice of trees for the letters fills the left pattern to the tree at hand and the right
-//! one to it; else `None`. Where each letter of the right pattern stands in the left one, a left
-//! side has one right side (`pattern_laws`). So a law is a line of data in `expr_laws` or
-//! `law_rules`.
+//! A rule is two patterns. `rewrite_expr` and `rewrite_net` answer the right side if and only if
+//! one choice of trees for the letters fills the left pattern to the tree at hand and the right one
+//! to it; else `None`. Where each letter of the right pattern stands in the left one, a left side
+//! has one right side (`pattern_laws`). So a law is a line of data in `expr_laws` or `law_rules`.
 //!
 //! First `specs/Pattern`, then `src/rewrite.rt`; symbols of forms stand in `src/net_sym.rt`.
 #![tactic(auto)]

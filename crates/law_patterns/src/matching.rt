@@ -12,7 +12,7 @@ use sample_core::Memory;
 use std::alloc::Global;
 
 /// Whether the pattern fits the expression; its letters then stand for what they are at. `Memory`
-/// where a growth was refused.
+/// if allocation fails.
 pub(crate) fn fit<'t>(
     alloc: Global,
     pattern: &[Sym],

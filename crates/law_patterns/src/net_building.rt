@@ -23,7 +23,7 @@ use sample_core::Memory;
 use std::alloc::Global;
 
 /// The network that the pattern is with these trees for its letters, whose parts it shares; `None`
-/// where it isn't one network. `Memory` where a growth was refused.
+/// if it isn't one network. `Memory` if allocation fails.
 pub(crate) fn build_net(
     alloc: Global,
     pattern: &[NetSym],

@@ -92,7 +92,7 @@ impl<'t> NetLetters<'t> {
     }
 
     /// Whether the pattern fits the expression; its letters then stand for what they are at.
-    /// `Memory` where a growth was refused.
+    /// `Memory` if allocation fails.
     pub(crate) fn meet_leaf(
         &mut self,
         alloc: Global,
@@ -152,7 +152,7 @@ impl<'t> NetLetters<'t> {
         }
     }
 
-    /// A copy of what the letter stands for; `time` where it stands for nothing. `Memory` where a
+    /// A copy of what the letter stands for; `time` where it stands for nothing. `Memory` if a
     /// count of references is full.
     pub(crate) fn copy_of(&self, alloc: Global, letter: NetLetter) -> Result<Net<Expr>, Memory>
         ensures { IfOk result
@@ -176,7 +176,7 @@ impl<'t> NetLetters<'t> {
     }
 }
 
-/// A copy of the network; `time` where there is none.
+/// A copy of the network; `time` if there is none.
 fn copy_or_time(alloc: Global, net: Option<&Net<Expr>>) -> Result<Net<Expr>, Memory>
     ensures { IfOk result (λ n. tree_of n ≡ or_time (held_network net.entry)) }
 {

@@ -14,8 +14,7 @@ use net_tree::{Net, NetChild};
 use sample_core::Memory;
 use std::alloc::Global;
 
-/// The trees of the letters, where the pattern fits the network. `Memory` where a growth was
-/// refused.
+/// The trees of the letters, where the pattern fits the network. `Memory` if allocation fails.
 pub(crate) fn fit_net<'t>(
     alloc: Global,
     pattern: &[NetSym],

@@ -24,7 +24,7 @@ use std::alloc::Global;
 
 /// What the law whose sides are these patterns makes of the expression, read from left to right:
 /// the right side, where a choice of trees for the letters fills the left side to the expression;
-/// `None` where none does. `Memory` where a growth was refused.
+/// `None` if none does. `Memory` if allocation fails.
 pub fn rewrite_expr(
     alloc: Global,
     left: &[Sym],
@@ -57,7 +57,7 @@ fn rewritten(
 
 /// What the law whose sides are these patterns makes of the network, read from left to right: the
 /// right side, where a choice of trees for the letters fills the left side to the network; `None`
-/// where none does. `Memory` where a growth was refused.
+/// if none does. `Memory` if allocation fails.
 pub fn rewrite_net(
     alloc: Global,
     left: &[NetSym],

@@ -32,7 +32,7 @@ abbrev pub given_net : Option (Bor (Net Expr)) → Option (Network Expression)
 given_net None = None
 given_net (Some net) = Some (tree_of net.now)
 
--- an answer, or none where there is none
+-- an answer, or none if there is none
 abbrev pub IsNetworkAnswer : Law → Direction → Network Expression → Option (Network Expression) → ℕ
     → Option (Net Expr) → Type 0
 IsNetworkAnswer law direction net given olds answer =

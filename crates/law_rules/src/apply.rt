@@ -17,7 +17,7 @@ use std::alloc::Global;
 /// What a law answers at a network, where so many frozen networks are in scope: forward, with none
 /// given, the right side of the law's row where the network is its left side; backward the network
 /// that is given, where the row leads from it forward to exactly the one at hand; else `None`.
-/// Types don't matter. `Memory` where a growth was refused.
+/// Types don't matter. `Memory` if allocation fails.
 pub fn apply_law(
     alloc: Global,
     law: Law,

@@ -55,8 +55,8 @@ struct Around<'a> {
 }
 
 /// The code of an expression, under parameters of these types, at an input of this type. Of an
-/// expression that isn't typed there the registers' types mean nothing. `Memory` where a growth was
-/// refused.
+/// expression that isn't typed there the registers' types mean nothing. `Memory` if allocation
+/// fails.
 pub fn compile_expr(alloc: Global, params: &[Ty], input: &Ty, e: &Expr) -> Result<LeafCode, Memory>
     ensures { IfOk result (λ code. leaf_of code
         ≡ leaf_code (map type_of params.now) (type_of input.now) (expression_of e.now)) }
@@ -80,7 +80,7 @@ fn put(steps: &mut Vec<Step>, ty: Ty, operation: Operation) -> Result<usize, Mem
     Ok(steps.len())
 }
 
-/// The type of a register, `Unit` where it isn't there.
+/// The type of a register, `Unit` if it isn't there.
 fn type_at(around: Around<'_>, steps: &[Step], k: usize) -> Result<Ty, Memory>
     ensures { IfOk result (λ t. type_of t
         ≡ type_at (type_of around.entry.input.now) (steps_in steps.now) k) }

@@ -42,8 +42,8 @@ pub enum Operation {
     Event(usize),
     /// Whether a register is an event.
     IsEvent(usize),
-    /// What the event in a register carries; where there is none, the step's type's zero: numbers
-    /// are 0, truths false, and there are no events and no elements.
+    /// What the event in a register carries; if there is none, the step's type's zero: numbers are
+    /// 0, truths false, and there are no events and no elements.
     Carried(usize),
     /// The list of these registers.
     List(Vec<usize>),

@@ -8,8 +8,8 @@ use Rattle.leaf_core.specs.declared.typing.ExprFault.{ExprFault}
 use Rattle.leaf_core.specs.declared.typing.ExprFault.TheVariants.{Memory}
 use Rattle.leaf_core.specs.ExpressionCheck.{TypeAnswer}
 
--- the type or the fault that is answered; only `Memory`, where a growth was refused, says nothing
--- of the answer
+-- the type or the fault that is answered; only `Memory`, where allocation failed, says nothing of
+-- the answer
 abbrev pub GivesType : Result Ty ExprFault → TypeAnswer → Type 0
 GivesType result answer = GivesUnless Memory type_of result answer
 

@@ -52,7 +52,7 @@ abbrev pub count_of : Datum → ℕ
 count_of (list vs) = length (elements vs)
 count_of _ = 0
 
--- parameter k, from 0; `unit` where there is none
+-- parameter k, from 0; `unit` if there is none
 abbrev pub param_at : List Datum → ℕ → Datum
 param_at vs k = get_or vs k unit
 

@@ -11,7 +11,7 @@ element no_more k = None
 element (and_then e es) zero = Some e
 element (and_then e es) (suc k) = element es k
 
--- the elements with s in the place of element k; nothing where there is no such element
+-- the elements with s in place of element k; nothing where there is no such element
 abbrev pub with_element : Expressions → ℕ → Expression → Option Expressions
 with_element no_more k s = None
 with_element (and_then e es) zero s = Some (and_then s es)
@@ -28,7 +28,7 @@ part_inside (three a b c) (suc (suc zero)) = Some c
 part_inside (row t es) k = element es k
 part_inside _ k = None
 
--- what stands inside, with s in the place of part k; nothing where there is no such part
+-- what stands inside, with s in place of part k; nothing where there is no such part
 abbrev pub inside_with : Inside → ℕ → Expression → Option Inside
 inside_with (one a) zero s = Some (one s)
 inside_with (two a b) zero s = Some (two s b)
@@ -66,7 +66,7 @@ refilled e _ = e
 abbrev pub part : Expression → ℕ → Option Expression
 part e k = part_inside (inside_of e) k
 
--- the expression with s in the place of part k; nothing where there is no such part
+-- the expression with s in place of part k; nothing where there is no such part
 abbrev pub with_part : Expression → ℕ → Expression → Option Expression
 with_part e k s = option_map (refilled e) (inside_with (inside_of e) k s)
 

@@ -23,7 +23,7 @@ abbrev pub OneExpressionTypeLaw : Type 0
 OneExpressionTypeLaw = (e : Expression) (Ps : List TypeTree) (A B C : TypeTree) → ExpressionTyped e Ps A B
     → ExpressionTyped e Ps A C → B ≡ C
 
--- the checking walk answers a type exactly where the expression has it within all limits
+-- the checking walk answers a type if and only if the expression has it within all limits
 abbrev pub ExactnessLaw : Type 0
 ExactnessLaw = (e : Expression) (Ps : List TypeTree) (A B : TypeTree)
     → (type_answer Ps A e ≡ Ok B) ↔ ExpressionTypedWithin e Ps A B

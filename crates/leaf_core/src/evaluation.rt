@@ -21,12 +21,12 @@ use std::alloc::Global;
 
 /// The value of the expression at the input `x`, where `params[k]` is the value of parameter k.
 /// Sums, differences, products, negatives and lengths are taken modulo 2^64 and read as signed.
-/// `Memory` where a growth was refused.
+/// `Memory` if allocation fails.
 ///
-/// Nothing is asked of the expression. Where it is ill typed, a default stands in the place of
-/// what is missing: 0 for a number and for a length, `false` for a truth, `unit` for a parameter,
-/// the value itself for a part of a pair, and the `d` of `on` and `nth` for what an event or a
-/// list would give.
+/// Nothing is asked of the expression. Where it is ill typed, a default stands in place of what is
+/// missing: 0 for a number and for a length, `false` for a truth, `unit` for a parameter, the value
+/// itself for a part of a pair, and the `d` of `on` and `nth` for what an event or a list would
+/// give.
 #[inline(always)]
 pub fn eval(alloc: Global, expr: &Expr, params: &[Sample], x: &Sample) -> Result<Sample, Memory>
     ensures { IfOk result
@@ -43,8 +43,8 @@ pub fn eval(alloc: Global, expr: &Expr, params: &[Sample], x: &Sample) -> Result
     }
 }
 
-/// The value of `eval`, in the place of another. Its parts stand where parts of that other stood,
-/// as far as no one else holds them, and take no memory there. After a refusal some value stands
+/// The value of `eval`, in place of another. Its parts stand where parts of that other stood, as
+/// far as no one else holds them, and take no memory there. After a refusal some value stands
 /// there.
 #[inline(always)]
 pub fn eval_over(
@@ -67,7 +67,7 @@ pub fn eval_over(
     }
 }
 
-/// Puts the value of the expression over a scope in the place of another value.
+/// Puts the value of the expression over a scope in place of another value.
 #[cycle(eval)]
 fn eval_into(scope: &Scope<'_>, expr: &Expr, place: &mut Sample) -> Result<(), Memory>
     ensures { OnOk result

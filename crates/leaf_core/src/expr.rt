@@ -121,7 +121,7 @@ impl Model for Exprs {
 }
 
 impl Expr {
-    /// A copy, whose parts are shared with it. It takes no memory; `Memory` only where a count of
+    /// A copy, whose parts are shared with it. It takes no memory; `Memory` only if a count of
     /// references is full.
     pub fn try_copy(&self, alloc: Global) -> Result<Expr, Memory>
         ensures { IfOk result (λ e. e ≡ self.now) }
@@ -239,7 +239,7 @@ fn copy_list(alloc: Global, element: &Ty, all: &Exprs) -> Result<Expr, Memory>
 }
 
 impl ExprChild {
-    /// The expression as a part of another. `Memory` where a growth was refused.
+    /// The expression as a part of another. `Memory` if allocation fails.
     pub fn new(alloc: Global, expr: Expr) -> Result<ExprChild, Memory>
         ensures { IfOk result (λ p. p ≡ expression_of expr) }
     {
@@ -254,8 +254,7 @@ impl ExprChild {
         &self.inner
     }
 
-    /// This expression, shared. It takes no memory; `Memory` only where a count of references
-    /// is full.
+    /// This expression, shared. It takes no memory; `Memory` only if a count of references is full.
     pub fn try_copy(&self) -> Result<ExprChild, Memory>
         ensures { IfOk result (λ p. p ≡ self.now) }
     {
@@ -265,8 +264,8 @@ impl ExprChild {
 }
 
 impl Exprs {
-    /// The expressions as the elements of a list expression, in order. `Memory` where a growth was
-    /// refused.
+    /// The expressions as the elements of a list expression, in order. `Memory` if allocation
+    /// fails.
     pub fn new(alloc: Global, all: Vec<Expr>) -> Result<Exprs, Memory>
         ensures { IfOk result (λ es. es ≡ map expression_of all.items) }
     {
@@ -281,8 +280,7 @@ impl Exprs {
         self.all.as_slice()
     }
 
-    /// These elements, shared. It takes no memory; `Memory` only where a count of references is
-    /// full.
+    /// These elements, shared. It takes no memory; `Memory` only if a count of references is full.
     pub fn try_copy(&self) -> Result<Exprs, Memory>
         ensures { IfOk result (λ es. es ≡ self.now) }
     {

@@ -41,7 +41,7 @@ impl Model for LeafKey {
 }
 
 impl LeafKey {
-    /// A copy, whose trees are shared with it. `Memory` where a growth was refused.
+    /// A copy, whose trees are shared with it. `Memory` if allocation fails.
     pub fn try_copy(&self, alloc: Global) -> Result<LeafKey, Memory>
         ensures { IfOk result (λ k. k ≡ self.now) }
     {

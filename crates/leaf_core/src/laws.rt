@@ -3,8 +3,8 @@
 ghost use Rattle.leaf_core.specs.TypingLaws.{EqualityLaw, ExactnessLaw, OneExpressionTypeLaw, SoundnessLaw};
 ghost use Rattle.leaf_core.specs.PartLaws.{SamePartLaw};
 
-/// A typed expression has values of its type, and one type; the checking walk answers it exactly
-/// where the expression has it within the limits; the test that `equal` makes is equality.
+/// A typed expression has values of its type, and one type; the checking walk answers it if and
+/// only if the expression has it within the limits; the test that `equal` makes is equality.
 pub fn typing_laws()
     ensures sound { SoundnessLaw }
     ensures one_type { OneExpressionTypeLaw }

@@ -5,7 +5,7 @@
 //!     let value = eval(alloc, &expr, &values, &sample)?;
 //!
 //! Contracts see an `Expr` as an `Expression` (`expression_of`). `eval` answers its value
-//! (`value_of`), which every expression has; `type_of_expr` a type exactly where the expression
+//! (`value_of`), which every expression has; `type_of_expr` a type if and only if the expression
 //! has it within the limits, else the first fault of the walk. That a typed expression has values
 //! of its type is `typing_laws`.
 //!

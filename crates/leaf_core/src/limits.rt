@@ -38,8 +38,8 @@ pub fn expr_fits(expr: &Expr) -> bool
     nodes_left(expr, MOST_EXPR_HEIGHT, MOST_EXPR_NODES).is_some()
 }
 
-/// How many of `nodes` are left after those of the type, whose depth is at most `depth`; `None`
-/// where it is deeper, or has more. It stops at the first type too many.
+/// How many of `nodes` are left after those of the type, whose depth is at most `depth`; `None` if
+/// it is deeper, or has more. It stops at the first type too many.
 fn type_nodes_left(ty: &Ty, depth: u32, nodes: u32) -> Option<u32>
     ensures { NodesLeft result (depth_of (type_of ty.now)) (nodes_of (type_of ty.now)) depth nodes }
 {
@@ -56,7 +56,7 @@ fn type_nodes_left(ty: &Ty, depth: u32, nodes: u32) -> Option<u32>
 }
 
 /// How many of `nodes` are left after those of the expression, whose height is at most `height`;
-/// `None` where it is taller, or has more. It stops at the first expression too many.
+/// `None` if it is taller, or has more. It stops at the first expression too many.
 #[cycle(left)]
 fn nodes_left(expr: &Expr, height: u32, nodes: u32) -> Option<u32>
     ensures { NodesLeft result (height_of (expression_of expr.now))

@@ -73,7 +73,7 @@ pub fn part<'v>(form: &Expr, value: &'v Sample) -> &'v Sample
     }
 }
 
-/// Parameter k, from 0; `None` where there is none.
+/// Parameter k, from 0; `None` if there is none.
 pub fn param(params: &[Sample], k: u32) -> Option<&Sample>
     ensures { MatchOption result (param_at (map datum_of params.now) k ≡ unit)
         (λ v. param_at (map datum_of params.now) k ≡ datum_of v.now) }
@@ -84,7 +84,7 @@ pub fn param(params: &[Sample], k: u32) -> Option<&Sample>
     }
 }
 
-/// The number of parameter k, from 0; 0 where there is none, or where it is no number.
+/// The number of parameter k, from 0; 0 if there is none, or where it is no number.
 pub fn param_number(params: &[Sample], k: u32) -> i64
     ensures { result ≡ int_of (param_at (map datum_of params.now) k) }
 {
@@ -94,7 +94,7 @@ pub fn param_number(params: &[Sample], k: u32) -> i64
     }
 }
 
-/// Puts a copy of parameter k, from 0, in the place of another value; `unit` where there is none.
+/// Puts a copy of parameter k, from 0, in place of another value; `unit` if there is none.
 pub fn put_param(alloc: Global, params: &[Sample], k: u32, place: &mut Sample) -> Result<(), Memory>
     ensures { OnOk result (datum_of place.new ≡ param_at (map datum_of params.now) k) }
 {
@@ -107,7 +107,7 @@ pub fn put_param(alloc: Global, params: &[Sample], k: u32, place: &mut Sample) -
     }
 }
 
-/// Puts the pair of two values in the place of another value.
+/// Puts the pair of two values in place of another value.
 #[inline(always)]
 pub fn put_pair(
     alloc: Global,
@@ -122,7 +122,7 @@ pub fn put_pair(
     Ok(())
 }
 
-/// Puts a number, where there is one, in the place of a value.
+/// Puts a number, if there is one, in place of a value.
 #[inline(always)]
 pub fn put_number(n: Result<i64, Memory>, place: &mut Sample) -> Result<(), Memory>
     ensures ok { IfOk n (λ n. datum_of place.new ≡ int n) }
@@ -133,7 +133,7 @@ pub fn put_number(n: Result<i64, Memory>, place: &mut Sample) -> Result<(), Memo
     Ok(())
 }
 
-/// Puts a truth, where there is one, in the place of a value.
+/// Puts a truth, if there is one, in place of a value.
 #[inline(always)]
 pub fn put_truth(t: Result<bool, Memory>, place: &mut Sample) -> Result<(), Memory>
     ensures ok { IfOk t (λ t. datum_of place.new ≡ bool t) }

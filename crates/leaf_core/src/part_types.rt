@@ -13,8 +13,8 @@ use sample_core::{Memory, Ty, TyChild};
 use std::alloc::Global;
 
 /// The type of what stands in the expression at the path of part numbers, where it stands, under
-/// the types of the parameters and of the input; `None` where the path leads to no part, and where
-/// there is no type within the limits. `Memory` where a growth was refused.
+/// the types of the parameters and of the input; `None` if the path leads to no part, and where
+/// there is no type within the limits. `Memory` if allocation fails.
 pub fn part_type(
     alloc: Global,
     params: &[Ty],

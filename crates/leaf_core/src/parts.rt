@@ -49,8 +49,8 @@ pub fn part_at<'e>(expr: &'e Expr, path: &[u32]) -> Option<&'e Expr>
     Some(found)
 }
 
-/// The expression with the other one at the path of part numbers; `None` where the path leads to no
-/// part. `Memory` where a growth was refused.
+/// The expression with the other one at the path of part numbers; `None` if the path leads to no
+/// part. `Memory` if allocation fails.
 pub fn with_part_at(
     alloc: Global,
     expr: &Expr,
@@ -74,7 +74,7 @@ pub fn with_part_at(
     }
 }
 
-/// The expression with the other one as part k; `None` where it has no such part.
+/// The expression with the other one as part k; `None` if it has no such part.
 fn with_part(alloc: Global, expr: &Expr, k: u32, other: Expr) -> Result<Option<Expr>, Memory>
     ensures { IfOk result (λ found. option_map expression_of found
         ≡ with_part (expression_of expr.now) k (expression_of other)) }
@@ -190,7 +190,7 @@ fn with_element(
     Ok(Some(Expr::List(element, changed)))
 }
 
-/// Copies of the expressions, in order, with the other one in the place of expression k.
+/// Copies of the expressions, in order, with the other one in place of expression k.
 fn changed_elements(
     alloc: Global,
     elements: &[Expr],

@@ -28,18 +28,18 @@ pub enum ExprFault {
     /// The expression's height is over 256, or it has more than 100,000 nodes; or a type has a
     /// depth over 32, or more than 256 nodes.
     TooDeep,
-    /// A growth was refused.
+    /// Allocation failed.
     Memory,
 }
 
 /// The type of the expression, under the types of the parameters and of the input; parameter k has
 /// the type `params[k]`. Else the first fault.
 ///
-/// The height and the size of the expression are tested first: `TooDeep` over height 256 or
-/// 100,000 nodes. Then each part in written order, against what is wanted of it and against the
-/// parts before it: `NoParam` where there is no parameter of a number, `Mismatch` where a type is
-/// not as wanted, and `TooDeep` where a type that arises has a depth over 32 or more than 256
-/// nodes. `Memory` where a growth was refused.
+/// The height and the size of the expression are tested first: `TooDeep` over height 256 or 100,000
+/// nodes. Then each part in written order, against what is wanted of it and against the parts
+/// before it: `NoParam` where there is no parameter of a number, `Mismatch` where a type is not as
+/// wanted, and `TooDeep` where a type that arises has a depth over 32 or more than 256 nodes.
+/// `Memory` if allocation fails.
 pub fn type_of_expr(alloc: Global, params: &[Ty], input: &Ty, expr: &Expr) -> Result<Ty, ExprFault>
     // A type that is answered is the expression's, within all limits.
     ensures typed { IfOk result

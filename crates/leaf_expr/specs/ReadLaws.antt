@@ -119,7 +119,7 @@ module _ (L : Language) where
       (rest more : List PlacedToken) → Begins L r s t ts n rest → Begins L q s u ts m more
       → (t ≡ u) × (n ≡ m) × (rest ≡ more)
 
-  -- a fault is answered exactly where it is the first token that doesn't fit, or the end
+  -- a fault is answered if and only if it is the first token that doesn't fit, or the end
   abbrev pub TokenFaultLaw : Type 0
   TokenFaultLaw = (size room : ℕ) (s : L.Sort) (ts : List PlacedToken) (e : ExprTextFault)
       → read L size room s ts ≡ Err e ↔ Stops size room s ts e

@@ -54,7 +54,7 @@ ReadTextLaw = (s : LeafSort) (bs : List ℕ) (t : LeafTree s)
 abbrev pub OneTextLaw : Type 0
 OneTextLaw = (s : LeafSort) (bs : List ℕ) (t u : LeafTree s) → IsText s bs t → IsText s bs u → t ≡ u
 
--- a fault is answered exactly where it tells why the text is no tree
+-- a fault is answered if and only if it tells why the text is no tree
 abbrev pub TextFaultLaw : Type 0
 TextFaultLaw = (s : LeafSort) (bs : List ℕ) (e : ExprTextFault) → e ≢ Memory
     → read_text s bs ≡ Err e ↔ IsTextFault s bs e

@@ -261,9 +261,8 @@ fn whole_expr(alloc: Global, text: &[u8]) -> Result<Expr, ExprTextFault>
 /// count as 600. Answers the type and the byte behind it. Anything may follow.
 ///
 /// A refusal is the first token that doesn't fit, by its first byte. `TooDeep`: a parenthesis that
-/// would be the 601st open at once, also where none fits. `Syntax`: any other, or the text's
-/// length where it ends too early. `Memory`: a growth was refused. `Number` and `TooLong` don't
-/// come.
+/// would be the 601st open at once, also where none fits. `Syntax`: any other, or the text's length
+/// where it ends too early. `Memory`: allocation failed. `Number` and `TooLong` don't come.
 pub fn read_type_at(alloc: Global, text: &[u8], at: usize, depth: usize) -> Read<Ty>
     // What is read is in the grammar.
     ensures found { IfOk result
@@ -288,7 +287,7 @@ pub fn read_type_at(alloc: Global, text: &[u8], at: usize, depth: usize) -> Read
 /// would be the 601st open at once, also where none fits. `Number`: where a number may stand, a
 /// number word that is badly spelt or out of range: 64 bits for a literal, 0 to 65,535 for the
 /// number of a parameter. `Syntax`: any other, or the text's length where it ends too early.
-/// `Memory`: a growth was refused. `TooLong` doesn't come.
+/// `Memory`: allocation failed. `TooLong` doesn't come.
 pub fn read_expr_at(alloc: Global, text: &[u8], at: usize, depth: usize) -> Read<Expr>
     // What is read is in the grammar.
     ensures found { IfOk result
@@ -312,7 +311,7 @@ pub fn read_expr_at(alloc: Global, text: &[u8], at: usize, depth: usize) -> Read
 /// would be the 601st open at once, also where none fits. `Number`: where a number may stand, a
 /// number word that is badly spelt or out of range: 64 bits for a literal, 0 to 65,535 for the
 /// number of a parameter. `Syntax`: any other, among them one behind the expression, or the text's
-/// length where it ends too early. `Memory`: a growth was refused.
+/// length where it ends too early. `Memory`: allocation failed.
 pub fn read_expr(alloc: Global, text: &[u8]) -> Result<Expr, ExprTextFault>
     // What is read is what the text says.
     ensures found { IfOk result (λ e. IsText expression_sort text.now (expression_of e)) }

@@ -4,7 +4,7 @@
 //!     let expr = read_expr(alloc, b"(add x 1)")?;
 //!     let text = print_expr(alloc, &expr)?;
 //!
-//! `read_expr` answers the expression exactly where the text is one (`IsText`), and else the first
+//! `read_expr` answers the expression if and only if the text is one (`IsText`), and else the first
 //! token that doesn't fit, with its byte. What is printed is read back within the limits of texts
 //! (`printing_laws`); shorter ways mean longer expressions (`sugar_laws`).
 //!

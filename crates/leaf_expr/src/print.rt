@@ -14,9 +14,8 @@ use leaf_core::{Expr, ExprChild, Exprs, Literal};
 use sample_core::{Memory, Ty, push_type};
 use std::alloc::Global;
 
-/// The expression's one printed form, as a new text. Where its numbers and its depth are within
-/// the limits of texts, it is read back to the same expression. `Memory` where a growth was
-/// refused.
+/// The expression's one printed form, as a new text. Where its numbers and its depth are within the
+/// limits of texts, it is read back to the same expression. `Memory` if allocation fails.
 pub fn print_expr(alloc: Global, expr: &Expr) -> Result<String, Memory>
     ensures { IfOk result
         (λ text. string_bytes text ≡ sexpr_spelling (expression_sexpr (expression_of expr.now))) }
@@ -26,8 +25,8 @@ pub fn print_expr(alloc: Global, expr: &Expr) -> Result<String, Memory>
     Ok(text)
 }
 
-/// Adds the expression's one printed form to the end of the text. `Memory` where a growth was
-/// refused; the text may then end with a part of it.
+/// Adds the expression's one printed form to the end of the text. `Memory` if allocation fails; the
+/// text may then end with a part of it.
 #[cycle(push_expr)]
 pub fn push_expr(text: &mut String, expr: &Expr) -> Result<(), Memory>
     ensures { Adds result (string_bytes text.old) (string_bytes text.new)

@@ -6,7 +6,7 @@ ghost use Rattle.leaf_expr.specs.Text.{ReadTextLaw, OneTextLaw, TextFaultLaw, Pr
 ghost use Rattle.leaf_expr.specs.TextRows.{TypeRows, WordRows, UnaryRows, BinaryRows, LongRows, MergeIs, GateIs, TagIs, AttachIs, FaultRows};
 
 /// Reading at the front of tokens: what is read is in the grammar, what is in the grammar is read
-/// whatever follows, there is one reading, a fault is answered exactly where it is the first token
+/// whatever follows, there is one reading, a fault is answered if and only if it is the first token
 /// that doesn't fit, by its place and kind, and there is one fault.
 pub fn reading_laws()
     ensures found { FoundLaw leaf }

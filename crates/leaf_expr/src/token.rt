@@ -18,7 +18,7 @@ fn begins_token(b: u8) -> bool
     is_word_byte(b) || b == b'(' || b == b')'
 }
 
-/// Where the first token at or after `at` begins; the text's length where there is none.
+/// Where the first token at or after `at` begins; the text's length if there is none.
 fn token_start(text: &[u8], at: usize) -> usize
     requires { at ≤ length text.now }
     ensures within { (at ≤ result) × (result ≤ length text.now) }
@@ -90,8 +90,8 @@ pub fn lexeme_at(text: &[u8], at: usize) -> Lexeme
 }
 
 /// The first byte of the first token at or after byte `at`, and the byte behind it, as the text
-/// stands from `at` on; a token is a parenthesis, or a longest run of bytes of a word. `None`
-/// where no token follows.
+/// stands from `at` on; a token is a parenthesis, or a longest run of bytes of a word. `None` if no
+/// token follows.
 pub fn token_at(text: &[u8], at: usize) -> Option<(usize, usize)>
     ensures token { MatchOption result (tokens_from at text.now ≡ [])
         (λ p. tokens_from at text.now ≡ (p.0, token_of (slice_range text.now p.0 p.1))

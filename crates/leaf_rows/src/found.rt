@@ -42,7 +42,7 @@ pub enum Probe {
     Shape,
     /// The copy of a key under so many parameters: `COUNT | EXPR`.
     Key,
-    /// Whether a call, by its name, is refused memory at first and answers in the end.
+    /// Whether a call, by its name, fails to allocate at first and answers in the end.
     Scant,
     /// What successive calls of a reader of lines answer: `TYPE | STREAM`.
     Calls,

@@ -6,7 +6,7 @@ use row_texts::texts::{expr_in, number_in, parted, say};
 use sample_core::{Memory, Ty};
 use std::alloc::Global;
 
-/// Tells whether the copy of a key is equal to it: that of the expression at an input that is a
+/// Says whether the copy of a key is equal to it: that of the expression at an input that is a
 /// number, under so many parameters that are numbers.
 pub fn key_told(alloc: Global, given: &str, out: &mut String) {
     let (count, text) = parted(given);

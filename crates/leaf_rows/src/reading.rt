@@ -8,13 +8,13 @@ use row_texts::texts::{bytes_in, expr_in, number_in, numbered, parted, say, say_
 use sample_core::{Memory, Ty, TyChild, push_type, same_type};
 use std::alloc::Global;
 
-/// Tells how the expression of the whole text is printed, or why none is read.
+/// Says how the expression of the whole text is printed, or why none is read.
 pub fn expr_told(alloc: Global, text: &str, out: &mut String) {
     let bytes = bytes_in(alloc, text);
     reading_told(alloc, read_expr(alloc, &bytes), text, out);
 }
 
-/// Tells what was read of the whole text, or why nothing was.
+/// Says what was read of the whole text, or why nothing was.
 pub fn reading_told(
     alloc: Global,
     read: Result<Expr, ExprTextFault>,
@@ -30,7 +30,7 @@ pub fn reading_told(
     }
 }
 
-/// Tells how the expression is printed that is read from a byte on, and where it ends.
+/// Says how the expression is printed that is read from a byte on, and where it ends.
 pub fn expr_at_told(alloc: Global, given: &str, out: &mut String) {
     let (place, text) = parted(given);
     let (at, depth) = numbered(place);
@@ -44,7 +44,7 @@ pub fn expr_at_told(alloc: Global, given: &str, out: &mut String) {
     }
 }
 
-/// Tells how the type is printed that is read from a byte on, and where it ends.
+/// Says how the type is printed that is read from a byte on, and where it ends.
 pub fn type_at_told(alloc: Global, given: &str, out: &mut String) {
     let (place, text) = parted(given);
     let (at, depth) = numbered(place);
@@ -58,7 +58,7 @@ pub fn type_at_told(alloc: Global, given: &str, out: &mut String) {
     }
 }
 
-/// Tells why no expression or type is read.
+/// Says why no expression or type is read.
 fn fault_told(fault: ExprTextFault, out: &mut String) {
     match fault {
         ExprTextFault::Syntax { at } => say_at(out, "syntax at", at),
@@ -69,7 +69,7 @@ fn fault_told(fault: ExprTextFault, out: &mut String) {
     }
 }
 
-/// Tells how the expression is printed, and what is wrong with it.
+/// Says how the expression is printed, and what is wrong with it.
 fn expr_printed(alloc: Global, expr: &Expr, text: &str, out: &mut String) {
     if !is_read_again(alloc, expr, text) {
         say(out, "not the same when it is read again ");
@@ -122,7 +122,7 @@ fn items_are_copied(all: &Exprs) -> bool {
     }
 }
 
-/// Tells how the type is printed, and what is wrong with it.
+/// Says how the type is printed, and what is wrong with it.
 fn type_printed(alloc: Global, ty: &Ty, out: &mut String) {
     if !is_type_copied(alloc, ty) {
         say(out, "not the same as its copy ");

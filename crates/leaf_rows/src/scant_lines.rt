@@ -9,8 +9,8 @@ use sample_core::{Memory, Ty};
 use std::alloc::Global;
 use stream_text::{Counted, LineReader};
 
-/// Tells ten answers of a reader of lines over the stream, `TYPE | STREAM`, with ample memory, and how
-/// the calls end where memory is short at some read.
+/// Says ten answers of a reader of lines over the stream, `TYPE | STREAM`, with ample memory, and
+/// how the calls end where memory is short at some read.
 pub fn lines_told(alloc: Global, given: &str, out: &mut String) {
     let (ty, stream) = parted(given);
     match type_in(alloc, ty) {

@@ -1,4 +1,4 @@
-// What is answered where growths are refused.
+// What is answered where allocations are refused.
 
 use crate::found::{Probe, all_are_found};
 use crate::reading::reading_told;
@@ -19,7 +19,7 @@ struct Trees<'a> {
     expr_text: &'a str,
 }
 
-/// Tells what the call of that name answers where only so much memory is left to it.
+/// Says what the call of that name answers where only so much memory is left to it.
 fn told(alloc: Global, name: &str, trees: Trees<'_>, ballast: Option<Ballast>, out: &mut String) {
     match name {
         "reading a value" => value_read(alloc, trees, ballast, out),
@@ -68,7 +68,7 @@ fn expr_read(alloc: Global, trees: Trees<'_>, ballast: Option<Ballast>, out: &mu
     reading_told(alloc, read, trees.expr_text, out);
 }
 
-/// Tells what the tries of the call of that name answer.
+/// Says what the tries of the call of that name answer.
 fn tally_told(alloc: Global, name: &str, trees: Trees<'_>, out: &mut String) {
     let mut ample = String::new(alloc);
     told(alloc, name, trees, None, &mut ample);
@@ -86,8 +86,8 @@ fn tally_told(alloc: Global, name: &str, trees: Trees<'_>, out: &mut String) {
     tally.tell(out);
 }
 
-/// Tells whether the call of that name is refused memory at first, and answers in the end: on a
-/// list of a hundred events, as a value and as an expression.
+/// Says whether the call of that name fails to allocate at first, and answers in the end: on a list
+/// of a hundred events, as a value and as an expression.
 pub fn scant_told(alloc: Global, name: &str, out: &mut String) {
     let text = written(alloc, "(list{100* (event (pair 1 2))})");
     match type_in(alloc, "(List (Event (Pair Int Int)))") {

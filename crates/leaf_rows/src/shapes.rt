@@ -5,7 +5,7 @@ use leaf_expr::{Literal, Shape, shape_of};
 use row_texts::texts::{expr_in, say, say_signed};
 use std::alloc::Global;
 
-/// Tells the expression's shape.
+/// Says the expression's shape.
 pub fn shape_told(alloc: Global, text: &str, out: &mut String) {
     match expr_in(alloc, text) {
         Some(expr) => told(shape_of(&expr), out),

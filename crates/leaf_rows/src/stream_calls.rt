@@ -12,8 +12,8 @@ use std::alloc::Global;
 use std::io::Read;
 use stream_text::{Counted, Device, LineReader, StreamFault};
 
-/// Tells the first five answers of a reader of lines over the stream, `TYPE | STREAM`, which it
-/// gets in pieces of 4,096 bytes; and `differs`, where smaller pieces lead to others.
+/// Says the first five answers of a reader of lines over the stream, `TYPE | STREAM`, which it gets
+/// in pieces of 4,096 bytes; and `differs`, where smaller pieces lead to others.
 pub fn calls_told(alloc: Global, given: &str, out: &mut String) {
     let (ty, stream) = parted(given);
     match type_in(alloc, ty) {
@@ -43,7 +43,7 @@ fn pieces_told(alloc: Global, ty: &Ty, stream: &str, most: usize, out: &mut Stri
     }
 }
 
-/// Tells the same where no memory is left once the reader is there.
+/// Says the same where no memory is left once the reader is there.
 pub fn scant_calls_told(alloc: Global, given: &str, out: &mut String) {
     let (ty, stream) = parted(given);
     match type_in(alloc, ty) {
@@ -70,7 +70,7 @@ fn scant_told(alloc: Global, ty: &Ty, stream: &str, out: &mut String) {
     }
 }
 
-/// Tells five answers of the reader.
+/// Says five answers of the reader.
 pub fn answers_told<R: Read + Device + Drop>(reader: &mut LineReader<R>, ty: &Ty, out: &mut String)
     requires { IsBefore (type_of ty.now) (stream_state reader.old).lines (stream_state reader.old).before }
     ensures { IsBefore (type_of ty.now) (stream_state reader.new).lines (stream_state reader.new).before }

@@ -5,7 +5,7 @@ use leaf_expr::{Lexeme, form_end, form_head, lexeme_at, token_at};
 use row_texts::texts::{numbered, parted, say, say_at, say_signed};
 use sample_core::number::{is_number_spelling, is_number_word, number};
 
-/// Tells the token, the lexeme, or the head or end of a form that stands from a byte on.
+/// Says the token, the lexeme, or the head or end of a form that stands from a byte on.
 pub fn token_told(given: &str, out: &mut String) {
     let (place, text) = parted(given);
     let (kind, at) = numbered(place);
@@ -43,7 +43,7 @@ fn end_told(end: Option<usize>, out: &mut String) {
     }
 }
 
-/// Tells the number that the word spells, or in what it is wrong.
+/// Says the number that the word spells, or in what it is wrong.
 pub fn number_told(given: &str, out: &mut String) {
     let word = given.as_bytes();
     if !is_number_word(word) {

@@ -9,7 +9,7 @@ use sample_core::{
 };
 use std::alloc::Global;
 
-/// Tells how the tree of that name is printed.
+/// Says how the tree of that name is printed.
 pub fn tree_told(alloc: Global, given: &str, out: &mut String) {
     match given {
         "values" => values_told(alloc, out),

@@ -6,13 +6,13 @@ use row_texts::texts::{expr_in, parted, say, type_in};
 use sample_core::{Ty, push_type};
 use std::alloc::Global;
 
-/// Tells whether the expression has a type at an input of the type, under the parameters of the
+/// Says whether the expression has a type at an input of the type, under the parameters of the
 /// rows.
 pub fn typing_told(alloc: Global, given: &str, out: &mut String) {
     under_told(alloc, &PARAMS, given, out);
 }
 
-/// Tells whether it has one with no parameter in scope.
+/// Says whether it has one with no parameter in scope.
 pub fn typing_alone_told(alloc: Global, given: &str, out: &mut String) {
     under_told(alloc, &[], given, out);
 }
@@ -38,7 +38,7 @@ fn at_told(alloc: Global, params: &[Ty], input: &Ty, text: &str, out: &mut Strin
     }
 }
 
-/// Tells whether an expression has a type, which is or isn't within the limits.
+/// Says whether an expression has a type, which is or isn't within the limits.
 fn found_told(found: Result<Ty, ExprFault>, fits: bool, out: &mut String) {
     match found {
         Ok(ty) => {
@@ -56,7 +56,7 @@ fn found_told(found: Result<Ty, ExprFault>, fits: bool, out: &mut String) {
     }
 }
 
-/// Tells the expression's type under the parameters of the rows.
+/// Says the expression's type under the parameters of the rows.
 pub fn type_told(alloc: Global, input: &Ty, expr: &Expr, out: &mut String) {
     match type_of_expr(alloc, &PARAMS, input, expr) {
         Ok(ty) => {
@@ -67,7 +67,7 @@ pub fn type_told(alloc: Global, input: &Ty, expr: &Expr, out: &mut String) {
     }
 }
 
-/// Tells why the expression, which is or isn't within the limits, has no type.
+/// Says why the expression, which is or isn't within the limits, has no type.
 fn fault_told(fault: ExprFault, fits: bool, out: &mut String) {
     match (fault, fits) {
         (ExprFault::Mismatch, _) => say(out, "mismatch"),

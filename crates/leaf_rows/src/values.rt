@@ -8,7 +8,7 @@ use sample_core::{
 };
 use std::alloc::Global;
 
-/// Tells what is read at the type: how it is printed, and its length; or why nothing is read.
+/// Says what is read at the type: how it is printed, and its length; or why nothing is read.
 pub fn value_told(alloc: Global, given: &str, out: &mut String) {
     let (ty, text) = parted(given);
     match type_in(alloc, ty) {
@@ -23,7 +23,7 @@ pub fn value_told(alloc: Global, given: &str, out: &mut String) {
     }
 }
 
-/// Tells what was read of the text at the type, or why nothing was.
+/// Says what was read of the text at the type, or why nothing was.
 pub fn reading_told(
     alloc: Global,
     read: Result<(Sample, usize), ValueFault>,
@@ -50,7 +50,7 @@ fn fault_told(fault: ValueFault, out: &mut String) {
     }
 }
 
-/// Tells how the value is printed, and what is wrong with it.
+/// Says how the value is printed, and what is wrong with it.
 fn sample_told(alloc: Global, sample: &Sample, ty: &Ty, text: &str, out: &mut String) {
     if !has_type(sample, ty) {
         say(out, "not of its type ");

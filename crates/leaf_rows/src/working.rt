@@ -8,7 +8,7 @@ use row_texts::texts::{answer_told, expr_in, parted, say, type_in, value_in};
 use sample_core::{Memory, Sample, Ty};
 use std::alloc::Global;
 
-/// Tells the expression's type and value at the input, and how it is printed where that isn't as it
+/// Says the expression's type and value at the input, and how it is printed where that isn't as it
 /// was read.
 pub fn worked_told(alloc: Global, given: &str, out: &mut String) {
     let (ty, rest) = parted(given);
@@ -46,7 +46,7 @@ fn expr_told(alloc: Global, input: &Ty, x: &Sample, expr: &Expr, text: &str, out
 /// The parameters' values: parameter 0 is the number 10, parameter 1 is `true`.
 const PARAMS: [Sample; 2] = [Sample::Int(10), Sample::Bool(true)];
 
-/// Tells what was printed, where it isn't the text.
+/// Says what was printed, where it isn't the text.
 fn printed_told(printed: Result<String, Memory>, text: &str, out: &mut String) {
     match printed {
         Ok(printed) => {

@@ -5,6 +5,6 @@
 pub enum TableFault {
     /// The leaf's key is new, and the table has 4,096 rows, the most that it may have.
     Full,
-    /// A growth was refused.
+    /// Allocation failed.
     Memory,
 }

@@ -9,8 +9,8 @@ use leaf_core::LeafKey;
 use sample_core::{Sample, Ty};
 use std::alloc::AllocError;
 
-/// A closure of the parameters' values, parameter 0 first, and the input. `AllocError` where a
-/// growth was refused.
+/// A closure of the parameters' values, parameter 0 first, and the input. `AllocError` where
+/// allocation failed.
 pub type Run = Box<dyn Fn(&[Sample], &Sample) -> Result<Sample, AllocError>>;
 
 /// A closure that computes the expression of its key at arguments of the key's types.
@@ -43,7 +43,7 @@ impl Leaf {
     }
 
     /// What the closure answers. At arguments of the key's types it is the value of the key's
-    /// expression. `AllocError` where a growth was refused.
+    /// expression. `AllocError` where allocation failed.
     #[inline(always)]
     pub(crate) fn call(&self, params: &[Sample], x: &Sample) -> Result<Sample, AllocError>
         ensures { IfOk result

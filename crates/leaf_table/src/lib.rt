@@ -6,7 +6,7 @@
 //!     let value = table.call(row, &params, &sample)?;
 //!
 //! Contracts see a table as the list of its keys and the list of its leaves. `add` answers the row
-//! of the key, a new last one or the one that is there, whose leaf stays; `Full` exactly where the
+//! of the key, a new last one or the one that is there, whose leaf stays; `Full` if and only if the
 //! key is new and 4,096 rows are there. `call` answers the value of the row's expression.
 //!
 //! First `src/table.rt` and `src/leaf.rt`; `src/run.rt` has the closures of each shape.

@@ -62,7 +62,7 @@ pub fn copied(alloc: Global, value: &Sample) -> Result<Sample, AllocError>
     }
 }
 
-/// A pair of copies of the values. `AllocError` where a growth was refused.
+/// A pair of copies of the values. `AllocError` where allocation failed.
 pub fn paired(alloc: Global, first: &Sample, second: &Sample) -> Result<Sample, AllocError>
     ensures { IfOk result (λ s. datum_of s ≡ pair (datum_of first.now) (datum_of second.now)) }
 {
@@ -76,7 +76,7 @@ pub fn paired(alloc: Global, first: &Sample, second: &Sample) -> Result<Sample, 
     }
 }
 
-/// The pair of the values. `AllocError` where a growth was refused.
+/// The pair of the values. `AllocError` where allocation failed.
 fn joined(alloc: Global, first: Sample, second: Sample) -> Result<Sample, AllocError>
     ensures { IfOk result (λ s. datum_of s ≡ pair (datum_of first) (datum_of second)) }
 {
@@ -86,7 +86,7 @@ fn joined(alloc: Global, first: Sample, second: Sample) -> Result<Sample, AllocE
     }
 }
 
-/// A copy of the value, as a part of another. `AllocError` where a growth was refused.
+/// A copy of the value, as a part of another. `AllocError` where allocation failed.
 pub fn child(alloc: Global, value: &Sample) -> Result<SampleChild, AllocError>
     ensures { IfOk result (λ c. c ≡ datum_of value.now) }
 {

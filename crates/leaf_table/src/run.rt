@@ -56,7 +56,7 @@ pub fn run_affine(
 }
 
 /// The input's parts the other way round, for an expression of the shape `Swap`. Each part of an
-/// input that is no pair is the input itself. `AllocError` where a growth was refused.
+/// input that is no pair is the input itself. `AllocError` where allocation failed.
 #[inline(always)]
 pub fn run_swap(alloc: Global, _params: &[Sample], x: &Sample) -> Result<Sample, AllocError>
     ensures { IfOk result (λ v. OfShape S.Swap (datum_of x.now) (datum_of v)) }
@@ -91,8 +91,8 @@ pub fn run_below(_: Global, k: i64, _params: &[Sample], x: &Sample) -> Result<Sa
     Ok(Sample::Bool(number(x) < k))
 }
 
-/// An event that carries the input, for an expression of the shape `Wrap`. `AllocError` where a
-/// growth was refused.
+/// An event that carries the input, for an expression of the shape `Wrap`. `AllocError` where
+/// allocation failed.
 #[inline(always)]
 pub fn run_wrap(alloc: Global, _params: &[Sample], x: &Sample) -> Result<Sample, AllocError>
     ensures { IfOk result (λ v. OfShape S.Wrap (datum_of x.now) (datum_of v)) }
@@ -101,7 +101,7 @@ pub fn run_wrap(alloc: Global, _params: &[Sample], x: &Sample) -> Result<Sample,
 }
 
 /// The value of the key's expression at the input, whatever its shape is, where `params[k]` is the
-/// value of parameter k. `AllocError` where a growth was refused.
+/// value of parameter k. `AllocError` where allocation failed.
 #[inline(always)]
 pub fn run_general(
     alloc: Global,
@@ -139,7 +139,7 @@ pub fn run_again(
     }
 }
 
-/// The value at the input, in the place of the last answer, whatever the expression is.
+/// The value at the input, in place of the last answer, whatever the expression is.
 #[inline(never)]
 fn run_over(
     alloc: Global,

@@ -48,7 +48,7 @@ impl LeafTable {
     /// stays and this one is dropped. Answers the row of the key.
     ///
     /// A refusal gives the leaf back, and the table is as it was. `Full`: the key is new, and the
-    /// table has 4,096 rows. `Memory`: a growth was refused.
+    /// table has 4,096 rows. `Memory`: allocation failed.
     pub fn add(&mut self, leaf: Leaf) -> Result<LeafId, (Leaf, TableFault)>
         ensures row { IfOk result (λ id. slice_get (rows_of self.new) id.0 ≡ Some leaf.key) }
         ensures known { Contains (rows_of self.old) leaf.key
@@ -107,7 +107,7 @@ impl LeafTable {
         }
     }
 
-    /// The row with this key; `None` where no row has it. It takes no memory.
+    /// The row with this key; `None` if no row has it. It takes no memory.
     pub fn find(&self, key: &LeafKey) -> Option<LeafId>
         ensures found { IfSome result (λ id. slice_get (rows_of self.now) id.0 ≡ Some key.now) }
         ensures missing { IfNone result (Contains (rows_of self.now) key.now → ⊥) }
@@ -126,8 +126,8 @@ impl LeafTable {
     }
 
     /// What the row's closure answers to the parameters' values, parameter 0 first, and the input
-    /// `x`. At arguments of its key's types that is the value of its key's expression. The row
-    /// must be there. `Memory` where the closure was refused a growth.
+    /// `x`. At arguments of its key's types that is the value of its key's expression. The row must
+    /// be there. `Memory` if the closure was refused an allocation.
     pub fn call(&self, id: LeafId, params: &[Sample], x: &Sample) -> Result<Sample, Memory>
         requires { id.0 < length (rows_of self.now) }
         ensures { IfOk result (λ v. (key : KeyTree) → slice_get (rows_of self.now) id.0 ≡ Some key →

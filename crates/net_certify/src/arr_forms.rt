@@ -41,7 +41,7 @@ pub(crate) enum ArrForm {
 }
 
 impl ArrForm {
-    /// Makes the move, and tells what it built.
+    /// Makes the move, and returns what it built.
     pub(crate) fn make(self, w: &mut Sketch) -> Result<Built, NoMove> {
         match self {
             ArrForm::SwitchRound => switch_round(w),

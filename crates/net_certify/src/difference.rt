@@ -27,8 +27,8 @@ pub struct Difference {
 }
 
 /// The first position, a node before its children, at which the two have different nodes, with what
-/// each has there; `None` where they are the same, or differ deeper than 1,000 nodes or behind 100,000
-/// children of one. `Memory` where a growth was refused.
+/// each has there; `None` if they are the same, or differ deeper than 1,000 nodes or behind 100,000
+/// children of one. `Memory` if allocation fails.
 pub fn first_difference(
     alloc: Global,
     first: &Net<Expr>,

@@ -61,7 +61,7 @@ pub struct Formed {
 }
 
 /// The normal form of the network, where so many frozen networks are in scope, as far as the search
-/// comes. It is only proposed: types aren't looked at. `Memory` where a growth was refused.
+/// comes. It is only proposed: types aren't looked at. `Memory` if allocation fails.
 pub fn normal_form(means: &Means, net: &Net<Expr>, olds: u32) -> Result<Formed, Memory> {
     let mut former = Former::new(means, net, olds)?;
     former.perform_all()?;
@@ -191,7 +191,7 @@ impl Former {
         Ok(())
     }
 
-    /// Drops the stage, where the one behind it hears nothing, and tells whether.
+    /// Drops the stage, where the one behind it hears nothing, and returns whether.
     fn drop_stage(&mut self, path: &[u32], stage: usize) -> Result<bool, NoMove> {
         match self.made_by(&SOURCE, path, stage)? {
             Some(made) => {

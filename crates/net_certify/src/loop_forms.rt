@@ -33,7 +33,7 @@ pub(crate) enum LoopForm {
 const MOST_NESTED: u32 = 300;
 
 impl LoopForm {
-    /// Makes the move, and tells what it built.
+    /// Makes the move, and returns what it built.
     pub(crate) fn make(self, w: &mut Sketch) -> Result<Built, NoMove> {
         match self {
             LoopForm::Unheard => unheard(w),
@@ -101,8 +101,8 @@ fn back_in(w: &mut Sketch) -> Result<Built, NoMove> {
     Ok(Built::At(&[0, 0, 1]))
 }
 
-/// The expression as its largest part of the left part alone, in the place of that, and what is
-/// left of it behind that.
+/// The expression as its largest part of the left part alone, in place of that, and what is left of
+/// it behind that.
 fn left_before(means: &Means, e: &Expr) -> Result<Option<Rewriting>, NoMove> {
     let largest = largest_left(means.alloc, e)?;
     let front = left_alone(means, largest.get())?;
@@ -110,13 +110,13 @@ fn left_before(means: &Means, e: &Expr) -> Result<Option<Rewriting>, NoMove> {
     Ok(as_then(means, e, front.get(), behind.get())?)
 }
 
-/// The part, which uses the left part alone, in the place of that, beside the right part.
+/// The part, which uses the left part alone, in place of that, beside the right part.
 fn left_alone(means: &Means, e: &Expr) -> Result<ExprChild, NoMove> {
     let inside = through(means, e, first_input(means.alloc)?)?;
     Ok(on_left(means.alloc, inside.get())?)
 }
 
-/// What is left of the expression where its part stands in the place of the left part.
+/// What is left of the expression where its part stands in place of the left part.
 fn behind_left(means: &Means, e: &Expr, part: ExprChild) -> Result<ExprChild, NoMove> {
     let seen = beside_second(means.alloc, part)?;
     through(means, e, seen)

@@ -22,8 +22,8 @@ pub struct Ways {
 }
 
 /// Steps from each of two networks to a third, where the search finds some. What both have at one
-/// place is left alone, and of what differs as little as serves is brought to a normal form. They are
-/// only proposed: types aren't looked at. `Memory` where a growth was refused.
+/// place is left alone, and of what differs as little as serves is brought to a normal form. They
+/// are only proposed: types aren't looked at. `Memory` if allocation fails.
 pub fn ways_between(
     means: &Means,
     first: &Net<Expr>,
@@ -179,8 +179,8 @@ impl Pair {
         }
     }
 
-    /// Takes the law of the number forward at the path, in the one or the other, and tells whether it
-    /// has an answer there.
+    /// Takes the law of the number forward at the path, in the one or the other, and returns
+    /// whether it has an answer there.
     fn step_at(&mut self, path: &[u32], number: u8, is_first: bool) -> Result<bool, NoMove> {
         let sketch = if is_first {
             &mut self.first

@@ -80,7 +80,7 @@ fn middle<'n>(
     Ok(left)
 }
 
-/// How many stages are the same from the front on.
+/// How many stages are the same as a prefix on.
 fn same_front(a: &[&Net<Expr>], b: &[&Net<Expr>]) -> usize {
     let mut count = 0usize;
     for (f, g) in a.iter().zip(b) {

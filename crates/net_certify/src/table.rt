@@ -335,7 +335,7 @@ pub(crate) const TABLE: [MoveRow; 45] = [
 ];
 
 impl FormMove {
-    /// Makes the move of the stages, and tells what it built.
+    /// Makes the move of the stages, and returns what it built.
     pub(crate) fn make(self, w: &mut Sketch) -> Result<Built, NoMove> {
         match self {
             FormMove::Known(known) => known.make(w),

@@ -96,7 +96,7 @@ save P.Watcher s a = with_front s (both (one (front_part s)) a)
 save P.Resumer s a =
     with_taker s (frozen (frozen_when (taker_part s)) (frozen_part (taker_part s)) a)
 
--- the value, where there is one
+-- the value, if there is one
 abbrev pub value_or_unit : Option Datum → Datum
 value_or_unit (Some c) = c
 value_or_unit None = unit

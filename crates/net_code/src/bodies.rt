@@ -32,7 +32,7 @@ use sample_core::Memory;
 use std::alloc::Global;
 
 impl Function {
-    /// The function's rows, in order. `Memory` where a growth was refused.
+    /// The function's rows, in order. `Memory` if allocation fails.
     pub fn rows(&self, alloc: Global) -> Result<Vec<Statement>, Memory>
         ensures { IfOk result (λ rows. rows.items ≡ rows_of self.now) }
     {

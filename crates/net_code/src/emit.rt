@@ -49,8 +49,8 @@ pub(crate) struct Around<'a> {
     pub(crate) places: &'a [Place],
 }
 
-/// The code of a network with nothing in scope. `Memory` where a growth was refused, or where
-/// more parameters are in scope than can be counted.
+/// The code of a network with nothing in scope. `Memory` if allocation fails, or where more
+/// parameters are in scope than can be counted.
 pub fn compile(alloc: Global, net: &Net<Expr>) -> Result<Vec<Function>, Memory>
     ensures { IfOk result (λ code. code_in code.items ≡ code_of (network_of net.now)) }
 {
@@ -145,7 +145,7 @@ fn push_accum(
     push_function(code, Function::Accum(g, z))
 }
 
-/// Place k, where there is one.
+/// Place k, if there is one.
 fn place_at(places: &[Place], k: usize) -> Option<Place>
     ensures { MatchOption result (slice_get places.now k ≡ None)
         (λ p. slice_get places.now k ≡ Some p) }
@@ -156,7 +156,7 @@ fn place_at(places: &[Place], k: usize) -> Option<Place>
     }
 }
 
-/// What resumes the frozen network k, or the identity where there is none.
+/// What resumes the frozen network k, or the identity if there is none.
 #[tactic(auto, using(crate::proofs::Olds::found, crate::proofs::Olds::absent))]
 fn old_or_same(around: Around<'_>, k: usize) -> Function
     ensures { rows_of result ≡ body_of_old around.entry.places.now k k }
@@ -167,7 +167,7 @@ fn old_or_same(around: Around<'_>, k: usize) -> Function
     }
 }
 
-/// Adds what resumes the frozen network k, or the identity where there is none.
+/// Adds what resumes the frozen network k, or the identity if there is none.
 fn push_old(around: Around<'_>, k: u32, code: &mut Vec<Function>) -> Result<(), Memory>
     ensures { IfOk result (λ _. code_in code.new.items
         ≡ and_body (code_in code.old.items) (body_of_old around.entry.places.now k k)) }
@@ -236,7 +236,7 @@ fn emit_resumer(
     emit_part(t, inner, code)
 }
 
-/// The next number. `Memory` where there is none.
+/// The next number. `Memory` if there is none.
 fn one_more(n: usize) -> Result<usize, Memory>
     ensures { IfOk result (λ m. m ≡ suc n) }
 {

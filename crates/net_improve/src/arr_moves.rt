@@ -34,7 +34,7 @@ impl ArrMove {
         }
     }
 
-    /// Makes the move, and tells what it built.
+    /// Makes the move, and returns what it built.
     pub fn make(self, w: &mut Sketch) -> Result<Built, NoMove> {
         match self {
             ArrMove::Source => drop_front(w)?,

@@ -1,4 +1,4 @@
-// Expressions and networks that moves make, as parts of others: such a part is cheap to let go of.
+// Expressions and networks that moves make, as parts of others: such a part is cheap to drop.
 
 use expr_improve::{
     beside_second, first_input, first_of, input, of_second, pair_of, second_input, second_of,

@@ -39,7 +39,7 @@ impl CellMove {
         }
     }
 
-    /// Makes the move, and tells what it built.
+    /// Makes the move, and returns what it built.
     pub fn make(self, w: &mut Sketch) -> Result<Built, NoMove> {
         match self {
             CellMove::HoldNone => {

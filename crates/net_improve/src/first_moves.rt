@@ -56,7 +56,7 @@ impl FirstMove {
         }
     }
 
-    /// Makes the move, and tells what it built.
+    /// Makes the move, and returns what it built.
     pub fn make(self, w: &mut Sketch) -> Result<Built, NoMove> {
         match self {
             FirstMove::Two => two(w),

@@ -33,7 +33,7 @@ impl LoopMove {
         }
     }
 
-    /// Makes the move, and tells what it built.
+    /// Makes the move, and returns what it built.
     pub fn make(self, w: &mut Sketch) -> Result<Built, NoMove> {
         match self {
             LoopMove::Unfirst => {

@@ -99,7 +99,7 @@ impl Move {
         }
     }
 
-    /// Makes the move of the stages, and tells what it built.
+    /// Makes the move of the stages, and returns what it built.
     pub fn make(self, w: &mut Sketch) -> Result<Built, NoMove> {
         match self {
             Move::Law(number, _) => {

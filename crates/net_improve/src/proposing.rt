@@ -10,7 +10,7 @@ use net_tree::{LawStep, Net};
 use sample_core::Memory;
 
 /// Moves that make the network cost less, each as its steps. They are only proposed: types aren't
-/// looked at, and a move is made of what those before it leave. `Memory` where a growth was refused.
+/// looked at, and a move is made of what those before it leave. `Memory` if allocation fails.
 pub fn improving_moves(means: &Means, net: &Net<Expr>) -> Result<Vec<Vec<LawStep>>, Memory> {
     let alloc = means.alloc;
     let mut sketch = Sketch::new(means, copied(alloc, net)?, 0, Clearing::ByCost)?;

@@ -144,7 +144,7 @@ fn pays(made: &Sketch, here: &Net<Expr>, stages: usize, in_loop: bool) -> Result
     Ok(after < before)
 }
 
-/// Puts what was found in the place of the stages, where so many stand before.
+/// Puts what was found in place of the stages, where so many stand before.
 fn make(chain: &mut Sketch, place: usize, found: Found) -> Result<(), NoMove> {
     let Found {
         moved,
@@ -161,7 +161,7 @@ fn make(chain: &mut Sketch, place: usize, found: Found) -> Result<(), NoMove> {
     chain.end_move()
 }
 
-/// Makes one `arr` of two with a stage behind them, by L10 in the place of the first step, L4.
+/// Makes one `arr` of two with a stage behind them, by L10 in place of the first step, L4.
 fn fuse(chain: &mut Sketch, place: usize, made: Sketch) -> Result<(), NoMove> {
     let mut made = made;
     if !made.steps.is_empty() {

@@ -14,7 +14,7 @@ use net_tree::{Direction, Law, LawStep, MOST_HEIGHT, Net, NetChild, Position, Tr
 use sample_core::{Memory, OutOfMemory};
 use std::alloc::Global;
 
-/// Why a move isn't made: it doesn't fit what stands there, or a growth was refused.
+/// Why a move isn't made: it doesn't fit what stands there, or allocation failed.
 #[derive(Clone, Copy)]
 pub enum NoMove {
     Unfit,
@@ -66,7 +66,7 @@ pub struct Spot<'n> {
 }
 
 impl Sketch {
-    /// The network, with no step yet. `Memory` only where a count of references is full.
+    /// The network, with no step yet. `Memory` only if a count of references is full.
     pub fn new(
         means: &Means,
         net: NetChild<Expr>,
@@ -320,7 +320,7 @@ fn depth_of(path: &[u32]) -> u32 {
     u32::try_from(path.len()).unwrap_or(MOST_HEIGHT)
 }
 
-/// A copy of the tree. `Memory` only where a count of references is full.
+/// A copy of the tree. `Memory` only if a count of references is full.
 pub fn copy_of(alloc: Global, tree: TreeRef<'_>) -> Result<Tree, Memory>
     ensures { IfOk result (λ copy. part_of copy ≡ seen tree.entry) }
 {

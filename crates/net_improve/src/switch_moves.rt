@@ -46,7 +46,7 @@ impl SwitchMove {
         }
     }
 
-    /// Makes the move, and tells what it built.
+    /// Makes the move, and returns what it built.
     pub fn make(self, w: &mut Sketch) -> Result<Built, NoMove> {
         match self {
             SwitchMove::Never => never(w),

@@ -20,7 +20,7 @@ pub(crate) const MOST_TAKEN: usize = 1_000;
 /// What laws alone make of the source, meant to be faster, with the steps that lead there. Each is
 /// forward and by one of the laws that the optimiser tries, and each is the first that would be
 /// accepted. There are at most 1,000; where there are fewer, no such step, at any position of the
-/// network, would be accepted. `Memory` where a growth was refused.
+/// network, would be accepted. `Memory` if allocation fails.
 ///
 /// Positions come in order from the root on, a node before its children, and these by number. At a
 /// network the laws come in the order L1 L2 L20 L25 L3 L4 L10 L5 L8 L17 L18 L19 L21 L22 L23 L24 L31

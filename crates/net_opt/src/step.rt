@@ -145,8 +145,8 @@ fn step_by_expr_law(
     }
 }
 
-/// Puts the law's right side where the walk is, if a check would accept that, and tells the step. One
-/// that is too high there is not tried: whatever else changes, it stays so.
+/// Puts the law's right side where the walk is, if a check would accept that, and returns the step.
+/// One that is too high there is not tried: whatever else changes, it stays so.
 fn put(
     alloc: Global,
     typed: &mut TypedNet,

@@ -5,8 +5,8 @@ use net_text::{NetTextFault, read_net};
 use row_texts::texts::say;
 use std::alloc::Global;
 
-/// Tells of each beginning of the file that lacks its last `)` why it isn't read: `h` for its header,
-/// `e` for a fault at its end, `w` for one at the first byte of its last word.
+/// Says of each beginning of the file that lacks its last `)` why it isn't read: `h` for its
+/// header, `e` for a fault at its end, `w` for one at the first byte of its last word.
 pub fn beginnings_told(alloc: Global, file: &str, out: &mut String) {
     let bytes = file.as_bytes();
     let mut word = 0;

@@ -51,7 +51,7 @@ fn measure_told(alloc: Global, kind: &str, net: &Net<Expr>, out: &mut String) {
     }
 }
 
-/// Tells whether the network's size is over the greatest that is walked.
+/// Says whether the network's size is over the greatest that is walked.
 fn oversized_told(alloc: Global, net: &Net<Expr>, out: &mut String) {
     let most = Measures {
         size: MOST_SIZE,
@@ -87,7 +87,7 @@ fn twice(alloc: Global, net: Net<Expr>) -> Option<Box<Net<Expr>>> {
     Box::new(alloc, Net::Seq(copy, half)).ok()
 }
 
-/// Tells the types of a network of that form with that number, between two networks, at an input
+/// Says the types of a network of that form with that number, between two networks, at an input
 /// that is a number: `FORM NUMBER`.
 pub fn built_told(alloc: Global, given: &str, out: &mut String) {
     let (form, number) = numbered(given);
@@ -114,7 +114,7 @@ fn numbered_net(form: &str, number: usize) -> Net<Expr> {
     }
 }
 
-/// `(parB time .. time)`, with so many members, which are a copy of others. Tells how many the copy
+/// `(parB time .. time)`, with so many members, which are a copy of others. Says how many the copy
 /// has.
 fn members(alloc: Global, count: usize, out: &mut String) -> Option<Box<Net<Expr>>> {
     let mut all = Vec::new(alloc);
@@ -137,7 +137,7 @@ fn between(alloc: Global, net: Net<Expr>) -> Option<Box<Net<Expr>>> {
     Box::new(alloc, Net::Seq(first, rest)).ok()
 }
 
-/// Tells how a part is printed that is made by a call, by its name.
+/// Says how a part is printed that is made by a call, by its name.
 pub fn part_told(alloc: Global, given: &str, out: &mut String) {
     let made = match given {
         "types" => return copied_arrow_told(alloc, out),

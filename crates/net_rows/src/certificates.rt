@@ -7,7 +7,7 @@ use net_tree::LawStep;
 use row_texts::texts::{bytes_in, printed_told, say};
 use std::alloc::Global;
 
-/// Tells how the certificate file is printed once it is read, and where what is printed isn't read
+/// Says how the certificate file is printed once it is read, and where what is printed isn't read
 /// to the same again, that it isn't; or why the file isn't read.
 pub fn certificate_told(alloc: Global, text: &str, out: &mut String) {
     match steps_in(alloc, text) {

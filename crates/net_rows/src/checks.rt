@@ -17,7 +17,7 @@ use std::alloc::Global;
 enum Asked {
     /// What its check answers.
     Check,
-    /// What it answers where growths are refused in turn.
+    /// What it answers where allocations fail in turn.
     ScantCheck,
 }
 
@@ -29,12 +29,12 @@ struct Derivation<'a> {
     steps: &'a [LawStep],
 }
 
-/// Tells what the check of a certificate answers: `SOURCE | TARGET | CERTIFICATE`.
+/// Says what the check of a certificate answers: `SOURCE | TARGET | CERTIFICATE`.
 pub fn check_told(alloc: Global, given: &str, out: &mut String) {
     source_told(alloc, given, Asked::Check, out);
 }
 
-/// Tells what the check answers where growths are refused in turn, and whether any was.
+/// Says what the check answers where allocations fail in turn, and whether any was.
 pub fn scant_check_told(alloc: Global, given: &str, out: &mut String) {
     source_told(alloc, given, Asked::ScantCheck, out);
 }
@@ -93,7 +93,7 @@ fn checked(alloc: Global, derivation: Derivation<'_>) -> Result<Accepted, CheckF
     )
 }
 
-/// Tells what a check answered.
+/// Says what a check answered.
 fn answer_told(answer: Result<Accepted, CheckFault>, out: &mut String) {
     match answer {
         Ok(accepted) => say_at(out, "accepted", accepted.steps as usize),
@@ -107,7 +107,7 @@ fn answer_told(answer: Result<Accepted, CheckFault>, out: &mut String) {
     }
 }
 
-/// Tells what a check answers, whether checks were refused memory before it, each with a little more
+/// Says what a check answers, whether checks were refused memory before it, each with a little more
 /// left, and where the networks aren't as they were, that they aren't.
 fn scantly_told(alloc: Global, derivation: Derivation<'_>, out: &mut String) {
     let mut before = String::new(alloc);
@@ -150,12 +150,12 @@ fn scant_tried(alloc: Global, derivation: Derivation<'_>, out: &mut String) {
 }
 
 /// The bytes that are left to a call behind so many tries that were refused memory: so few more at
-/// each that no growth is passed over.
+/// each that no allocation is passed over.
 pub fn spare_behind(refused: usize) -> usize {
     refused.saturating_mul(16)
 }
 
-/// Tells of a call that answered in the end whether it was refused memory before, so many times.
+/// Says of a call that answered in the end whether it failed to allocate before, so many times.
 pub fn refused_told(refused: usize, out: &mut String) {
     match refused {
         0 => say(out, ", never refused"),

@@ -9,8 +9,8 @@ use row_texts::texts::say;
 use sample_core::Memory;
 use std::alloc::Global;
 
-/// Tells the types, the weight and the height of a file's network, how it is printed, and, where
-/// the file that is printed isn't read to the same again, that it isn't.
+/// Says the types, the weight and the height of a file's network, how it is printed, and, where the
+/// file that is printed isn't read to the same again, that it isn't.
 pub fn form_told(alloc: Global, text: &str, out: &mut String) {
     match network(alloc, text) {
         Some(net) => shown(alloc, &net, out),

@@ -67,9 +67,9 @@ pub enum LawProbe {
     File,
     /// What the check of a certificate answers: `SOURCE | TARGET | CERTIFICATE`.
     Check,
-    /// What it answers where growths are refused in turn.
+    /// What it answers where allocations fail in turn.
     ScantCheck,
-    /// What it makes of a network where growths are refused in turn.
+    /// What it makes of a network where allocations fail in turn.
     ScantOptimised,
 }
 

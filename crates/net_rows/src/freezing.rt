@@ -10,7 +10,7 @@ use sample_core::{Memory, Sample};
 use state_core::{Env, Frozen, Places, Running, State, freeze};
 use std::alloc::Global;
 
-/// Tells what is frozen of that name where no memory is left.
+/// Says what is frozen of that name where no memory is left.
 pub fn frozen_told(alloc: Global, name: &str, out: &mut String) {
     match name {
         "a delay" => delay_told(alloc, out),
@@ -18,7 +18,7 @@ pub fn frozen_told(alloc: Global, name: &str, out: &mut String) {
     }
 }
 
-/// Tells what `freeze` answers on the state of `(delay 4096 0)` after 4,096 samples with step 1.
+/// Says what `freeze` answers on the state of `(delay 4096 0)` after 4,096 samples with step 1.
 fn delay_told(alloc: Global, out: &mut String) {
     let net = Net::Delay(4_096, LeafId(0));
     match full_queue(alloc) {
@@ -81,7 +81,7 @@ fn alone<'n>(alloc: Global, net: &'n Net<LeafId>, cell: Cell) -> Result<State<'n
     }
 }
 
-/// Tells what `freeze` answers on the state of a `pSwitch` of 64 clocks, and one that watches it.
+/// Says what `freeze` answers on the state of a `pSwitch` of 64 clocks, and one that watches it.
 fn members_told(alloc: Global, out: &mut String) {
     match clocks(alloc) {
         Ok(net) => {
@@ -165,7 +165,7 @@ fn add_clocks<'n>(
     Ok(())
 }
 
-/// Tells whether there is room for anything, and what the state is frozen to.
+/// Says whether there is room for anything, and what the state is frozen to.
 fn freeze_told<'n>(alloc: Global, net: &'n Net<LeafId>, state: &State<'n>, out: &mut String) {
     let env = Env::nothing();
     let ballast = take_all(alloc, 0);

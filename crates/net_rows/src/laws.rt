@@ -58,7 +58,7 @@ fn law_number(digits: &str) -> u8 {
     u8::try_from(number_in(digits)).unwrap_or(0)
 }
 
-/// Tells what a law makes of an expression, `LAW DIRECTION | EXPR`, and behind it ` | GIVEN` where
+/// Says what a law makes of an expression, `LAW DIRECTION | EXPR`, and behind it ` | GIVEN` where
 /// an expression is given.
 pub fn expr_law_told(alloc: Global, given: &str, out: &mut String) {
     let (words, trees) = parted(given);
@@ -96,7 +96,7 @@ fn expr_from_told(
     }
 }
 
-/// Tells what a law makes of a network, `LAW DIRECTION | NET`, and behind it ` | GIVEN` where a
+/// Says what a law makes of a network, `LAW DIRECTION | NET`, and behind it ` | GIVEN` where a
 /// network is given. Behind the direction stands how many frozen networks are in scope, if any.
 pub fn net_law_told(alloc: Global, given: &str, out: &mut String) {
     let (words, trees) = parted(given);

@@ -10,7 +10,7 @@ use row_texts::texts::{number_in, parted, say};
 use sample_core::{Memory, push_type};
 use std::alloc::Global;
 
-/// Tells the expression of that number, from 0, of a file's network: `FILE | NUMBER`.
+/// Says the expression of that number, from 0, of a file's network: `FILE | NUMBER`.
 pub fn need_told(alloc: Global, given: &str, out: &mut String) {
     let (text, number) = parted(given);
     match network(alloc, text) {
@@ -29,7 +29,7 @@ fn among_told(needs: Result<Vec<LeafNeed>, Memory>, number: usize, out: &mut Str
     }
 }
 
-/// Tells the expressions of a network, each with where it stands and its types.
+/// Says the expressions of a network, each with where it stands and its types.
 pub fn needs_told(needs: Result<Vec<LeafNeed>, Memory>, out: &mut String) {
     match needs {
         Ok(needs) => {

@@ -11,7 +11,7 @@ use row_texts::texts::{say, say_at};
 use sample_core::{Ty, push_type};
 use std::alloc::Global;
 
-/// Tells the types, the weight and the height of a file's network, or why it has none.
+/// Says the types, the weight and the height of a file's network, or why it has none.
 pub fn network_told(alloc: Global, text: &str, out: &mut String) {
     match read_net(alloc, text.as_bytes()) {
         Ok((input, net)) => checked_told(alloc, check_types(alloc, input, net), out),
@@ -19,7 +19,7 @@ pub fn network_told(alloc: Global, text: &str, out: &mut String) {
     }
 }
 
-/// Tells what the check of a network found.
+/// Says what the check of a network found.
 pub fn checked_told(alloc: Global, checked: Result<TypedNet, TypeFault>, out: &mut String) {
     match checked {
         Ok(net) => {
@@ -33,21 +33,21 @@ pub fn checked_told(alloc: Global, checked: Result<TypedNet, TypeFault>, out: &m
     }
 }
 
-/// Tells the network's types, weight and height.
+/// Says the network's types, weight and height.
 pub fn typed_told(net: &TypedNet, out: &mut String) {
     arrow_told(net.input(), net.output(), out);
     say_at(out, " weight", net.weight() as usize);
     say_at(out, " height", net.height() as usize);
 }
 
-/// Tells an input type and an output type.
+/// Says an input type and an output type.
 pub fn arrow_told(input: &Ty, output: &Ty, out: &mut String) {
     drop(push_type(out, input));
     say(out, " -> ");
     drop(push_type(out, output));
 }
 
-/// Tells why the network has no types.
+/// Says why the network has no types.
 fn type_fault_told(alloc: Global, fault: &TypeFault, out: &mut String) {
     match fault {
         TypeFault::Expr { position, fault } => at_told(alloc, words_of(fault), position, out),
@@ -72,7 +72,7 @@ fn words_of(fault: &ExprFault) -> &'static str {
     }
 }
 
-/// Tells the words, and how a copy of the position is printed.
+/// Says the words, and how a copy of the position is printed.
 fn at_told(alloc: Global, words: &str, position: &Position, out: &mut String) {
     say(out, words);
     if let Ok(copy) = position.try_copy(alloc) {

@@ -10,13 +10,13 @@ use row_texts::texts::{bytes_in, printed_told, say, say_at};
 use sample_core::{Memory, Ty};
 use std::alloc::Global;
 
-/// Tells how the file is printed once it is read, or why it isn't.
+/// Says how the file is printed once it is read, or why it isn't.
 pub fn file_told(alloc: Global, text: &str, out: &mut String) {
     let bytes = bytes_in(alloc, text);
     reading_told(alloc, read_net(alloc, &bytes), out);
 }
 
-/// Tells how a copy of what was read is printed, or why nothing was read.
+/// Says how a copy of what was read is printed, or why nothing was read.
 pub fn reading_told(alloc: Global, read: Result<(Ty, Net<Expr>), NetTextFault>, out: &mut String) {
     match read {
         Ok((input, net)) => {
@@ -28,7 +28,7 @@ pub fn reading_told(alloc: Global, read: Result<(Ty, Net<Expr>), NetTextFault>, 
     }
 }
 
-/// Tells why no network is read.
+/// Says why no network is read.
 pub fn text_fault_told(fault: NetTextFault, out: &mut String) {
     match fault {
         NetTextFault::Header => say(out, "header"),
@@ -40,7 +40,7 @@ pub fn text_fault_told(fault: NetTextFault, out: &mut String) {
     }
 }
 
-/// Tells how a copy of the network is printed.
+/// Says how a copy of the network is printed.
 fn copy_told(alloc: Global, input: &Ty, net: &Net<Expr>, out: &mut String) {
     match net.try_copy(alloc) {
         Ok(copy) => {
@@ -51,7 +51,7 @@ fn copy_told(alloc: Global, input: &Ty, net: &Net<Expr>, out: &mut String) {
     }
 }
 
-/// The network of a file's text with its types; `None` where the text or its types are refused.
+/// The network of a file's text with its types; `None` if the text or its types are refused.
 pub fn network(alloc: Global, text: &str) -> Option<Box<TypedNet>> {
     match read_net(alloc, text.as_bytes()) {
         Ok((input, net)) => match check_types(alloc, input, net) {

@@ -28,9 +28,9 @@ fn answer_told(
     drop(steps);
 }
 
-/// Tells how what the optimiser makes of the network of a file is printed, whether it was refused
-/// memory before, each time with a little more left, and where the network isn't as it was, that it
-/// isn't.
+/// Says how what the optimiser makes of the network of a file is printed, whether it failed to
+/// allocate before, each time with a little more left, and where the network isn't as it was, that
+/// it isn't.
 pub fn scant_optimised_told(alloc: Global, file: &str, out: &mut String) {
     match network(alloc, file) {
         Some(source) => scantly_told(alloc, &source, out),
@@ -67,7 +67,7 @@ fn scant_tried(alloc: Global, source: &TypedNet, out: &mut String) {
     say(out, "always refused");
 }
 
-/// Tells how the network and the certificate of an answer are printed.
+/// Says how the network and the certificate of an answer are printed.
 fn both_told(
     alloc: Global,
     source: &TypedNet,

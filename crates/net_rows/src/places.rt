@@ -24,19 +24,19 @@ enum Trial {
     Rewriting,
 }
 
-/// Tells what stands at a position of a file's network, how many parameters and frozen networks are
+/// Says what stands at a position of a file's network, how many parameters and frozen networks are
 /// in scope there, and its type: `FILE | E POSITION`.
 pub fn place_told(alloc: Global, given: &str, out: &mut String) {
     net_told(alloc, given, Trial::Place, out);
 }
 
-/// Tells how a file's network is printed with another tree at a position: `FILE | LETTER POSITION
+/// Says how a file's network is printed with another tree at a position: `FILE | LETTER POSITION
 /// TREE`, with the letter E before an expression, and L before a network.
 pub fn replaced_told(alloc: Global, given: &str, out: &mut String) {
     net_told(alloc, given, Trial::Replacing, out);
 }
 
-/// Tells whether the tree is put there in the typed network, how that is then printed, and its
+/// Says whether the tree is put there in the typed network, how that is then printed, and its
 /// types, weight and height: `FILE | LETTER POSITION TREE`.
 pub fn rewritten_told(alloc: Global, given: &str, out: &mut String) {
     net_told(alloc, given, Trial::Rewriting, out);
@@ -78,7 +78,7 @@ fn tried(alloc: Global, net: &TypedNet, step: &LawStep, trial: Trial, out: &mut 
     }
 }
 
-/// Tells what stands at the position, and what is in scope there.
+/// Says what stands at the position, and what is in scope there.
 fn stands_told(net: &TypedNet, position: &Position, out: &mut String) {
     match at(net.net(), position) {
         Some(place) => found_told(place, out),
@@ -95,7 +95,7 @@ fn found_told(place: Place<'_>, out: &mut String) {
     say_at(out, " olds", place.olds as usize);
 }
 
-/// Tells the type, where there is one.
+/// Says the type, if there is one.
 fn type_told(found: Result<Option<Ty>, Memory>, out: &mut String) {
     match found {
         Ok(Some(ty)) => {
@@ -108,7 +108,7 @@ fn type_told(found: Result<Option<Ty>, Memory>, out: &mut String) {
     }
 }
 
-/// Tells how the network with the tree at the position is printed.
+/// Says how the network with the tree at the position is printed.
 fn other_told(alloc: Global, net: &TypedNet, position: &Position, tree: &Tree, out: &mut String) {
     match replace(alloc, net.net(), position, tree) {
         Ok(Some(other)) => {
@@ -128,7 +128,7 @@ fn copy_told(alloc: Global, net: &TypedNet, position: &Position, tree: &Tree, ou
     }
 }
 
-/// Tells what the rewriting of the copy comes to, and where the copy is the network as it was, that
+/// Says what the rewriting of the copy comes to, and where the copy is the network as it was, that
 /// it is.
 fn put_told(
     alloc: Global,

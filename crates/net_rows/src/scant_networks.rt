@@ -1,4 +1,4 @@
-// What calls on whole networks answer where growths are refused.
+// What calls on whole networks answer where allocations are refused.
 
 use crate::found::{Probe, all_are_found};
 use crate::needs::needs_told;
@@ -21,7 +21,7 @@ struct Given<'a> {
     text: &'a str,
 }
 
-/// Tells what the call of that name answers where only so much memory is left to it.
+/// Says what the call of that name answers where only so much memory is left to it.
 fn told(alloc: Global, name: &str, given: Given<'_>, ballast: Option<Ballast>, out: &mut String) {
     match name {
         "reading a network" => net_read(alloc, given, ballast, out),
@@ -65,7 +65,7 @@ fn needs_found(alloc: Global, given: Given<'_>, ballast: Option<Ballast>, out: &
     needs_told(needs, out);
 }
 
-/// How many times a call is tried, so that growths are refused one behind the other.
+/// How many times a call is tried, so that allocations are refused one behind the other.
 const ATTEMPTS: usize = 600;
 
 /// The bytes that are left at an attempt, a few more at each; behind the last ample memory.
@@ -77,7 +77,7 @@ fn spare_at(attempt: usize) -> usize {
     }
 }
 
-/// Tells what the tries of the call of that name answer.
+/// Says what the tries of the call of that name answer.
 fn tally_told(alloc: Global, name: &str, given: Given<'_>, out: &mut String) {
     let mut ample = String::new(alloc);
     told(alloc, name, given, None, &mut ample);
@@ -95,7 +95,7 @@ fn tally_told(alloc: Global, name: &str, given: Given<'_>, out: &mut String) {
     tally.tell(out);
 }
 
-/// Tells whether the call of that name on a file's network is refused memory at first, and answers
+/// Says whether the call of that name on a file's network fails to allocate at first, and answers
 /// in the end: `CALL | FILE`.
 pub fn scant_network_told(alloc: Global, given: &str, out: &mut String) {
     let (name, text) = parted(given);

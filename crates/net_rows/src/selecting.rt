@@ -46,7 +46,7 @@ fn frozen_each<'n>(alloc: Global, nets: &'n [Net<LeafId>]) -> Result<Vec<Frozen<
     Ok(all)
 }
 
-/// Tells the numbers of the frozen networks that were selected.
+/// Says the numbers of the frozen networks that were selected.
 fn chosen_told(chosen: Result<Vec<Frozen<'_>>, Memory>, out: &mut String) {
     match &chosen {
         Ok(all) => {

@@ -33,9 +33,9 @@ pub enum Certified {
     GaveUp { nodes: u64 },
 }
 
-/// Looks for a certificate: steps that lead from the source to exactly the target's network, as many
-/// as a certificate may have. Where none is found there may be one. `Memory` where a growth was
-/// refused.
+/// Looks for a certificate: steps that lead from the source to exactly the target's network, as
+/// many as a certificate may have. Where none is found there may be one. `Memory` if allocation
+/// fails.
 pub fn certify(alloc: Global, source: &TypedNet, target: &TypedNet) -> Result<Certified, Memory>
     ensures { IfOk result (CertifyAnswer source.now target.now) }
 {

@@ -39,7 +39,7 @@ impl Model for Draft {
 }
 
 impl Draft {
-    /// The source itself, with no step. `Memory` where a growth was refused.
+    /// The source itself, with no step. `Memory` if allocation fails.
     pub fn new(alloc: Global, source: &TypedNet) -> Result<Draft, Memory>
         ensures { IfOk result (λ d. d ≡ begun source.now) }
     {
@@ -79,8 +79,8 @@ impl Draft {
         (net, steps)
     }
 
-    /// Takes the step, where a check would accept it and fewer than 10,000 were taken, and tells
-    /// whether it did; else all is as before. `Memory` where a growth was refused, as before too.
+    /// Takes the step, where a check would accept it and fewer than 10,000 were taken, and returns
+    /// whether it did; else all is as before. `Memory` if allocation fails, as before too.
     pub fn take(&mut self, alloc: Global, step: LawStep) -> Result<bool, Memory>
         ensures source { self.new.source ≡ self.old.source }
         ensures taken { IfOk result (λ b.
@@ -98,8 +98,8 @@ impl Draft {
         Ok(true)
     }
 
-    /// Takes the steps in their order, where each may be taken, and tells whether it did; else all
-    /// is as before. `Memory` where a growth was refused, as before too.
+    /// Takes the steps in their order, where each may be taken, and returns whether it did; else
+    /// all is as before. `Memory` if allocation fails, as before too.
     pub fn take_all(&mut self, alloc: Global, steps: Vec<LawStep>) -> Result<bool, Memory>
         ensures source { self.new.source ≡ self.old.source }
         ensures taken { IfOk result (λ b. MatchBool b
@@ -115,8 +115,8 @@ impl Draft {
         self.go_on(more)
     }
 
-    /// Goes on by what another draft did from this one's network, where that is at most 10,000 steps
-    /// in all, and tells whether it did; else all is as before.
+    /// Goes on by what another draft did from this one's network, where that is at most 10,000
+    /// steps in all, and returns whether it did; else all is as before.
     fn go_on(&mut self, more: Draft) -> Result<bool, Memory>
         requires { more.source ≡ self.old.net }
         ensures source { self.new.source ≡ self.old.source }

@@ -24,7 +24,7 @@ pub(crate) const MOST_IMPROVING: u64 = 10_000_000;
 /// What laws alone make of the source, meant to be faster, with the steps that lead there: at most
 /// 10,000, and their certificate is within the limits of files. Where the search finds nothing that
 /// costs less, what the optimiser makes of the source; where that costs no less either, the source
-/// and no step. `Memory` where a growth was refused.
+/// and no step. `Memory` if allocation fails.
 pub fn improve(alloc: Global, source: &TypedNet) -> Result<(Net<Expr>, Vec<LawStep>), Memory>
     ensures { IfOk result
         (λ answer. Improved source.now (tree_of answer.0) (map step_of answer.1.items)) }

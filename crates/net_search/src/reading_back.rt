@@ -13,7 +13,7 @@ use sample_core::Memory;
 use std::alloc::Global;
 
 /// Whether the printed certificate of the steps is read back to them: it is within the limits of
-/// files. `Memory` where a growth was refused.
+/// files. `Memory` if allocation fails.
 pub(crate) fn is_read_back(alloc: Global, steps: &[LawStep]) -> Result<bool, Memory>
     ensures { IfOk result (λ b. IsTrue b ↔ IsReadBack (map step_of steps.now)) }
 {
@@ -27,7 +27,7 @@ pub(crate) fn is_read_back(alloc: Global, steps: &[LawStep]) -> Result<bool, Mem
     }
 }
 
-/// `Memory` where that is why a text is refused.
+/// `Memory` if that is why a text is refused.
 fn unless_memory(fault: &NetTextFault) -> Result<(), Memory>
     ensures { OnOk result (fault.now ≢ Fault.Memory) }
 {
@@ -37,8 +37,8 @@ fn unless_memory(fault: &NetTextFault) -> Result<(), Memory>
     }
 }
 
-/// Whether the steps are at most 10,000, and their printed certificate is read back. `Memory` where a
-/// growth was refused.
+/// Whether the steps are at most 10,000, and their printed certificate is read back. `Memory` if
+/// allocation fails.
 pub(crate) fn is_within(alloc: Global, steps: &[LawStep]) -> Result<bool, Memory>
     ensures { IfOk result (λ b. MatchBool b
         ((length steps.now ≤ MOST_STEPS) × IsReadBack (map step_of steps.now))

@@ -12,9 +12,9 @@ use net_tree::{Direction, LawStep, Tree};
 use sample_core::Memory;
 use std::alloc::Global;
 
-/// The step that leads back to a network from where the step led: the same law at the same position,
-/// taken the other way; for a step forward, with the tree that stood there. `None` where the
-/// network has no such position. `Memory` where a growth was refused.
+/// The step that leads back to a network from where the step led: the same law at the same
+/// position, taken the other way; for a step forward, with the tree that stood there. `None` if the
+/// network has no such position. `Memory` if allocation fails.
 pub fn undo(alloc: Global, before: &TypedNet, step: &LawStep) -> Result<Option<LawStep>, Memory>
     ensures { IfOk result (IsUndoing before.now (step_of step.now)) }
 {

@@ -96,7 +96,7 @@ fn is_led(
     Ok(same_net(reached.net(), target.net()))
 }
 
-/// Takes the step, and tells whether it may be taken.
+/// Takes the step, and returns whether it may be taken.
 fn is_taken(alloc: Global, net: &mut TypedNet, step: &LawStep) -> Result<bool, Memory>
     ensures { IfOk result (λ b. IsTrue b → Next net.old (step_of step.now) net.new) }
 {

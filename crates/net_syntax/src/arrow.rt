@@ -15,7 +15,7 @@ pub struct Arrow {
 }
 
 impl Arrow {
-    /// A copy, whose parts are shared with it. It takes no memory; `Memory` only where a count of
+    /// A copy, whose parts are shared with it. It takes no memory; `Memory` only if a count of
     /// references is full.
     pub fn try_copy(&self, alloc: Global) -> Result<Arrow, Memory>
         ensures { IfOk result (λ o. o ≡ self.now) }

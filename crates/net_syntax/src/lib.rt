@@ -7,8 +7,8 @@
 //! A `TypedNet` is a network within the limits, with its types. `at`, `replace`, `type_at` and
 //! `leaves` answer what the definitions of these names say. Typed networks output typed values
 //! (`typing_laws`); what does the same may stand for what stood at a position (`replacing_laws`).
-//! Networks themselves are in `net_tree`, what they denote in `net_meaning`; those of their calls that
-//! speak of whole networks are reachable here too.
+//! Networks themselves are in `net_tree`, what they denote in `net_meaning`; those of their calls
+//! that describe whole networks are reachable here too.
 //!
 //! First `specs/Standing`, then `specs/Placed`, then `src/typed_net.rt`.
 #![tactic(auto)]

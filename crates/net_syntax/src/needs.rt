@@ -29,7 +29,7 @@ struct Walk {
 }
 
 /// Every expression that is a child of a network, from the root on, children in written order.
-/// `Memory` where a growth was refused.
+/// `Memory` if allocation fails.
 pub fn leaves(alloc: Global, net: &TypedNet) -> Result<Vec<LeafNeed>, Memory>
     ensures { IfOk result (λ needs. LeavesOf net.now (map need_of needs.items)) }
 {

@@ -30,9 +30,9 @@ pub struct Place<'n> {
     pub olds: u32,
 }
 
-/// What stands at the position in the network, with nothing in scope; `None` where the position
-/// isn't there. Along the position, as far as it leads, fewer than 2^32 parameters and fewer than
-/// 2^32 frozen networks must be in scope. It takes no memory.
+/// What stands at the position in the network, with nothing in scope; `None` if the position isn't
+/// there. Along the position, as far as it leads, fewer than 2^32 parameters and fewer than 2^32
+/// frozen networks must be in scope. It takes no memory.
 pub fn at<'n>(net: &'n Net<Expr>, position: &Position) -> Option<Place<'n>>
     requires { FewBound 0 0 (a_network (tree_of net.now)) position.now }
     ensures { option_map seen_place result
@@ -46,8 +46,8 @@ pub fn at<'n>(net: &'n Net<Expr>, position: &Position) -> Option<Place<'n>>
     place_below(whole, position.path())
 }
 
-/// What stands at the path below a place; `None` where the path isn't there. Along the path, as far
-/// as it leads, fewer than 2^32 parameters and fewer than 2^32 frozen networks must be in scope. It
+/// What stands at the path below a place; `None` if the path isn't there. Along the path, as far as
+/// it leads, fewer than 2^32 parameters and fewer than 2^32 frozen networks must be in scope. It
 /// takes no memory.
 pub fn place_below<'n>(place: Place<'n>, path: &[u32]) -> Option<Place<'n>>
     requires { FewBound place.params place.olds (seen place.tree) path.now }

@@ -14,9 +14,9 @@ use sample_core::Memory;
 use std::alloc::Global;
 use std::mem::replace as exchanged;
 
-/// The network with the other tree at the position; `None` where the position isn't there, and where
-/// what stands there is of another kind than the tree. The parts that stay are shared. `Memory`
-/// where a growth was refused.
+/// The network with the other tree at the position; `None` if the position isn't there, and where
+/// what stands there is of another kind than the tree. The parts that stay are shared. `Memory` if
+/// allocation fails.
 pub fn replace(
     alloc: Global,
     net: &Net<Expr>,
@@ -83,7 +83,7 @@ fn replaced_in(
     }
 }
 
-/// The network with the tree as child k; `None` where child k isn't there or is of another kind.
+/// The network with the tree as child k; `None` if child k isn't there or is of another kind.
 fn with_child(
     alloc: Global,
     net: &Net<Expr>,
@@ -104,7 +104,7 @@ fn with_child(
     Ok(None)
 }
 
-/// Puts the expression in the place of child k; whether that is an expression.
+/// Puts the expression in place of child k; whether that is an expression.
 fn put_leaf(net: &mut Net<Expr>, k: u32, other: Expr) -> bool
     ensures { if_there result (tree_of net.new)
         ≡ with_child (tree_of net.old) k (a_leaf (expression_of other)) }
@@ -128,7 +128,7 @@ fn put_leaf(net: &mut Net<Expr>, k: u32, other: Expr) -> bool
     }
 }
 
-/// Puts the expression in the place of the choice of an `rpSwitchB`, where that is child k.
+/// Puts the expression in place of the choice of an `rpSwitchB`, where that is child k.
 fn put_choice(fs: &Members<Expr>, m: &mut Expr, k: u32, other: Expr) -> bool
     ensures { (t : Network Expression)
         → if_there result (rp_switch (trees fs.now) (expression_of m.new) t)
@@ -141,7 +141,7 @@ fn put_choice(fs: &Members<Expr>, m: &mut Expr, k: u32, other: Expr) -> bool
     }
 }
 
-/// Puts the network in the place of child k; whether that is a network.
+/// Puts the network in place of child k; whether that is a network.
 fn put_net(alloc: Global, net: &mut Net<Expr>, k: u32, other: Net<Expr>) -> Result<bool, Memory>
     ensures { IfOk result (λ is_there. if_there is_there (tree_of net.new)
         ≡ with_child (tree_of net.old) k (a_network (tree_of other))) }
@@ -172,7 +172,7 @@ fn put_net(alloc: Global, net: &mut Net<Expr>, k: u32, other: Net<Expr>) -> Resu
     }
 }
 
-/// Puts the network in the place of child k of a `pSwitch`, where that is a network.
+/// Puts the network in place of child k of a `pSwitch`, where that is a network.
 fn put_behind(
     alloc: Global,
     fs: &mut Members<Expr>,
@@ -197,7 +197,7 @@ fn put_behind(
     }
 }
 
-/// Puts the network in the place of child k of an `rpSwitchB`, where that is a network.
+/// Puts the network in place of child k of an `rpSwitchB`, where that is a network.
 fn put_in_collection(
     alloc: Global,
     fs: &mut Members<Expr>,
@@ -216,7 +216,7 @@ fn put_in_collection(
     }
 }
 
-/// Puts the network in the place of member k, where there is one.
+/// Puts the network in place of member k, if there is one.
 fn put_member(
     alloc: Global,
     fs: &mut Members<Expr>,
@@ -250,7 +250,7 @@ fn copied_nets(alloc: Global, nets: &[Net<Expr>]) -> Result<Vec<Net<Expr>>, Memo
     Ok(copied)
 }
 
-/// Puts the network in the place of another.
+/// Puts the network in place of another.
 fn put_child(alloc: Global, place: &mut NetChild<Expr>, other: Net<Expr>) -> Result<bool, Memory>
     ensures { IfOk result (λ is_there. (is_there ≡ true) × (place.new ≡ network_of other)) }
 {
@@ -259,7 +259,7 @@ fn put_child(alloc: Global, place: &mut NetChild<Expr>, other: Net<Expr>) -> Res
     Ok(true)
 }
 
-/// Puts the expression in the place of another.
+/// Puts the expression in place of another.
 fn put(place: &mut Expr, other: Expr) -> bool
     ensures there { result ≡ true }
     ensures put { place.new ≡ other }
@@ -268,7 +268,7 @@ fn put(place: &mut Expr, other: Expr) -> bool
     true
 }
 
-/// Lets go of what has no place.
+/// Drops what has no place.
 fn put_nowhere<T: Drop>(other: T) -> bool
     ensures { result ≡ false }
 {

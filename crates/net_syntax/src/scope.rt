@@ -60,7 +60,7 @@ impl ScopeTypes {
         &self.olds
     }
 
-    /// A copy, whose parts are shared with it. `Memory` where a growth was refused.
+    /// A copy, whose parts are shared with it. `Memory` if allocation fails.
     pub fn try_copy(&self, alloc: Global) -> Result<ScopeTypes, Memory>
         ensures { IfOk result (λ s. s ≡ self.now) }
     {
@@ -69,7 +69,7 @@ impl ScopeTypes {
         Ok(ScopeTypes { params, olds })
     }
 
-    /// The scope with one more parameter, of the type. `Memory` where a growth was refused.
+    /// The scope with one more parameter, of the type. `Memory` if allocation fails.
     pub fn and_param(&self, alloc: Global, param: &Ty) -> Result<ScopeTypes, Memory>
         ensures { IfOk result (λ s. s ≡ and_param self.now (type_of param.now)) }
     {
@@ -79,7 +79,7 @@ impl ScopeTypes {
         Ok(inner)
     }
 
-    /// Adds a parameter of the type. `Memory` where a growth was refused.
+    /// Adds a parameter of the type. `Memory` if allocation fails.
     pub fn push_param(&mut self, param: Ty) -> Result<(), Memory>
         ensures { OnOk result (self.new ≡ and_param self.old (type_of param)) }
     {
@@ -87,7 +87,7 @@ impl ScopeTypes {
         Ok(())
     }
 
-    /// Adds frozen networks of the types, `count` of them. `Memory` where a growth was refused.
+    /// Adds frozen networks of the types, `count` of them. `Memory` if allocation fails.
     pub fn add_olds(&mut self, alloc: Global, count: u32, types: &Arrow) -> Result<(), Memory>
         ensures { OnOk result (self.new ≡ and_olds self.old count (arrow_of types.now)) }
     {

@@ -34,8 +34,8 @@ pub struct Standing {
 }
 
 impl Standing {
-    /// Where a whole network stands that gets inputs of the type. `Memory` where a count of
-    /// references is full.
+    /// Where a whole network stands that gets inputs of the type. `Memory` if a count of references
+    /// is full.
     pub fn alone(alloc: Global, input: &Ty) -> Result<Standing, Memory>
         ensures { IfOk result (λ s. standing_of s ≡ alone (type_of input.now)) }
     {
@@ -47,8 +47,8 @@ impl Standing {
     }
 }
 
-/// The output type of the network, or the type of the expression, that stands at the position, where
-/// it stands; `None` where the position isn't there. `Memory` where a growth was refused.
+/// The output type of the network, or the type of the expression, that stands at the position,
+/// where it stands; `None` if the position isn't there. `Memory` if allocation fails.
 pub fn type_at(alloc: Global, net: &TypedNet, position: &Position) -> Result<Option<Ty>, Memory>
     ensures { IfOk result
         (λ found. MatchOption found (placed_at 0 0 (a_network net.now.net) position.now ≡ None)
@@ -71,9 +71,9 @@ pub fn type_at(alloc: Global, net: &TypedNet, position: &Position) -> Result<Opt
     }
 }
 
-/// Where child k stands of a network that stands there, typed within the limits. It goes by the parts
-/// before the child that say what is in scope there and what it gets; `None` where one of these has
-/// no type. `Memory` where a growth was refused.
+/// Where child k stands of a network that stands there, typed within the limits. It goes by the
+/// parts before the child that say what is in scope there and what it gets; `None` if one of these
+/// has no type. `Memory` if allocation fails.
 pub fn child_standing(
     alloc: Global,
     at: &Standing,

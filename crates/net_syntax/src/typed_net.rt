@@ -56,8 +56,7 @@ impl TypedNet {
         }
     }
 
-    /// A copy, whose parts are shared with it. `Memory` where a growth was refused; nothing is kept
-    /// then.
+    /// A copy, whose parts are shared with it. `Memory` if allocation fails; nothing is kept then.
     pub fn try_copy(&self, alloc: Global) -> Result<TypedNet, Memory>
         ensures { IfOk result (λ t. t ≡ self.now) }
     {

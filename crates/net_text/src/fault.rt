@@ -22,7 +22,7 @@ pub enum NetTextFault {
     TooDeep { at: usize },
     /// The text has more than 1,048,576 bytes, whatever they are.
     TooLong,
-    /// A growth was refused.
+    /// Allocation failed.
     Memory,
 }
 

@@ -10,7 +10,7 @@ ghost use Rattle.net_text.specs.FileRows.{CellRows, NetworkRows, SugarRows, Iden
 
 /// Reading a network, or what stands inside one, at the front of tokens: what is read is in the
 /// grammar, what is in the grammar is read whatever follows, there is one reading, a fault is
-/// answered exactly where it is the first token that doesn't fit, by its place and kind, and there
+/// answered if and only if it is the first token that doesn't fit, by its place and kind, and there
 /// is one fault, in each version. Types and expressions inside networks are those that they are by
 /// themselves. A network of the first version is the same one in the second, and none of the forms
 /// that are new there is in it.
@@ -26,7 +26,7 @@ pub fn reading_laws()
 {}
 
 /// Reading a whole file: what is read is a network file, a network file is read, it has one
-/// reading, and a fault is answered exactly where it tells why the bytes are no file.
+/// reading, and a fault is answered if and only if it tells why the bytes are no file.
 pub fn file_laws()
     ensures files { ReadFileLaw }
     ensures one_file { OneFileLaw }
@@ -65,7 +65,7 @@ pub fn sugar_laws()
 {}
 
 /// Reading a whole certificate: what is read is a certificate file, a certificate file is read, it
-/// has one reading, and a fault is answered exactly where it tells why the bytes are no such file.
+/// has one reading, and a fault is answered if and only if it tells why the bytes are no such file.
 pub fn certificate_laws()
     ensures certificates { ReadCertificateLaw }
     ensures one_certificate { OneCertificateLaw }

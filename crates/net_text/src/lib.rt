@@ -4,7 +4,7 @@
 //!     let text = print_net(alloc, &input, &net)?;
 //!     let steps = read_cert(alloc, bytes)?;
 //!
-//! `read_net` answers the input type and the network exactly where the bytes are a network file
+//! `read_net` answers the input type and the network if and only if the bytes are a network file
 //! (`IsFile`), and else the first token that doesn't fit, with its byte; `read_cert` the same of
 //! certificates. A print is read back within the limits of files.
 //!

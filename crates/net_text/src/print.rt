@@ -20,7 +20,7 @@ use std::alloc::Global;
 /// The network file of that input type and network, as a new text of three lines: `yampa 1`, or
 /// `yampa 2` where a form of the second version is in the network, `input TYPE` and the network, in
 /// core forms. Where its numbers, its depth and its length are within the limits of files, it is
-/// read back to the same. `Memory` where a growth was refused.
+/// read back to the same. `Memory` if allocation fails.
 pub fn print_net(alloc: Global, input: &Ty, net: &Net<Expr>) -> Result<String, Memory>
     ensures { IfOk result
         (λ text. string_bytes text ≡ file_spelling (type_of input.now) (tree_of net.now)) }
@@ -36,8 +36,8 @@ pub fn print_net(alloc: Global, input: &Ty, net: &Net<Expr>) -> Result<String, M
     Ok(text)
 }
 
-/// Adds the network's one printed form to the end of the text. `Memory` where a growth was
-/// refused; the text may then end with a part of it.
+/// Adds the network's one printed form to the end of the text. `Memory` if allocation fails; the
+/// text may then end with a part of it.
 #[cycle(push_net)]
 pub fn push_net(text: &mut String, net: &Net<Expr>) -> Result<(), Memory>
     ensures { Adds result (string_bytes text.old) (string_bytes text.new)

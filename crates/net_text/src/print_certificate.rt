@@ -20,7 +20,7 @@ use std::alloc::Global;
 /// above L42 is among them or a form of the second version in a given tree, and a line for each
 /// step, with given trees in core forms. Where each law is one, each given tree is of its law's
 /// kind, and their numbers, their depth and the text's length are within the limits of files, it is
-/// read back to the same. `Memory` where a growth was refused.
+/// read back to the same. `Memory` if allocation fails.
 pub fn print_cert(alloc: Global, steps: &[LawStep]) -> Result<String, Memory>
     ensures { IfOk result
         (λ text. string_bytes text ≡ certificate_spelling (map step_of steps.now)) }
@@ -35,8 +35,8 @@ pub fn print_cert(alloc: Global, steps: &[LawStep]) -> Result<String, Memory>
     Ok(text)
 }
 
-/// Adds the network's or the expression's one printed form to the end of the text. `Memory` where a
-/// growth was refused; the text may then end with a part of it.
+/// Adds the network's or the expression's one printed form to the end of the text. `Memory` if
+/// allocation fails; the text may then end with a part of it.
 pub fn push_tree(text: &mut String, tree: &Tree) -> Result<(), Memory>
     ensures { Adds result (string_bytes text.old) (string_bytes text.new)
         (sexpr_spelling (tree_sexpr (part_of tree.now))) }
@@ -80,8 +80,8 @@ fn is_new_given(given: &Option<Tree>) -> bool
     }
 }
 
-/// Adds a step's line, as `print_cert` has it, to the end of the text. `Memory` where a growth was
-/// refused; the text may then end with a part of it.
+/// Adds a step's line, as `print_cert` has it, to the end of the text. `Memory` if allocation
+/// fails; the text may then end with a part of it.
 pub fn push_step(text: &mut String, step: &LawStep) -> Result<(), Memory>
     ensures { Adds result (string_bytes text.old) (string_bytes text.new)
         (sexpr_spelling (step_sexpr (step_of step.now)) ++ 10 ∷ []) }
@@ -123,7 +123,7 @@ fn direction_word(direction: Direction) -> &'static str
     }
 }
 
-/// The given tree as the last part of a step, where there is one.
+/// The given tree as the last part of a step, if there is one.
 fn push_given(text: &mut String, given: &Option<Tree>) -> Result<(), Memory>
     ensures { Adds result (string_bytes text.old) (string_bytes text.new)
         (sexprs_spelling (given_sexprs (option_map part_of given.now))) }

@@ -29,9 +29,8 @@ use std::alloc::Global;
 /// once, also where none fits. `Number`: where a number may stand, a number word that is badly
 /// spelt or out of range: 64 bits for a literal, 0 to 65,535 for the number of a parameter or of a
 /// frozen network, 1 to 4,096 for the time of `delay`, 0 to 2^62 for that of `after`, 1 to 2^62 for
-/// that of `repeatedly`.
-/// `Syntax`: any other, among them one behind the network, or the text's length where it ends too
-/// early. `Memory`: a growth was refused.
+/// that of `repeatedly`. `Syntax`: any other, among them one behind the network, or the text's
+/// length where it ends too early. `Memory`: allocation failed.
 pub fn read_net(alloc: Global, text: &[u8]) -> Result<(Ty, Net<Expr>), NetTextFault>
     // What is read is what the file says.
     ensures found { IfOk result (λ x. IsFile text.now (type_of x.0) (tree_of x.1)) }

@@ -28,8 +28,8 @@ use std::alloc::Global;
 /// first two, or they aren't both there. `TooDeep`: a parenthesis that would be the 601st open at
 /// once, also where none fits. `Number`: where a number may stand, a number word that is badly
 /// spelt or out of range: a child number is from 0 to 65,535, those in a tree are as for
-/// `read_net`. `Syntax`: any other, or the text's length where it ends too early. `Memory`: a
-/// growth was refused.
+/// `read_net`. `Syntax`: any other, or the text's length where it ends too early. `Memory`:
+/// allocation failed.
 pub fn read_cert(alloc: Global, text: &[u8]) -> Result<Vec<LawStep>, NetTextFault>
     // What is read is what the file says.
     ensures found { IfOk result (λ steps. IsCertificate text.now (map step_of steps.items)) }

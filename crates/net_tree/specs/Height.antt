@@ -2,7 +2,7 @@
 use Rattle.std.specs.Prelude.{ℕ, suc, max, List, [], ◌∷◌, ◌++◌, get_or}
 use Rattle.net_tree.specs.Network.{Network, Networks, seq, first, par, loop_pre, initial_out, initial_in, switch, r_switch, rp_switch, k_switch, p_switch, old, no_members, and_member}
 
--- the height of the frozen network k, 0 where there is none
+-- the height of the frozen network k, 0 if there is none
 abbrev pub height_at : List ℕ → ℕ → ℕ
 height_at hs k = get_or hs k 0
 

@@ -4,7 +4,7 @@ use Rattle.std.specs.Prelude.{ℕ, suc, ◌+◌, ◌*◌, List, [], ◌∷◌, �
 use Rattle.net_tree.specs.Network.{Network, Networks, seq, first, par, loop_pre, initial_out, initial_in, at_once, delayed, switch, r_switch, rp_switch, k_switch, p_switch, old, no_members, and_member}
 use Rattle.net_tree.specs.Height.{greatest}
 
--- the weight of the frozen network k, 0 where there is none
+-- the weight of the frozen network k, 0 if there is none
 abbrev pub weight_at : List ℕ → ℕ → ℕ
 weight_at ws k = get_or ws k 0
 

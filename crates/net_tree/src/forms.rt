@@ -82,7 +82,7 @@ impl FedForm {
 }
 
 impl Net<Expr> {
-    /// A copy, whose parts are shared with it. It takes no memory; `Memory` only where a count of
+    /// A copy, whose parts are shared with it. It takes no memory; `Memory` only if a count of
     /// references is full.
     pub fn try_copy(&self, alloc: Global) -> Result<Net<Expr>, Memory>
         ensures { IfOk result (λ n. n ≡ self.now) }

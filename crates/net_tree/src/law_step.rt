@@ -51,7 +51,7 @@ pub struct LawStep {
 }
 
 impl Tree {
-    /// A copy, whose parts are shared with it. It takes no memory; `Memory` only where a count of
+    /// A copy, whose parts are shared with it. It takes no memory; `Memory` only if a count of
     /// references is full.
     pub fn try_copy(&self, alloc: Global) -> Result<Tree, Memory>
         ensures { IfOk result (λ t. t ≡ self.now) }

@@ -74,7 +74,7 @@ impl From<Memory> for Stop {
     }
 }
 
-/// What the network measures; `None` where one of the measures is over its limit. Where the size is,
+/// What the network measures; `None` if one of the measures is over its limit. Where the size is,
 /// this stops there: with shared parts a walk over all parts might never end.
 pub fn measured(alloc: Global, net: &Net<Expr>, most: &Measures) -> Result<Option<Measures>, Memory>
     ensures { IfOk result (λ found. Measured found most.now (tree_of net.now)) }
@@ -190,7 +190,7 @@ pub(crate) fn more(size: u32) -> u32
     size.saturating_add(1)
 }
 
-/// Number k of the list, 0 where there is none.
+/// Number k of the list, 0 if there is none.
 fn number_at(numbers: &[u32], k: u32) -> u32
     ensures { result ≡ get_or numbers.now k 0 }
 {

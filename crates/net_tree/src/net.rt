@@ -51,9 +51,9 @@ pub enum Net<L> {
     PSwitch(L, Members<L>, NetChild<L>, NetChild<L>),
     /// `(old k)`: frozen network k, from 0, the outermost first, resumed.
     Old(u32),
-    /// `(--> c f)`: f, with c in the place of its first output.
+    /// `(--> c f)`: f, with c in place of its first output.
     InitialOut(L, NetChild<L>),
-    /// `(>-- c f)`: f, with c in the place of its first input.
+    /// `(>-- c f)`: f, with c in place of its first input.
     InitialIn(L, NetChild<L>),
     /// `(drSwitch f t)`: like `rSwitch`, but at an event's sample what ran before still outputs.
     DrSwitch(NetChild<L>, NetChild<L>),
@@ -116,7 +116,7 @@ impl<L> Model for Members<L> {
 }
 
 impl<L> NetChild<L> {
-    /// The network as a part of another. `Memory` where a growth was refused.
+    /// The network as a part of another. `Memory` if allocation fails.
     pub fn new(alloc: Global, net: Net<L>) -> Result<NetChild<L>, Memory>
     where
         L: Drop,
@@ -133,8 +133,7 @@ impl<L> NetChild<L> {
         &self.inner
     }
 
-    /// This network, shared. It takes no memory; `Memory` only where a count of references is
-    /// full.
+    /// This network, shared. It takes no memory; `Memory` only if a count of references is full.
     pub fn try_copy(&self) -> Result<NetChild<L>, Memory>
     where
         L: Drop,
@@ -146,7 +145,7 @@ impl<L> NetChild<L> {
 }
 
 impl<L> Members<L> {
-    /// The networks as members, in order. `Memory` where a growth was refused.
+    /// The networks as members, in order. `Memory` if allocation fails.
     pub fn new(alloc: Global, all: Vec<Net<L>>) -> Result<Members<L>, Memory>
     where
         L: Drop,
@@ -163,8 +162,7 @@ impl<L> Members<L> {
         self.all.as_slice()
     }
 
-    /// These members, shared. It takes no memory; `Memory` only where a count of references is
-    /// full.
+    /// These members, shared. It takes no memory; `Memory` only if a count of references is full.
     pub fn try_copy(&self) -> Result<Members<L>, Memory>
     where
         L: Drop,

@@ -37,15 +37,14 @@ impl Position {
         Position { path }
     }
 
-    /// The position of the node at the path. `Memory` where a growth was refused.
+    /// The position of the node at the path. `Memory` if allocation fails.
     pub fn of_node(alloc: Global, path: &[u32]) -> Result<Position, Memory>
         ensures { IfOk result (λ p. p ≡ path.now) }
     {
         Ok(Position::new(path.to_vec(alloc)?))
     }
 
-    /// The position of child k, from 0, of the node at the path. `Memory` where a growth was
-    /// refused.
+    /// The position of child k, from 0, of the node at the path. `Memory` if allocation fails.
     pub fn of_child(alloc: Global, path: &[u32], k: u32) -> Result<Position, Memory>
         ensures { IfOk result (λ p. p ≡ path.now ++ k ∷ []) }
     {
@@ -55,7 +54,7 @@ impl Position {
         Ok(Position::new(numbers))
     }
 
-    /// A copy. `Memory` where a growth was refused.
+    /// A copy. `Memory` if allocation fails.
     pub fn try_copy(&self, alloc: Global) -> Result<Position, Memory>
         ensures { IfOk result (λ p. p ≡ self.now) }
     {
@@ -84,8 +83,8 @@ impl Eq for Position {
     ghost laws = { nat_list_eq_equiv };
 }
 
-/// Adds the position, as it is printed, `(at 0 1)`, and `(at)` for the root, to the end of the text.
-/// `Memory` where a growth was refused; the text may then end with a part of it, and still begins as
+/// Adds the position, as it is printed, `(at 0 1)`, and `(at)` for the root, to the end of the
+/// text. `Memory` if allocation fails; the text may then end with a part of it, and still begins as
 /// it did.
 pub fn push_position(text: &mut String, position: &Position) -> Result<(), Memory>
     ensures { Adds result (string_bytes text.old) (string_bytes text.new)

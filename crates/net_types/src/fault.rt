@@ -44,7 +44,7 @@ pub enum TypeFault {
     TooDeep,
     /// The network's weight is over 1,000,000.
     TooHeavy,
-    /// A growth was refused.
+    /// Allocation failed.
     Memory,
 }
 

@@ -4,7 +4,7 @@
 //!     let mut typed = check_types(alloc, input, net)?;
 //!     let answer = rewrite(alloc, &mut typed, &position, tree)?;
 //!
-//! `check_types` answers the typed network exactly where the typing and all limits hold, else the
+//! `check_types` answers the typed network if and only if the typing and all limits hold, else the
 //! first failing test of the walk. `rewrite` puts a tree at a position where that keeps the type
 //! there, the typing and the limits, and leaves the network as it was where it doesn't.
 //!

@@ -31,7 +31,7 @@ pub enum Rewritten {
 }
 
 /// Puts the tree at the position of the typed network, in place of what stands there. After each
-/// answer but `Done` the network is as before. `Memory` where a growth was refused.
+/// answer but `Done` the network is as before. `Memory` if allocation fails.
 ///
 /// Types are found of the tree, where it stands, and of what it replaces. To know what is in scope
 /// there and the input's type, types of parts beside the way to the position are found too, as of the
@@ -163,7 +163,7 @@ fn kept_here(alloc: Global, at: &Standing, net: &Net<Expr>, other: &Tree) -> Res
     Ok(are_same(before, after))
 }
 
-/// The output type of a network that stands there; `None` where it has none within the limits.
+/// The output type of a network that stands there; `None` if it has none within the limits.
 fn output_of(alloc: Global, at: &Standing, net: &Net<Expr>) -> Result<Option<Ty>, Memory>
     ensures { IfOk result (λ found. option_map type_of found
         ≡ checked_output (standing_of at.now) (tree_of net.now)) }

@@ -26,7 +26,7 @@ abbrev pub indent : List ℕ → List ℕ
 indent [] = []
 indent (k ∷ p) = 32 ∷ 32 ∷ indent p
 
--- a tab and the weight, where there is one
+-- a tab and the weight, if there is one
 abbrev pub weight_spelling : Option ℕ → List ℕ
 weight_spelling None = []
 weight_spelling (Some w) = 9 ∷ decimal w

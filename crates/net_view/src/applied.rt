@@ -13,7 +13,7 @@ use std::alloc::Global;
 
 /// The network that the steps lead to from the source, one after the other, as the new text of a
 /// network file. `TooManySteps` for more than 10,000 steps, without taking memory; then the first
-/// fault of a step, as of `check`; `Memory` where a growth was refused.
+/// fault of a step, as of `check`; `Memory` if allocation fails.
 pub fn applied_text(
     alloc: Global,
     source: &TypedNet,

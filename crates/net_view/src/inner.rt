@@ -15,8 +15,8 @@ use net_tree::{Net, NetChild};
 use sample_core::{Memory, Ty};
 use std::alloc::Global;
 
-/// The output type of a network that stands there, or the type of an expression; `None` where there
-/// is none.
+/// The output type of a network that stands there, or the type of an expression; `None` if there is
+/// none.
 pub(crate) fn type_here(
     alloc: Global,
     at: &Standing,
@@ -56,7 +56,7 @@ fn input_there(at: Option<Standing>) -> Option<Ty>
     }
 }
 
-/// Where what is inside a tree at this number stands; `None` where there is nothing, or no type.
+/// Where what is inside a tree at this number stands; `None` if there is nothing, or no type.
 pub(crate) fn standing_inside(
     alloc: Global,
     at: &Standing,

@@ -19,8 +19,8 @@ pub fn has_position(net: &TypedNet, position: &Position) -> bool
     place_in(net, position).is_some()
 }
 
-/// A copy of what stands at the position, whose parts are shared with it; `None` where the position
-/// isn't there. `Memory` where a growth was refused.
+/// A copy of what stands at the position, whose parts are shared with it; `None` if the position
+/// isn't there. `Memory` if allocation fails.
 pub(crate) fn tree_at(
     alloc: Global,
     net: &TypedNet,
@@ -44,8 +44,8 @@ pub(crate) fn copied(alloc: Global, tree: TreeRef) -> Result<Tree, Memory>
     }
 }
 
-/// The positions at or below one, in preorder; none where it isn't there. `Memory` where a growth
-/// was refused.
+/// The positions at or below one, in preorder; none if it isn't there. `Memory` if allocation
+/// fails.
 pub(crate) fn positions_within(
     alloc: Global,
     net: &TypedNet,

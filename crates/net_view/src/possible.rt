@@ -26,8 +26,8 @@ pub struct PossibleStep {
 }
 
 /// The steps forward at or below the position that a check would accept, by the positions in
-/// preorder and at each by the laws' numbers; none where the position isn't there. `Memory` where a
-/// growth was refused.
+/// preorder and at each by the laws' numbers; none where the position isn't there. `Memory` if
+/// allocation fails.
 pub fn possible_steps(
     alloc: Global,
     net: &TypedNet,
@@ -100,7 +100,7 @@ fn step_by(
     }
 }
 
-/// What stands at the step's position once it is taken; `None` where a check would refuse it.
+/// What stands at the step's position once it is taken; `None` if a check would refuse it.
 fn tree_after(alloc: Global, net: &TypedNet, step: &LawStep) -> Result<Option<Tree>, Memory>
     requires { IsForward (step_of step.now) }
     ensures { IfOk result (λ found. IsTreeAfter net.now (step_of step.now)

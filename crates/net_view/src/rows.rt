@@ -28,8 +28,8 @@ pub struct OutlineRow {
 }
 
 /// A row for each position of the network at which something stands, in preorder: a tree comes
-/// before what is inside it, and that in the order of the child numbers. `Memory` where a growth was
-/// refused.
+/// before what is inside it, and that in the order of the child numbers. `Memory` if allocation
+/// fails.
 pub fn outline(alloc: Global, net: &TypedNet) -> Result<Vec<OutlineRow>, Memory>
     ensures { IfOk result (λ rows. IsOutline net.now (map row_of rows.items)) }
 {

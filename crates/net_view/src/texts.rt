@@ -18,7 +18,7 @@ use std::alloc::Global;
 
 /// The network's outline as a new text, a line a row: two blanks for each level of depth, then the
 /// position, the word of the form, the type, and of networks the weight, parted by tabs. `Memory`
-/// where a growth was refused.
+/// if allocation fails.
 pub fn outline_text(alloc: Global, net: &TypedNet) -> Result<String, Memory>
     ensures { IfOk result (λ text. OutlineText net.now (string_bytes text)) }
 {
@@ -31,8 +31,8 @@ pub fn outline_text(alloc: Global, net: &TypedNet) -> Result<String, Memory>
 }
 
 /// The steps forward at or below the position that a check would accept, as a new text of two lines
-/// a step: the step as a certificate has it, and behind `+ ` what stands there then. `Memory` where a
-/// growth was refused.
+/// a step: the step as a certificate has it, and behind `+ ` what stands there then. `Memory` if
+/// allocation fails.
 pub fn possible_text(alloc: Global, net: &TypedNet, position: &Position) -> Result<String, Memory>
     ensures { IfOk result (λ text. PossibleText net.now position.now (string_bytes text)) }
 {
@@ -78,7 +78,7 @@ fn push_indent(text: &mut String, path: &[u32]) -> Result<(), Memory>
     Ok(())
 }
 
-/// A tab and the weight, where there is one.
+/// A tab and the weight, if there is one.
 fn push_weight(text: &mut String, weight: Option<u32>) -> Result<(), Memory>
     ensures { Adds result (string_bytes text.old) (string_bytes text.new)
         (weight_spelling weight) }

@@ -17,8 +17,8 @@ use std::alloc::Global;
 /// The trace of the steps as a new text: for each step that was taken its line, as `print_cert` has
 /// it, then `- ` and the tree that stood at its position, then `+ ` and the one that stands there
 /// now; for one that was refused its line, then `- ` and what stands at its position, if that is
-/// there, and `> ` and what its law leads to from the given tree, where it leads somewhere. `Memory`
-/// where a growth was refused.
+/// there, and `> ` and what its law leads to from the given tree, where it leads somewhere.
+/// `Memory` if allocation fails.
 pub fn trace_text(alloc: Global, steps: &[LawStep], trace: &Trace) -> Result<String, Memory>
     ensures { IfOk result (λ text. string_bytes text
         ≡ trace_lines (map step_of steps.now) (map changed_of trace.now.changes.items)
@@ -60,7 +60,7 @@ fn push_stop(text: &mut String, step: &LawStep, stop: &Option<RefusedStep>) -> R
     push_some(text, "> ", &stop.led)
 }
 
-/// The line of a tree behind a mark, where there is one.
+/// The line of a tree behind a mark, if there is one.
 fn push_some(text: &mut String, mark: &str, tree: &Option<Tree>) -> Result<(), Memory>
     ensures { Adds result (string_bytes text.old) (string_bytes text.new)
         (marked_lines mark.now (option_map part_of tree.now)) }

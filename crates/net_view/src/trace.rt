@@ -62,10 +62,10 @@ pub fn first_steps(steps: &[LawStep], first: Option<usize>) -> &[LawStep]
     }
 }
 
-/// Takes the steps from the source, one after the other, and tells what each changes, up to the
+/// Takes the steps from the source, one after the other, and returns what each changes, up to the
 /// first that a check would refuse; of that one, why, what stands at its position, and what its law
 /// leads to from the tree that it gives. `TooManySteps` for more than 10,000 steps, without taking
-/// memory; `Memory` where a growth was refused; no other fault.
+/// memory; `Memory` if allocation fails; no other fault.
 pub fn trace_steps(alloc: Global, source: &TypedNet, steps: &[LawStep]) -> Result<Trace, CheckFault>
     ensures { TraceAnswer source.now (map step_of steps.now) result }
 {
@@ -77,7 +77,7 @@ pub fn trace_steps(alloc: Global, source: &TypedNet, steps: &[LawStep]) -> Resul
     Ok(trace)
 }
 
-/// Takes the steps on the network, which is left where they led, and tells what each changes.
+/// Takes the steps on the network, which is left where they led, and returns what each changes.
 fn trace_on(alloc: Global, net: &mut TypedNet, steps: &[LawStep]) -> Result<Trace, Memory>
     requires { length steps.now ≤ MOST_STEPS }
     ensures { IfOk result (TracesSteps net.old (map step_of steps.now)) }
@@ -102,7 +102,7 @@ fn trace_on(alloc: Global, net: &mut TypedNet, steps: &[LawStep]) -> Result<Trac
     })
 }
 
-/// Takes step `number`, and tells what it changes; or why it was refused.
+/// Takes step `number`, and returns what it changes; or why it was refused.
 fn step_trace(
     alloc: Global,
     net: &mut TypedNet,

@@ -11,7 +11,7 @@ pub struct Ballast {
     blocks: Vec<Vec<u8>>,
 }
 
-/// Takes all memory but `spare` bytes, which serve growths of any size.
+/// Takes all memory but `spare` bytes, which serve allocations of any size.
 pub fn take_all(alloc: Global, spare: usize) -> Result<Ballast, AllocError> {
     let kept: Vec<u8> = Vec::with_capacity(alloc, spare.saturating_add(LARGE))?;
     let mut blocks = Vec::with_capacity(alloc, 60_000)?;
@@ -33,9 +33,9 @@ pub fn take_all(alloc: Global, spare: usize) -> Result<Ballast, AllocError> {
     Ok(Ballast { blocks })
 }
 
-/// Lets the stack grow by a megabyte or more, as letting go of so deep an expression does. Once all
-/// memory was taken it can't grow, and a call that needs more of it is killed. So a test begins with
-/// this.
+/// Lets the stack grow by a megabyte or more, as dropping so deep an expression does. Once all
+/// memory was taken it can't grow, and a call that needs more of it is killed. So a test begins
+/// with this.
 pub fn grow_stack(alloc: Global) {
     let mut expr = Expr::Input;
     for _ in 0..10_000u32 {
@@ -47,8 +47,8 @@ pub fn grow_stack(alloc: Global) {
     drop(expr);
 }
 
-/// The bytes of a block that `malloc` doesn't set aside, once it is let go, for growths of its own
-/// size: of a smaller block nothing would be left to others.
+/// The bytes of a block that `malloc` doesn't set aside, once it is dropped, for allocations of its
+/// own size: of a smaller block nothing would be left to others.
 const LARGE: usize = 4_096;
 
 /// The bytes that are left to a test that then takes all memory many times: all but these are taken
@@ -98,7 +98,7 @@ impl Tally {
         }
     }
 
-    /// Tells whether the call was refused memory at first, and answered in the end.
+    /// Says whether the call failed to allocate at first, and answered in the end.
     pub fn tell(self, out: &mut String) {
         match (self.ample && !self.other, self.refused) {
             (false, _) => say(out, "another answer"),

@@ -4,9 +4,10 @@ use crate::ballast::grow_stack;
 use crate::texts::{say, written};
 use std::alloc::Global;
 
-/// What is wrong with the first row of which something else is told than is wanted; nothing where there
-/// is none. A line is a row: what is given, with ` | ` between its parts, ` =>`, and what is to be told;
-/// both in short forms, see `write_short`. A line that begins with `§` names the rows behind it.
+/// What is wrong with the first row of which something else is told than is wanted; nothing if
+/// there is none. A line is a row: what is given, with ` | ` between its parts, ` =>`, and what is
+/// to be told; both in short forms, see `write_short`. A line that begins with `§` names the rows
+/// behind it.
 pub fn first_wrong<F: Fn(Global, &str, &mut String)>(alloc: Global, rows: &str, tell: F) -> String
     requires { F.IsAlwaysCallable tell }
 {

@@ -94,7 +94,7 @@ impl Tries {
         }
     }
 
-    /// What the next try is short of; `None` where each read has had its turn.
+    /// What the next try is short of; `None` if each read has had its turn.
     pub fn next(&self) -> Option<Shortage> {
         if self.next.at_read <= self.last_read {
             Some(self.next)
@@ -120,7 +120,7 @@ impl Tries {
         self.next.spare = more_than(self.next.spare);
     }
 
-    /// Tells whether tries were refused memory, whether also behind lines, and whether each ended as
+    /// Says whether tries were refused memory, whether also behind lines, and whether each ended as
     /// it may.
     pub fn tell(&self, out: &mut String) {
         let goes_on = self.next().is_some();
@@ -136,7 +136,7 @@ impl Tries {
 /// How many tries there are at most.
 pub const MOST_TRIES: usize = 20_000;
 
-/// A few bytes more, so that a growth is refused that the try before didn't come to.
+/// A few bytes more, so that allocation fails that the try before didn't come to.
 fn more_than(spare: usize) -> usize {
     spare.saturating_add(16).saturating_add(spare / 32)
 }

@@ -5,8 +5,8 @@ use leaf_expr::{Expr, read_expr, read_type_at};
 use sample_core::{Memory, Sample, Ty, push_value, read_value};
 use std::alloc::Global;
 
-/// Adds these words to the text. Where the growth is refused, the text lacks them, and isn't the
-/// one that is wanted.
+/// Adds these words to the text. Where the allocation is refused, the text lacks them, and isn't
+/// the one that is wanted.
 pub fn say(out: &mut String, words: &str) {
     drop(out.push_str(words));
 }
@@ -118,7 +118,7 @@ pub fn numbered(given: &str) -> (&str, usize) {
     (word, number_in(digits))
 }
 
-/// Tells the value that was answered.
+/// Says the value that was answered.
 pub fn answer_told(answer: Result<Sample, Memory>, out: &mut String) {
     match answer {
         Ok(value) => {
@@ -129,7 +129,7 @@ pub fn answer_told(answer: Result<Sample, Memory>, out: &mut String) {
     }
 }
 
-/// Tells what was printed.
+/// Says what was printed.
 pub fn printed_told(printed: Result<String, Memory>, out: &mut String) {
     match printed {
         Ok(text) => say(out, text.as_str()),

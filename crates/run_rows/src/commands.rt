@@ -6,7 +6,7 @@ use row_texts::texts::{say, say_at};
 use std::alloc::Global;
 use yampa_run::{Job, Refusal};
 
-/// Tells what a command line leads to; of a run the network that is to be run.
+/// Says what a command line leads to; of a run the network that is to be run.
 pub fn answer_told(asked: &Result<Job, Refusal>, out: &mut String) {
     match asked {
         Ok(Job::Run(net)) => run_told(net, out),
@@ -15,7 +15,7 @@ pub fn answer_told(asked: &Result<Job, Refusal>, out: &mut String) {
     }
 }
 
-/// Tells the network that is to be run.
+/// Says the network that is to be run.
 fn run_told(net: &TypedNet, out: &mut String) {
     say(out, "run ");
     drop(push_net(out, net.net()));
@@ -32,7 +32,7 @@ pub fn words_of(alloc: Global, line: &str) -> Vec<&str> {
     words
 }
 
-/// Tells the text that is to be printed, and the status and line behind it, if there is one; or that
+/// Says the text that is to be printed, and the status and line behind it, if there is one; or that
 /// it is a run.
 fn job_told(job: &Job, out: &mut String) {
     match job {
@@ -45,7 +45,7 @@ fn job_told(job: &Job, out: &mut String) {
     }
 }
 
-/// Tells the refusal's status and its line; of wrong words, that they are.
+/// Says the refusal's status and its line; of wrong words, that they are.
 pub fn refusal_told(refusal: &Refusal, out: &mut String) {
     match refusal {
         Refusal::Line { status: 2, .. } => say(out, "wrong words"),
@@ -54,7 +54,7 @@ pub fn refusal_told(refusal: &Refusal, out: &mut String) {
     }
 }
 
-/// Tells the exit status and the line with it.
+/// Says the exit status and the line with it.
 pub fn status_told(status: u8, line: &str, out: &mut String) {
     say_at(out, "status", status as usize);
     say(out, " ");

@@ -30,12 +30,13 @@ pub enum Probe {
     Added,
     /// What the row of a network's expression answers on a value: `FILE | VALUE`.
     Called,
-    /// Whether the filling of a table for a network is refused memory at first, and succeeds in the end.
+    /// Whether the filling of a table for a network fails to allocate at first, and succeeds in the
+    /// end.
     ScantFilling,
-    /// What a command line leads to, on files called `src`, `tgt` and `cert`, and whether it is refused
-    /// memory at first: `WORDS | SOURCE | TARGET | CERTIFICATE`.
+    /// What a command line leads to, on files called `src`, `tgt` and `cert`, and whether it fails
+    /// to allocate at first: `WORDS | SOURCE | TARGET | CERTIFICATE`.
     ScantCommand,
-    /// What the pushes of a stream's samples answer, with growths refused: `FILE | STREAM`.
+    /// What the pushes of a stream's samples answer, with allocations refused: `FILE | STREAM`.
     ScantStream,
     /// What a network's run on a stream writes, and how runs end where all memory is taken at some
     /// read: `FILE | STREAM`.

@@ -15,7 +15,7 @@ use std::cell::RefCell;
 use step_core::Bound;
 use yampa_run::{Counted, RunFault, RunReport, run};
 
-/// Tells what a run on the stream writes, read in pieces of 4,096 bytes, and why it ends early; and
+/// Says what a run on the stream writes, read in pieces of 4,096 bytes, and why it ends early; and
 /// behind it `differs`, where smaller pieces lead to something else.
 pub fn written_told(alloc: Global, bound: &Bound, table: &LeafTable, stream: &str, out: &mut String)
     requires { FitsTable (rows_of table.now) bound.now }
@@ -30,7 +30,7 @@ pub fn written_told(alloc: Global, bound: &Bound, table: &LeafTable, stream: &st
     }
 }
 
-/// Tells what a run on the stream writes, read in pieces of at most so many bytes, and why it ends
+/// Says what a run on the stream writes, read in pieces of at most so many bytes, and why it ends
 /// early.
 fn piece_told(
     alloc: Global,
@@ -50,17 +50,17 @@ fn piece_told(
     ended_told(alloc, ended, out);
 }
 
-/// Tells what a run of the network on the stream writes where a device fails, `FILE | FAILURE |
+/// Says what a run of the network on the stream writes where a device fails, `FILE | FAILURE |
 /// STREAM`: `read N` for the read of that number, one byte a read; `write M N` for the write of
-/// that number, M bytes a write; `quiet M N` where it takes 0 bytes in place of failing. For `most`,
-/// where none fails, how many nodes a sample visits at most.
+/// that number, M bytes a write; `quiet M N` where it takes 0 bytes in place of failing. For
+/// `most`, where none fails, how many nodes a sample visits at most.
 pub fn failing_told(alloc: Global, given: &str, out: &mut String) {
     let (file, behind) = parted(given);
     let (failure, stream) = parted(behind);
     file_told(alloc, file, Trial::Failing(failure, stream), out);
 }
 
-/// Tells what a run of a bound network writes there.
+/// Says what a run of a bound network writes there.
 pub fn failure_tried(
     alloc: Global,
     bound: &Bound,
@@ -123,7 +123,7 @@ fn unwritten_told(
     run_told(alloc, ended, &written, out);
 }
 
-/// Tells how many lines a run counts, what it wrote, and why it ends early.
+/// Says how many lines a run counts, what it wrote, and why it ends early.
 fn run_told(alloc: Global, ended: Result<RunReport, RunFault>, written: &[u8], out: &mut String)
     requires { IfErr ended EndsRun }
 {
@@ -133,7 +133,7 @@ fn run_told(alloc: Global, ended: Result<RunReport, RunFault>, written: &[u8], o
     ended_told(alloc, ended, out);
 }
 
-/// Tells how many nodes a run visits at most at a sample.
+/// Says how many nodes a run visits at most at a sample.
 fn most_told(alloc: Global, bound: &Bound, table: &LeafTable, stream: &str, out: &mut String)
     requires { FitsTable (rows_of table.now) bound.now }
 {
@@ -157,7 +157,7 @@ fn lines_of(ended: &Result<RunReport, RunFault>) -> usize {
     }
 }
 
-/// Tells what was written before each read, each read as `.`, of a reader of single bytes.
+/// Says what was written before each read, each read as `.`, of a reader of single bytes.
 fn witness_told(alloc: Global, bound: &Bound, table: &LeafTable, stream: &str, out: &mut String)
     requires { FitsTable (rows_of table.now) bound.now }
 {
@@ -173,7 +173,7 @@ fn witness_told(alloc: Global, bound: &Bound, table: &LeafTable, stream: &str, o
     }
 }
 
-/// Tells how many lines a run counts on a value and lines that repeat it, so many bytes in all, and
+/// Says how many lines a run counts on a value and lines that repeat it, so many bytes in all, and
 /// why it ends early.
 fn repeats_told(alloc: Global, bound: &Bound, table: &LeafTable, bytes: usize, out: &mut String)
     requires { FitsTable (rows_of table.now) bound.now }

@@ -35,7 +35,7 @@ pub enum Trial<'a> {
     Failing(&'a str, &'a str),
     /// How many of its nodes each sample of this stream visits.
     Visits(&'a str),
-    /// What its pushes of this stream's samples answer, where growths are refused in turn.
+    /// What its pushes of this stream's samples answer, where allocations fail in turn.
     ScantStream(&'a str),
     /// What its run on this stream writes, and how runs end where memory is taken at some read.
     ScantReads(&'a str),
@@ -45,41 +45,41 @@ pub enum Trial<'a> {
     Rows,
 }
 
-/// Tells what the network's run on a stream writes, `FILE | STREAM`, and behind it, where the run
+/// Says what the network's run on a stream writes, `FILE | STREAM`, and behind it, where the run
 /// ends early, the exit status and the line that tells why.
 pub fn run_told(alloc: Global, given: &str, out: &mut String) {
     let (file, stream) = parted(given);
     file_told(alloc, file, Trial::Run(stream), out);
 }
 
-/// Tells what binding and running the network in one call writes, `FILE | STREAM`, and behind it,
+/// Says what binding and running the network in one call writes, `FILE | STREAM`, and behind it,
 /// where that ends early, the exit status and the line that tells why.
 pub fn whole_run_told(alloc: Global, given: &str, out: &mut String) {
     let (file, stream) = parted(given);
     file_told(alloc, file, Trial::Whole(stream), out);
 }
 
-/// Tells how many nodes of the network each sample of the stream visits, `FILE | STREAM`.
+/// Says how many nodes of the network each sample of the stream visits, `FILE | STREAM`.
 pub fn visited_told(alloc: Global, given: &str, out: &mut String) {
     let (file, stream) = parted(given);
     file_told(alloc, file, Trial::Visits(stream), out);
 }
 
-/// Tells what the network answers to the samples of the stream where growths are refused in turn,
-/// `FILE | STREAM`.
+/// Says what the network answers to the samples of the stream where allocations fail in turn, `FILE
+/// | STREAM`.
 pub fn scantly_told(alloc: Global, given: &str, out: &mut String) {
     let (file, stream) = parted(given);
     file_told(alloc, file, Trial::ScantStream(stream), out);
 }
 
-/// Tells what the network's run on the stream writes, and how runs end where all memory is taken at
+/// Says what the network's run on the stream writes, and how runs end where all memory is taken at
 /// some read, `FILE | STREAM`.
 pub fn scant_reads_told(alloc: Global, given: &str, out: &mut String) {
     let (file, stream) = parted(given);
     file_told(alloc, file, Trial::ScantReads(stream), out);
 }
 
-/// Tells what the trial of the network of a file's text finds.
+/// Says what the trial of the network of a file's text finds.
 pub fn file_told(alloc: Global, text: &str, trial: Trial<'_>, out: &mut String) {
     match network(alloc, text) {
         Some(net) => trial_told(alloc, &net, trial, out),
@@ -87,7 +87,7 @@ pub fn file_told(alloc: Global, text: &str, trial: Trial<'_>, out: &mut String) 
     }
 }
 
-/// The network of a file's text with its types; `None` where the text or its types are refused.
+/// The network of a file's text with its types; `None` if the text or its types are refused.
 pub fn network(alloc: Global, text: &str) -> Option<Box<TypedNet>> {
     match read_net(alloc, text.as_bytes()) {
         Ok((input, net)) => match check_types(alloc, input, net) {
@@ -101,7 +101,7 @@ pub fn network(alloc: Global, text: &str) -> Option<Box<TypedNet>> {
     }
 }
 
-/// Tells what the trial of the network finds.
+/// Says what the trial of the network finds.
 pub fn trial_told(alloc: Global, net: &TypedNet, trial: Trial<'_>, out: &mut String) {
     match leaves(alloc, net) {
         Ok(needs) => filled_told(alloc, net, &needs, trial, out),
@@ -109,7 +109,7 @@ pub fn trial_told(alloc: Global, net: &TypedNet, trial: Trial<'_>, out: &mut Str
     }
 }
 
-/// Stores a closure for each of the network's needs. Tells what the trial then finds, or why the
+/// Stores a closure for each of the network's needs. Says what the trial then finds, or why the
 /// table doesn't take the network.
 fn filled_told(
     alloc: Global,
@@ -133,7 +133,7 @@ fn table_refused(alloc: Global, fault: TableFault, out: &mut String) {
     drop(refusal);
 }
 
-/// Tells what the trial of the network finds over the table.
+/// Says what the trial of the network finds over the table.
 fn stored_told(
     alloc: Global,
     net: &TypedNet,
@@ -147,7 +147,7 @@ fn stored_told(
     }
 }
 
-/// Tells what binding the network to the table and running it writes, and why that ends early.
+/// Says what binding the network to the table and running it writes, and why that ends early.
 fn whole_told(alloc: Global, net: &TypedNet, table: &LeafTable, stream: &str, out: &mut String) {
     let mut reader = Counted::new(Pieces::new(stream.as_bytes(), 4_096, 0));
     let mut writer = Counted::new(Vec::new(alloc));
@@ -160,7 +160,7 @@ fn whole_told(alloc: Global, net: &TypedNet, table: &LeafTable, stream: &str, ou
     drop(ended);
 }
 
-/// Tells what the trial of the network finds, bound to the table, or which expression has no row.
+/// Says what the trial of the network finds, bound to the table, or which expression has no row.
 fn bound_told(
     alloc: Global,
     net: &TypedNet,
@@ -203,7 +203,7 @@ fn tried(alloc: Global, bound: &Bound, table: &LeafTable, trial: Trial<'_>, out:
     }
 }
 
-/// Tells why a run ended early, where it did.
+/// Says why a run ended early, where it did.
 pub fn ended_told(alloc: Global, ended: Result<RunReport, RunFault>, out: &mut String)
     requires { IfErr ended EndsRun }
 {
@@ -221,7 +221,7 @@ fn failure_told(alloc: Global, fault: &RunFault, out: &mut String)
     }
 }
 
-/// Tells the position of the first expression of the network that has no row in an empty table, and
+/// Says the position of the first expression of the network that has no row in an empty table, and
 /// what a run over that table tells.
 pub fn missing_told(alloc: Global, text: &str, out: &mut String) {
     match network(alloc, text) {

@@ -1,4 +1,4 @@
-// What command lines lead to where growths are refused.
+// What command lines lead to where allocations are refused.
 
 use crate::commands::{answer_told, words_of};
 use crate::files::ThreeFiles;
@@ -17,8 +17,8 @@ struct Given<'a> {
     ample: &'a str,
 }
 
-/// Tells what the command line leads to, and whether it is refused memory at first: `WORDS | SOURCE |
-/// TARGET | CERTIFICATE`.
+/// Says what the command line leads to, and whether it fails to allocate at first: `WORDS | SOURCE
+/// | TARGET | CERTIFICATE`.
 pub fn scant_command_told(alloc: Global, given: &str, out: &mut String) {
     let (line, files) = parted(given);
     let (source, behind) = parted(files);

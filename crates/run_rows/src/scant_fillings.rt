@@ -1,4 +1,4 @@
-// Whether a table is filled where growths are refused.
+// Whether a table is filled where allocations are refused.
 
 use crate::found::{Probe, all_are_found};
 use crate::runs::{Trial, network, trial_told};
@@ -7,7 +7,7 @@ use row_texts::ballast::{TRIES, Tally, spare_at, take_all};
 use row_texts::texts::say;
 use std::alloc::Global;
 
-/// Tells of the filling of a table for a file's network whether it is refused memory at first, and
+/// Says of the filling of a table for a file's network whether it fails to allocate at first, and
 /// succeeds in the end.
 pub fn filling_told(alloc: Global, text: &str, out: &mut String) {
     match network(alloc, text) {
@@ -31,7 +31,7 @@ fn fillings_told(alloc: Global, net: &TypedNet, out: &mut String) {
     tally.tell(out);
 }
 
-/// Tells whether a table takes a closure for each expression of the network where so many bytes are
+/// Says whether a table takes a closure for each expression of the network where so many bytes are
 /// left, and then with ample memory.
 fn filled(alloc: Global, net: &TypedNet, spare: usize, out: &mut String) {
     // Room for what is told, so that it isn't refused.

@@ -1,4 +1,4 @@
-// What a runner answers on whole streams where growths are refused in turn.
+// What a runner answers on whole streams where allocations fail in turn.
 
 ghost use Rattle.leaf_table.specs.Rows.{rows_of};
 ghost use Rattle.step_core.specs.Binding.{FitsTable};
@@ -12,9 +12,9 @@ use sample_core::{Memory, Sample};
 use std::alloc::Global;
 use step_core::Bound;
 
-/// Tells what the network answers to each sample of the stream, and how many nodes that visits, where
-/// each is pushed with no memory left, and after each refusal again with a little more; and whether
-/// any push was refused, or one that was changed what is told of the samples before.
+/// Says what the network answers to each sample of the stream, and how many nodes that visits,
+/// where each is pushed with no memory left, and after each refusal again with a little more; and
+/// whether any push was refused, or one that was changed what is told of the samples before.
 pub fn scant_stream_told(
     alloc: Global,
     bound: &Bound,

@@ -21,7 +21,7 @@ struct Given<'a> {
     whole: &'a [u8],
 }
 
-/// Tells what a run on the stream writes with ample memory, and how runs end that are short of it at
+/// Says what a run on the stream writes with ample memory, and how runs end that are short of it at
 /// some read.
 pub fn runs_told(alloc: Global, bound: &Bound, table: &LeafTable, stream: &str, out: &mut String)
     requires { FitsTable (rows_of table.now) bound.now }
@@ -69,7 +69,8 @@ fn run_tried(alloc: Global, given: Given<'_>, shortage: Shortage) -> Ending
     run_ending(&ended, &written, given.whole)
 }
 
-/// Whether the run wrote the whole, or was refused memory behind some of its lines, which it counts.
+/// Whether the run wrote the whole, or failed to allocate behind some of its lines, which it
+/// counts.
 fn run_ending(ended: &Result<RunReport, RunFault>, written: &[u8], whole: &[u8]) -> Ending {
     let lines = count_of(b'\n', written);
     match ended {

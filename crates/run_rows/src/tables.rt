@@ -38,7 +38,7 @@ fn large_network(alloc: Global, one_more: &str) -> Option<Box<TypedNet>> {
     network(alloc, text.as_str())
 }
 
-/// Tells what the filling of a table finds with 4,096 different expressions and one more.
+/// Says what the filling of a table finds with 4,096 different expressions and one more.
 pub fn filled_told(alloc: Global, one_more: &str, out: &mut String) {
     match large_network(alloc, one_more) {
         Some(net) => trial_told(alloc, &net, Trial::Rows, out),
@@ -46,7 +46,7 @@ pub fn filled_told(alloc: Global, one_more: &str, out: &mut String) {
     }
 }
 
-/// Tells what a table with a row for each of 4,096 different expressions answers to one more.
+/// Says what a table with a row for each of 4,096 different expressions answers to one more.
 pub fn added_told(alloc: Global, one_more: &str, out: &mut String) {
     match large_network(alloc, one_more) {
         Some(net) => needs_told(alloc, &net, out),
@@ -61,8 +61,8 @@ fn needs_told(alloc: Global, net: &TypedNet, out: &mut String) {
     }
 }
 
-/// Adds the closure for any expression for each of the needs to one table. Tells what the table
-/// answers to the last, and what the last one's row answers on the value, where there is one.
+/// Adds the closure for any expression for each of the needs to one table. Says what the table
+/// answers to the last, and what the last one's row answers on the value, if there is one.
 fn general_told(alloc: Global, needs: &[LeafNeed], x: Option<&Sample>, out: &mut String) {
     let mut table = LeafTable::new(alloc);
     for need in needs {
@@ -82,7 +82,7 @@ fn general_told(alloc: Global, needs: &[LeafNeed], x: Option<&Sample>, out: &mut
     drop(table);
 }
 
-/// The need's key, in a box: what holds it is let go by a call.
+/// The need's key, in a box: what holds it is dropped by a call.
 fn boxed_key(alloc: Global, need: &LeafNeed) -> Option<Box<LeafKey>>
     ensures { IfSome result (λ key. key.value ≡ need.now.key) }
 {
@@ -92,7 +92,7 @@ fn boxed_key(alloc: Global, need: &LeafNeed) -> Option<Box<LeafKey>>
     }
 }
 
-/// Adds the closure under the need's key. Tells what the table answers.
+/// Adds the closure under the need's key. Says what the table answers.
 fn add(alloc: Global, table: &mut LeafTable, need: &LeafNeed, run: Run, out: &mut String)
     requires callable { Run.IsAlwaysCallable run }
     requires computes { (ps : _) (x : _) (v : _) → Run.post run ps x (Ok v) →
@@ -110,7 +110,7 @@ fn add(alloc: Global, table: &mut LeafTable, need: &LeafNeed, run: Run, out: &mu
     }
 }
 
-/// Tells the row, or why there is none, and whether the leaf that comes back is the need's.
+/// Says the row, or why there is none, and whether the leaf that comes back is the need's.
 fn answer(need: &LeafNeed, added: Result<LeafId, (Leaf, TableFault)>, out: &mut String) {
     match added {
         Ok(id) => say_at(out, "row", id.0),
@@ -130,7 +130,7 @@ fn refusal(fault: TableFault, own: bool, out: &mut String) {
     }
 }
 
-/// Tells what the row of a network's expression answers on a value, `FILE | VALUE`: where its
+/// Says what the row of a network's expression answers on a value, `FILE | VALUE`: where its
 /// closure is the one for any expression, and where it is the one for its shape.
 pub fn called_told(alloc: Global, given: &str, out: &mut String) {
     let (file, value) = parted(given);
@@ -155,7 +155,7 @@ fn both_told(alloc: Global, net: &TypedNet, needs: &[LeafNeed], x: &Sample, out:
     }
 }
 
-/// Tells what the row of the need's key answers on the value.
+/// Says what the row of the need's key answers on the value.
 pub fn row_told(table: &LeafTable, need: &LeafNeed, x: &Sample, out: &mut String) {
     match table.find(&need.key) {
         Some(id) => answer_told(table.call(id, &[], x), out),

@@ -10,8 +10,8 @@ use row_texts::texts::{say, say_at};
 use std::alloc::Global;
 use step_core::Bound;
 
-/// Tells how many nodes of the network were visited before the stream's first sample, and by each
-/// of its samples.
+/// Says how many nodes of the network were visited before the stream's first sample, and by each of
+/// its samples.
 pub fn visits_told(alloc: Global, bound: &Bound, table: &LeafTable, stream: &str, out: &mut String)
     requires { FitsTable (rows_of table.now) bound.now }
 {

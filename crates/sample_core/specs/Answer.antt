@@ -7,8 +7,8 @@ abbrev pub ◌>>=◌ : {F A B : Type 0} → Result A F → (A → Result B F) �
 (Ok x) >>= f = f x
 (Err e) >>= f = Err e
 
--- what a call returned, seen by view, is the answer; only the fault memory, a refused growth, says
--- nothing of it
+-- what a call returned, seen by view, is the answer; only the fault memory, a refused allocation,
+-- says nothing of it
 abbrev pub GivesUnless : {F X Y : Type 0} → F → (X → Y) → Result X F → Result Y F → Type 0
 GivesUnless memory view result answer =
     MatchResult result (λ x. answer ≡ Ok (view x)) (λ f. f ≢ memory → answer ≡ Err f)

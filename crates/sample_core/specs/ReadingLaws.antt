@@ -26,12 +26,12 @@ ReadAgainLaw = (A : TypeTree) (v : Datum) (rest : List ℕ) → HasType v A
     → (ends_in_word v && goes_on rest) ≡ false
     → reading A (spelling v ++ rest) ≡ Ok (v, length (spelling v))
 
--- a fault is answered exactly where the bytes begin as a value of the type does, up to a place
+-- a fault is answered if and only if the bytes begin as a value of the type does, up to a place
 -- where that fault is
 abbrev pub FaultLaw : Type 0
 FaultLaw = (A : TypeTree) (bs : List ℕ) (f : ValueFault) → reading A bs ≡ Err f ↔ FirstFault A bs f
 
--- reading is refused exactly where no value of the type is spelled in front
+-- reading is refused if and only if no value of the type is spelled in front
 abbrev pub NoValueLaw : Type 0
 NoValueLaw = (A : TypeTree) (bs : List ℕ)
     → ((f : ValueFault) × (reading A bs ≡ Err f))

@@ -15,7 +15,7 @@ pub enum ValueFault {
     OtherType { at: usize },
     /// A number is wanted, and the one that begins there is outside 64 bits.
     NumberRange { at: usize },
-    /// A growth was refused.
+    /// Allocation failed.
     Memory,
 }
 

@@ -2,7 +2,7 @@
 
 use std::alloc::{AllocError, AllocFailed};
 
-/// `Memory`: a growth was refused, or a count of references is full.
+/// `Memory`: allocation failed, or a count of references is full.
 #[derive(Clone, Copy, PartialEq, Eq, Debug)]
 pub struct Memory;
 

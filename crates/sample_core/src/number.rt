@@ -46,8 +46,8 @@ pub fn is_number_spelling(word: &[u8]) -> bool
     }
 }
 
-/// The number that the word spells; `None` where it is outside 64 bits. The word must be a number
-/// in its one spelling.
+/// The number that the word spells; `None` if it is outside 64 bits. The word must be a number in
+/// its one spelling.
 pub fn number(word: &[u8]) -> Option<i64>
     requires { IsTrue (is_number word.now) }
     ensures { result ≡ (if is_in_64 word.now then Some (number_of word.now) else None) }

@@ -11,7 +11,7 @@ use crate::ty::{Ty, TyChild};
 use itoa::Buffer;
 use std::alloc::Global;
 
-/// The value's one spelling, as a new text. `Memory` where a growth was refused.
+/// The value's one spelling, as a new text. `Memory` if allocation fails.
 pub fn print_value(alloc: Global, sample: &Sample) -> Result<String, Memory>
     ensures { IfOk result (λ text. string_bytes text ≡ spelling (datum_of sample.now)) }
 {
@@ -20,7 +20,7 @@ pub fn print_value(alloc: Global, sample: &Sample) -> Result<String, Memory>
     Ok(text)
 }
 
-/// The type's one spelling, as a new text. `Memory` where a growth was refused.
+/// The type's one spelling, as a new text. `Memory` if allocation fails.
 pub fn print_type(alloc: Global, ty: &Ty) -> Result<String, Memory>
     ensures { IfOk result (λ text. string_bytes text ≡ type_spelling (type_of ty.now)) }
 {
@@ -29,8 +29,8 @@ pub fn print_type(alloc: Global, ty: &Ty) -> Result<String, Memory>
     Ok(text)
 }
 
-/// Adds the value's one spelling to the end of the text. `Memory` where a growth was refused; the
-/// text may then end with a part of it.
+/// Adds the value's one spelling to the end of the text. `Memory` if allocation fails; the text may
+/// then end with a part of it.
 #[cycle(push_value)]
 pub fn push_value(text: &mut String, sample: &Sample) -> Result<(), Memory>
     ensures { Adds result (string_bytes text.old) (string_bytes text.new)
@@ -179,8 +179,8 @@ fn push_next(text: &mut String, v: &Sample) -> Result<(), Memory>
     push_part(text, v)
 }
 
-/// Adds the type's one spelling to the end of the text. `Memory` where a growth was refused; the
-/// text may then end with a part of it.
+/// Adds the type's one spelling to the end of the text. `Memory` if allocation fails; the text may
+/// then end with a part of it.
 #[cycle(push_type)]
 pub fn push_type(text: &mut String, ty: &Ty) -> Result<(), Memory>
     ensures { Adds result (string_bytes text.old) (string_bytes text.new)

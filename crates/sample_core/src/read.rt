@@ -23,7 +23,7 @@ use std::rc::Rc;
 /// A refusal is the leftmost fault, and its place is a byte of the text, counted from 0.
 /// `NotAValue`: where a value must stand none of any type begins, or inside a value a space or a
 /// `)` is missing. `OtherType`: a value of another type begins. `NumberRange`: a number is wanted,
-/// and the one that stands there is outside 64 bits. `Memory`: a growth was refused.
+/// and the one that stands there is outside 64 bits. `Memory`: allocation failed.
 pub fn read_value(alloc: Global, text: &[u8], ty: &Ty) -> Result<(Sample, usize), ValueFault>
     // What is read is spelled in front.
     ensures found { IfOk result (λ x. (x.1 ≡ length (spelling (datum_of x.0)))
@@ -44,8 +44,8 @@ pub fn read_value(alloc: Global, text: &[u8], ty: &Ty) -> Result<(Sample, usize)
     }
 }
 
-/// Reads the value in the place of another. What is read stands where parts of that other stood, as
-/// far as no one else holds them: so a value of the same form takes no memory. After a refusal some
+/// Reads the value in place of another. What is read stands where parts of that other stood, as far
+/// as no one else holds them: so a value of the same form takes no memory. After a refusal some
 /// value stands there.
 pub fn read_value_over(
     alloc: Global,

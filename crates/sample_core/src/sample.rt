@@ -117,7 +117,7 @@ impl SamplePair {
     ghost use Rattle.std.specs.Borrow.{sem};
     ghost use Rattle.sample_core.specs.Lending.{LendsFirst, LendsSecond};
 
-    /// The values as the parts of a pair. `Memory` where a growth was refused.
+    /// The values as the parts of a pair. `Memory` if allocation fails.
     #[inline(always)]
     pub fn new(alloc: Global, first: Sample, second: Sample) -> Result<SamplePair, Memory>
         ensures { IfOk result (λ p. p ≡ (datum_of first, datum_of second)) }
@@ -162,8 +162,7 @@ impl SamplePair {
         }
     }
 
-    /// These parts, shared. It takes no memory; `Memory` only where a count of references is
-    /// full.
+    /// These parts, shared. It takes no memory; `Memory` only if a count of references is full.
     pub fn try_copy(&self) -> Result<SamplePair, Memory>
         ensures { IfOk result (λ p. p ≡ self.now) }
     {
@@ -176,7 +175,7 @@ impl SampleChild {
     ghost use Rattle.std.specs.Borrow.{sem};
     ghost use Rattle.sample_core.specs.Lending.{LendsChild};
 
-    /// The value as a part of another. `Memory` where a growth was refused.
+    /// The value as a part of another. `Memory` if allocation fails.
     pub fn new(alloc: Global, sample: Sample) -> Result<SampleChild, Memory>
         ensures { IfOk result (λ c. c ≡ datum_of sample) }
     {
@@ -199,8 +198,7 @@ impl SampleChild {
         Rc::get_mut(&mut self.inner)
     }
 
-    /// This value, shared. It takes no memory; `Memory` only where a count of references is
-    /// full.
+    /// This value, shared. It takes no memory; `Memory` only if a count of references is full.
     pub fn try_copy(&self) -> Result<SampleChild, Memory>
         ensures { IfOk result (λ c. c ≡ self.now) }
     {
@@ -210,7 +208,7 @@ impl SampleChild {
 }
 
 impl Samples {
-    /// The values as the elements of a list value, in order. `Memory` where a growth was refused.
+    /// The values as the elements of a list value, in order. `Memory` if allocation fails.
     pub fn new(alloc: Global, all: Vec<Sample>) -> Result<Samples, Memory>
         ensures { IfOk result (λ vs. vs ≡ map datum_of all.items) }
     {
@@ -225,8 +223,7 @@ impl Samples {
         self.all.as_slice()
     }
 
-    /// These elements, shared. It takes no memory; `Memory` only where a count of references is
-    /// full.
+    /// These elements, shared. It takes no memory; `Memory` only if a count of references is full.
     pub fn try_copy(&self) -> Result<Samples, Memory>
         ensures { IfOk result (λ vs. vs ≡ self.now) }
     {
@@ -246,8 +243,8 @@ impl Samples {
         }
     }
 
-    /// The values in the place of these elements, in order: in its memory, where no one else holds
-    /// that. `Memory` where a growth was refused.
+    /// The values in place of these elements, in order: in its memory, where no one else holds
+    /// that. `Memory` if allocation fails.
     #[inline(always)]
     fn put(&mut self, alloc: Global, all: Vec<Sample>) -> Result<(), Memory>
         ensures { OnOk result (self.new ≡ map datum_of all.items) }
@@ -269,7 +266,7 @@ impl Samples {
 impl Sample {
     ghost use Rattle.sample_core.specs.Datum.{bool, int};
 
-    /// Puts another value in the place of this one. A place that holds no parts is written at once.
+    /// Puts another value in place of this one. A place that holds no parts is written at once.
     #[inline(always)]
     pub fn put(&mut self, value: Sample)
         ensures { self.new ≡ value }
@@ -280,7 +277,7 @@ impl Sample {
         }
     }
 
-    /// Puts a number in the place of this value.
+    /// Puts a number in place of this value.
     #[inline(always)]
     pub fn put_int(&mut self, n: i64)
         ensures { datum_of self.new ≡ int n }
@@ -291,7 +288,7 @@ impl Sample {
         }
     }
 
-    /// Puts a truth in the place of this value.
+    /// Puts a truth in place of this value.
     #[inline(always)]
     pub fn put_bool(&mut self, b: bool)
         ensures { datum_of self.new ≡ bool b }
@@ -302,8 +299,8 @@ impl Sample {
         }
     }
 
-    /// Puts a copy of a value in the place of this one: of a number at once. It takes no memory;
-    /// `Memory` only where a count of references is full. After a refusal this value stays.
+    /// Puts a copy of a value in place of this one: of a number at once. It takes no memory;
+    /// `Memory` only if a count of references is full. After a refusal this value stays.
     #[inline(always)]
     pub fn put_copy(&mut self, alloc: Global, value: &Sample) -> Result<(), Memory>
         ensures { OnOk result (datum_of self.new ≡ datum_of value.now) }
@@ -317,7 +314,7 @@ impl Sample {
         }
     }
 
-    /// Puts a copy of any value in the place of this one.
+    /// Puts a copy of any value in place of this one.
     #[inline(never)]
     fn put_any_copy(&mut self, alloc: Global, value: &Sample) -> Result<(), Memory>
         ensures { OnOk result (datum_of self.new ≡ datum_of value.now) }
@@ -339,8 +336,8 @@ impl Sample {
         }
     }
 
-    /// Puts the list of the values in the place of this one: in its memory, where that is a list that
-    /// no one else holds. `Memory` where a growth was refused; this value stays then.
+    /// Puts the list of the values in place of this one: in its memory, where that is a list that
+    /// no one else holds. `Memory` if allocation fails; this value stays then.
     #[inline(always)]
     pub fn put_list(&mut self, alloc: Global, all: Vec<Sample>) -> Result<(), Memory>
         ensures { OnOk result (datum_of self.new ≡ list (list_of (map datum_of all.items))) }
@@ -370,7 +367,7 @@ impl Sample {
         drop(self);
     }
 
-    /// Puts another value in the place of this one, in a frame of its own.
+    /// Puts another value in place of this one, in a frame of its own.
     #[inline(never)]
     fn replace(&mut self, value: Sample)
         ensures { self.new ≡ value }
@@ -378,7 +375,7 @@ impl Sample {
         *self = value;
     }
 
-    /// A copy, whose parts are shared with it. It takes no memory; `Memory` only where a count of
+    /// A copy, whose parts are shared with it. It takes no memory; `Memory` only if a count of
     /// references is full.
     #[inline(always)]
     pub fn try_copy(&self, _alloc: Global) -> Result<Sample, Memory>

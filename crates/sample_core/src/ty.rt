@@ -53,7 +53,7 @@ impl Model for TyChild {
 }
 
 impl TyChild {
-    /// The type as a part of another. `Memory` where a growth was refused.
+    /// The type as a part of another. `Memory` if allocation fails.
     pub fn new(alloc: Global, ty: Ty) -> Result<TyChild, Memory>
         ensures { IfOk result (λ c. c ≡ type_of ty) }
     {
@@ -68,8 +68,7 @@ impl TyChild {
         &self.inner
     }
 
-    /// This type, shared. It takes no memory; `Memory` only where a count of references is
-    /// full.
+    /// This type, shared. It takes no memory; `Memory` only if a count of references is full.
     pub fn try_copy(&self) -> Result<TyChild, Memory>
         ensures { IfOk result (λ c. c ≡ self.now) }
     {
@@ -79,7 +78,7 @@ impl TyChild {
 }
 
 impl Ty {
-    /// A copy, whose parts are shared with it. It takes no memory; `Memory` only where a count of
+    /// A copy, whose parts are shared with it. It takes no memory; `Memory` only if a count of
     /// references is full.
     pub fn try_copy(&self, _alloc: Global) -> Result<Ty, Memory>
         ensures { IfOk result (λ t. t ≡ self.now) }
@@ -105,7 +104,7 @@ impl Ty {
     }
 }
 
-/// Copies of the types, in order. `Memory` where a growth was refused.
+/// Copies of the types, in order. `Memory` if allocation fails.
 pub fn try_copy_types(alloc: Global, types: &[Ty]) -> Result<Vec<Ty>, Memory>
     ensures { IfOk result (λ copies. copies.items ≡ types.now) }
 {

@@ -53,7 +53,7 @@ impl Cells {
         self.used
     }
 
-    /// Cell i; nothing where there is none.
+    /// Cell i; nothing if there is none.
     #[inline(always)]
     pub fn get(&self, i: usize) -> Option<&Cell>
         ensures { MatchOption result (slice_get self.now i ≡ None)
@@ -70,7 +70,7 @@ impl Cells {
         self.used = 0;
     }
 
-    /// One cell more. `Memory` where a growth was refused: the cells are as they were then.
+    /// One cell more. `Memory` if allocation fails: the cells are as they were then.
     #[inline(always)]
     pub fn push(&mut self, cell: Cell) -> Result<(), Memory>
         ensures { IfOk result (λ _. self.new ≡ self.old ++ cell_of cell ∷ []) }
@@ -84,9 +84,9 @@ impl Cells {
         Ok(())
     }
 
-    /// Puts the answer of a cell to one sample more, `dt` after the one before, in the place of
-    /// another value; the cell after it is one cell more. `Memory` where a growth was refused: those
-    /// before stand there then, perhaps with some cell more, and some value in the other's place.
+    /// Puts the answer of a cell to one sample more, `dt` after the one before, in place of another
+    /// value; the cell after it is one cell more. `Memory` if allocation fails: those before stand
+    /// there then, perhaps with some cell more, and some value in the other's place.
     #[inline(always)]
     pub fn push_step(
         &mut self,
@@ -130,8 +130,8 @@ impl Cells {
         }
     }
 
-    /// One cell more: an `iPre` that keeps a copy of the value. `Memory` where a growth was refused:
-    /// those before stand there then, perhaps with some cell more.
+    /// One cell more: an `iPre` that keeps a copy of the value. `Memory` if allocation fails: those
+    /// before stand there then, perhaps with some cell more.
     #[inline(always)]
     pub fn push_previous(&mut self, alloc: Global, value: &Sample) -> Result<(), Memory>
         ensures { IfOk result
@@ -145,8 +145,8 @@ impl Cells {
         self.all[at].put_previous(alloc, value)
     }
 
-    /// An `iPre` that keeps a copy of the value, in the place of cell i. `Memory` only where a count
-    /// of references is full: some cell stands in that place then, and the others stay.
+    /// An `iPre` that keeps a copy of the value, in place of cell i. `Memory` only if a count of
+    /// references is full: some cell stands in that place then, and the others stay.
     #[inline(always)]
     pub fn put_previous(&mut self, alloc: Global, i: usize, value: &Sample) -> Result<(), Memory>
         requires { i < length self.old }
@@ -158,7 +158,7 @@ impl Cells {
     }
 }
 
-/// One place of a cell more. `Memory` where a growth was refused.
+/// One place of a cell more. `Memory` if allocation fails.
 #[inline(never)]
 fn add_place(places: &mut Vec<Cell>) -> Result<(), Memory>
     ensures room { IfOk result (λ _. length places.old.items < length places.new.items) }

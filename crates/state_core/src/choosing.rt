@@ -12,7 +12,7 @@ use sample_core::{Memory, Sample};
 use std::alloc::Global;
 
 /// The frozen networks of those numbers, in the order of the numbers: none for a number outside, a
-/// further copy for a repeated one; the first 64 of them. `Memory` where a growth was refused.
+/// further copy for a repeated one; the first 64 of them. `Memory` if allocation fails.
 pub fn select<'n>(
     alloc: Global,
     all: &[Frozen<'n>],

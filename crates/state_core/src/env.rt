@@ -85,7 +85,7 @@ impl<'n> Model for OldList<'n> {
 }
 
 impl<'n> OldList<'n> {
-    /// Frozen networks in order. `Memory` where a growth was refused.
+    /// Frozen networks in order. `Memory` if allocation fails.
     fn new(alloc: Global, all: Vec<Frozen<'n>>) -> Result<OldList<'n>, Memory>
         ensures { IfOk result (λ fs. fs.0 ≡ frozens_in all.entry.items) }
     {
@@ -100,8 +100,8 @@ impl<'n> OldList<'n> {
         self.all.as_slice()
     }
 
-    /// These frozen networks, shared. It takes no memory; `Memory` only where a count of
-    /// references is full.
+    /// These frozen networks, shared. It takes no memory; `Memory` only if a count of references is
+    /// full.
     fn try_copy(&self) -> Result<OldList<'n>, Memory>
         ensures { IfOk result (λ fs. fs ≡ self.now) }
     {
@@ -121,8 +121,8 @@ impl<'n> Olds<'n> {
         }
     }
 
-    /// These frozen networks, shared. It takes no memory; `Memory` only where a count of
-    /// references is full.
+    /// These frozen networks, shared. It takes no memory; `Memory` only if a count of references is
+    /// full.
     fn try_copy(&self) -> Result<Olds<'n>, Memory>
         ensures { IfOk result (λ fs. fs ≡ self.now) }
     {
@@ -132,7 +132,7 @@ impl<'n> Olds<'n> {
         }
     }
 
-    /// Frozen network k; `None` where there is none.
+    /// Frozen network k; `None` if there is none.
     pub fn get(&self, k: u32) -> Option<&Frozen<'n>>
         ensures { IsFrozenAt (olds_of self.now) k result }
     {
@@ -141,7 +141,7 @@ impl<'n> Olds<'n> {
 }
 
 impl<'n> Frozen<'n> {
-    /// A copy, whose parts are shared with it. `Memory` where a growth was refused.
+    /// A copy, whose parts are shared with it. `Memory` if allocation fails.
     pub(crate) fn try_copy(&self, alloc: Global) -> Result<Frozen<'n>, Memory>
         ensures { IfOk result (λ f. frozen_of f ≡ frozen_of self.now) }
     {
@@ -163,8 +163,7 @@ impl<'n> Env<'n> {
         }
     }
 
-    /// This scope, shared. It takes no memory; `Memory` only where a count of references is
-    /// full.
+    /// This scope, shared. It takes no memory; `Memory` only if a count of references is full.
     pub fn try_copy(&self) -> Result<Env<'n>, Memory>
         ensures { IfOk result (λ e. e ≡ self.now) }
     {
@@ -173,8 +172,8 @@ impl<'n> Env<'n> {
         Ok(Env { params, olds })
     }
 
-    /// This scope, shared, in the place of the other. It takes no memory; `Memory` only where a
-    /// count of references is full.
+    /// This scope, shared, in place of the other. It takes no memory; `Memory` only if a count of
+    /// references is full.
     #[inline(always)]
     pub(crate) fn renew(&mut self, from: &Env<'n>) -> Result<(), Memory>
         ensures { OnOk result (scope_of self.new ≡ scope_of from.now) }
@@ -190,7 +189,7 @@ impl<'n> Env<'n> {
         }
     }
 
-    /// These parameters, shared, and these frozen networks. `Memory` where a growth was refused.
+    /// These parameters, shared, and these frozen networks. `Memory` if allocation fails.
     fn of(alloc: Global, params: &Params, olds: Vec<Frozen<'n>>) -> Result<Env<'n>, Memory>
         ensures { IfOk result (λ e. scope_of e ≡ scope params.now (frozens_in olds.entry.items)) }
     {
@@ -203,7 +202,7 @@ impl<'n> Env<'n> {
     }
 }
 
-/// The scope with one parameter more. `Memory` where a growth was refused.
+/// The scope with one parameter more. `Memory` if allocation fails.
 pub fn push_param<'n>(alloc: Global, env: &Env<'n>, value: &Sample) -> Result<Env<'n>, Memory>
     ensures { IfOk result (λ e. scope_of e ≡ with_param (scope_of env.now) (datum_of value.now)) }
 {
@@ -212,7 +211,7 @@ pub fn push_param<'n>(alloc: Global, env: &Env<'n>, value: &Sample) -> Result<En
     Ok(Env { params, olds })
 }
 
-/// The scope with one frozen network more. `Memory` where a growth was refused.
+/// The scope with one frozen network more. `Memory` if allocation fails.
 #[tactic(auto, using(crate::proofs::FrozenLists::frozens_append))]
 pub fn push_old<'n>(alloc: Global, env: &Env<'n>, frozen: &Frozen<'n>) -> Result<Env<'n>, Memory>
     ensures { IfOk result (λ e. scope_of e ≡ with_old (scope_of env.now) (frozen_of frozen.now)) }
@@ -223,7 +222,7 @@ pub fn push_old<'n>(alloc: Global, env: &Env<'n>, frozen: &Frozen<'n>) -> Result
     Env::of(alloc, &env.params, all)
 }
 
-/// The scope with these frozen networks more. `Memory` where a growth was refused.
+/// The scope with these frozen networks more. `Memory` if allocation fails.
 #[tactic(auto, using(crate::proofs::FrozenLists::frozens_append))]
 pub fn push_olds<'n>(alloc: Global, env: &Env<'n>, frozen: &[Frozen<'n>]) -> Result<Env<'n>, Memory>
     ensures { IfOk result (λ e. scope_of e ≡ with_olds (scope_of env.now) (frozens_in frozen.now)) }
@@ -232,7 +231,7 @@ pub fn push_olds<'n>(alloc: Global, env: &Env<'n>, frozen: &[Frozen<'n>]) -> Res
     Env::of(alloc, &env.params, all)
 }
 
-/// Copies of some frozen networks and of others behind them. `Memory` where a growth was refused.
+/// Copies of some frozen networks and of others behind them. `Memory` if allocation fails.
 fn joined<'n>(
     alloc: Global,
     old: &[Frozen<'n>],
@@ -248,7 +247,7 @@ fn joined<'n>(
     Ok(all)
 }
 
-/// Copies of some frozen networks, with room for so many more. `Memory` where a growth was refused.
+/// Copies of some frozen networks, with room for so many more. `Memory` if allocation fails.
 fn copied<'n>(alloc: Global, all: &[Frozen<'n>], more: usize) -> Result<Vec<Frozen<'n>>, Memory>
     ensures { IfOk result (λ copies. frozens_in copies.items ≡ frozens_in all.now) }
 {
@@ -261,7 +260,7 @@ fn copied<'n>(alloc: Global, all: &[Frozen<'n>], more: usize) -> Result<Vec<Froz
 }
 
 /// The network frozen: as it never started where there is no state, else the state, with the step
-/// of the sample that it does not see. `Memory` where a growth was refused.
+/// of the sample that it does not see. `Memory` if allocation fails.
 pub fn freeze<'n>(
     alloc: Global,
     net: &'n Net<LeafId>,
@@ -288,7 +287,7 @@ fn unstarted<'n>(net: &'n Net<LeafId>, env: &Env<'n>) -> Result<Frozen<'n>, Memo
 }
 
 /// The state frozen, with the step of the sample that it does not see. It takes no memory; `Memory`
-/// only where a count of references is full.
+/// only if a count of references is full.
 pub fn pause<'n>(alloc: Global, state: &State<'n>, step: u64) -> Result<Frozen<'n>, Memory>
     ensures { IfOk result (λ f. frozen_of f ≡ paused_state (state_of state.now) step) }
 {

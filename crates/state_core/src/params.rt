@@ -48,8 +48,8 @@ impl Params {
         }
     }
 
-    /// These parameters, shared. It takes no memory; `Memory` only where a count of references
-    /// is full.
+    /// These parameters, shared. It takes no memory; `Memory` only if a count of references is
+    /// full.
     pub(crate) fn try_copy(&self) -> Result<Params, Memory>
         ensures { IfOk result (λ ps. ps ≡ self.now) }
     {
@@ -61,8 +61,8 @@ impl Params {
         }
     }
 
-    /// These parameters, shared, in the place of the others. It takes no memory; `Memory` only
-    /// where a count of references is full.
+    /// These parameters, shared, in place of the others. It takes no memory; `Memory` only if a
+    /// count of references is full.
     #[inline(always)]
     pub(crate) fn renew(&mut self, from: &Params) -> Result<(), Memory>
         ensures { OnOk result (self.new ≡ from.now) }
@@ -74,7 +74,7 @@ impl Params {
         Ok(())
     }
 
-    /// These parameters and one more behind them. `Memory` where a growth was refused.
+    /// These parameters and one more behind them. `Memory` if allocation fails.
     pub(crate) fn and(&self, alloc: Global, value: &Sample) -> Result<Params, Memory>
         ensures { IfOk result (λ ps. ps ≡ self.now ++ datum_of value.now ∷ []) }
     {
@@ -86,7 +86,7 @@ impl Params {
     }
 }
 
-/// Copies of the values, with room for so many more. `Memory` where a growth was refused.
+/// Copies of the values, with room for so many more. `Memory` if allocation fails.
 fn copied(alloc: Global, values: &[Sample], more: usize) -> Result<Vec<Sample>, Memory>
     ensures { IfOk result (λ copies. copies.items ≡ values.now) }
 {

@@ -6,8 +6,8 @@ ghost use Rattle.sample_core.specs.{Datum.int, Datum.list, Datum.list_of, Datum.
 use sample_core::{Memory, Sample, SamplePair, Samples};
 use std::alloc::Global;
 
-/// The pair of the sample and the member's number, from 0, by which a `pSwitch` routes. `Memory`
-/// where a growth was refused.
+/// The pair of the sample and the member's number, from 0, by which a `pSwitch` routes. `Memory` if
+/// allocation fails.
 pub fn route(alloc: Global, sample: &Sample, i: u32) -> Result<Sample, Memory>
     ensures { IfOk result (λ p. datum_of p ≡ pair (datum_of sample.now) (int (pos i))) }
 {
@@ -16,7 +16,7 @@ pub fn route(alloc: Global, sample: &Sample, i: u32) -> Result<Sample, Memory>
     Ok(Sample::Pair(pair))
 }
 
-/// The list of the members' answers, in member order. `Memory` where a growth was refused.
+/// The list of the members' answers, in member order. `Memory` if allocation fails.
 pub fn gather(alloc: Global, answers: Vec<Sample>) -> Result<Sample, Memory>
     ensures { IfOk result (λ v. datum_of v ≡ list (list_of (map datum_of answers.items))) }
 {

@@ -126,7 +126,7 @@ impl<'n> Places<'n> {
         self.used.min(self.all.len())
     }
 
-    /// What runs at place i; nothing where there is none.
+    /// What runs at place i; nothing if there is none.
     #[inline(always)]
     pub fn get(&self, i: usize) -> Option<&State<'n>>
         ensures { MatchOption result (slice_get self.now.0 i ≡ None)
@@ -163,7 +163,7 @@ impl<'n> Places<'n> {
         }
     }
 
-    /// One place more. `Memory` where a growth was refused: the places are as they were then.
+    /// One place more. `Memory` if allocation fails: the places are as they were then.
     #[inline(always)]
     pub fn push(&mut self, state: State<'n>) -> Result<(), Memory>
         ensures { IfOk result (λ _. self.new.0 ≡ self.old.0 ++ state_of state.entry ∷ []) }
@@ -207,7 +207,7 @@ impl<'n> Kept<'n> {
         self.places.clear();
     }
 
-    /// Lets go of what stands behind what is kept.
+    /// Drops what stands behind what is kept.
     #[inline(always)]
     pub fn end(&mut self)
         ensures { kept_of self.new ≡ kept_of self.old }
@@ -217,7 +217,7 @@ impl<'n> Kept<'n> {
 }
 
 impl<'n> Running<'n> {
-    /// The network in its scope, which keeps nothing yet. It takes no memory; `Memory` only where a
+    /// The network in its scope, which keeps nothing yet. It takes no memory; `Memory` only if a
     /// count of references is full.
     pub fn new(alloc: Global, net: &'n Net<LeafId>, env: &Env<'n>) -> Result<Running<'n>, Memory>
         ensures { IfOk result (λ r. (r.net.now ≡ net.entry.now) × (scope_of r.env ≡ scope_of env.now)
@@ -229,7 +229,7 @@ impl<'n> Running<'n> {
     }
 
     /// The network in its scope, which keeps nothing yet, in the memory of what ran before.
-    /// `Memory` only where a count of references is full.
+    /// `Memory` only if a count of references is full.
     #[inline(always)]
     pub fn renew(&mut self, net: &'n Net<LeafId>, env: &Env<'n>) -> Result<(), Memory>
         ensures { IfOk result (λ _. (self.new.net.now ≡ net.entry.now)
@@ -250,7 +250,7 @@ impl<'n> Whole<'n> {
         &self.running
     }
 
-    /// This state, shared. It takes no memory; `Memory` only where a count of references is full.
+    /// This state, shared. It takes no memory; `Memory` only if a count of references is full.
     fn try_copy(&self) -> Result<Whole<'n>, Memory>
         ensures { IfOk result (λ w. w ≡ self.now) }
     {
@@ -260,7 +260,7 @@ impl<'n> Whole<'n> {
 }
 
 impl<'n> State<'n> {
-    /// What runs, as a state. `Memory` where a growth was refused.
+    /// What runs, as a state. `Memory` if allocation fails.
     pub fn new(alloc: Global, running: Running<'n>) -> Result<State<'n>, Memory>
         ensures { IfOk result (λ a. state_of a ≡ running_of running.entry) }
     {
@@ -268,8 +268,8 @@ impl<'n> State<'n> {
         Ok(State::Whole(Whole { running }))
     }
 
-    /// A copy, which shares all with it. It takes no memory; `Memory` only where a count of
-    /// references is full.
+    /// A copy, which shares all with it. It takes no memory; `Memory` only if a count of references
+    /// is full.
     pub(crate) fn try_copy(&self) -> Result<State<'n>, Memory>
         ensures { IfOk result (λ a. state_of a ≡ state_of self.now) }
     {

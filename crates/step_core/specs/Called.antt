@@ -15,7 +15,7 @@ abbrev pub IsConstant : List KeyTree → Option ℕ → List Datum → Datum →
 IsConstant keys (Some k) ps v = Called keys k ps unit v
 IsConstant keys None ps v = v ≡ unit
 
--- in the place of an event v, a is the event of what row g promises of the accumulator and v
+-- in place of an event v, a is the event of what row g promises of the accumulator and v
 abbrev pub IsPutIn : List KeyTree → ℕ → List Datum → Datum → Datum → Datum → Type 0
 IsPutIn keys g ps acc (event v) a =
     (u : Datum) × Called keys g ps (pair acc v) u × (a ≡ event u)

@@ -16,8 +16,8 @@ use net_tree::Position;
 use sample_core::Memory;
 use std::alloc::Global;
 
-/// The network with a row of the table in the place of each expression.
-/// `MissingLeaf` where an expression has no row, at the first such from the root on.
+/// The network with a row of the table in place of each expression. `MissingLeaf` where an
+/// expression has no row, at the first such from the root on.
 pub fn bind(alloc: Global, net: &TypedNet, table: &LeafTable) -> Result<Bound, BindFault>
     ensures input { IfOk result (λ b. b.input ≡ net.now.input) }
     ensures network { IfOk result (λ b. network_by (rows_of table.now) b.rows ≡ net.now.net) }

@@ -95,8 +95,8 @@ pub(crate) fn start_accum<R: Rows>(
     }
 }
 
-/// Puts the answer of an `accumBy` to a further sample in the place of another value; its cell
-/// after it is one cell more.
+/// Puts the answer of an `accumBy` to a further sample in place of another value; its cell after it
+/// is one cell more.
 #[inline(always)]
 pub(crate) fn step_accum<R: Rows>(
     on: &On<'_, '_, R>,

@@ -13,7 +13,7 @@ pub enum BindFault {
         /// Where the expression stands.
         position: Position,
     },
-    /// A growth was refused.
+    /// Allocation failed.
     Memory,
 }
 

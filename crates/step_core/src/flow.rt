@@ -25,8 +25,8 @@ use sample_core::{Memory, Sample};
 use state_core::{Cells, Kept, push_param};
 use std::alloc::Global;
 
-/// Puts what the network answers in the place of another value, and adds what it keeps to what is
-/// kept. Answers how many nodes were visited. `Memory` where a growth was refused.
+/// Puts what the network answers in place of another value, and adds what it keeps to what is kept.
+/// Answers how many nodes were visited. `Memory` if allocation fails.
 #[cycle(run)]
 #[inline(always)]
 pub(crate) fn flow<'n, R: Rows>(

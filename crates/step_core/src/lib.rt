@@ -5,9 +5,9 @@
 //!     let output = runner.push(dt, &sample)?;
 //!
 //! `push` answers the next value of the network's stream meaning, across every switch and every
-//! network that is resumed, and the runner then stands for one sample more (`Pushes`); one that is
-//! refused memory leaves it as it was. `last_visits` counts the nodes that the sample visited, at
-//! most the network's weight.
+//! network that is resumed, and the runner then stands for one sample more (`Pushes`); one that
+//! fails to allocate leaves it as it was. `last_visits` counts the nodes that the sample visited,
+//! at most the network's weight.
 //!
 //! First `specs/RunnerState`, then `src/runner.rt`; the walk over all forms is `src/flow.rt`, what
 //! runs at a place `src/run.rt`.

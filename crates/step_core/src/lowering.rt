@@ -1,4 +1,4 @@
-// Networks with rows in the place of their expressions.
+// Networks with rows in place of their expressions.
 
 ghost use Rattle.std.specs.Prelude.{◌≡◌, ◌≢◌, ◌++◌, [], IfOk, None, Some, map, zero};
 ghost use Rattle.leaf_core.specs.{Expression.input, ExpressionView.expression_of};
@@ -14,8 +14,8 @@ use net_tree::{FedForm, LeafForm, Members, Net, NetChild, PairForm};
 use sample_core::Memory;
 use std::alloc::Global;
 
-/// The network with the first of the rows in the place of its expressions, and the rows behind
-/// these. There must be enough of them. `Memory` where a growth was refused.
+/// The network with the first of the rows in place of its expressions, and the rows behind these.
+/// There must be enough of them. `Memory` if allocation fails.
 #[cycle(lower)]
 pub(crate) fn lower<'a>(
     alloc: Global,

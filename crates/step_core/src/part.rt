@@ -29,7 +29,7 @@ pub(crate) fn second(value: &Sample) -> &Sample
     }
 }
 
-/// A pair of two values. `Memory` where a growth was refused.
+/// A pair of two values. `Memory` if allocation fails.
 pub(crate) fn paired(alloc: Global, v: Sample, w: Sample) -> Result<Sample, Memory>
     ensures { IfOk result (λ p. datum_of p ≡ pair (datum_of v) (datum_of w)) }
 {
@@ -37,7 +37,7 @@ pub(crate) fn paired(alloc: Global, v: Sample, w: Sample) -> Result<Sample, Memo
     Ok(Sample::Pair(pair))
 }
 
-/// A pair of a value and a copy of another. `Memory` where a growth was refused.
+/// A pair of a value and a copy of another. `Memory` if allocation fails.
 pub(crate) fn paired_with(alloc: Global, v: Sample, w: &Sample) -> Result<Sample, Memory>
     ensures { IfOk result (λ p. datum_of p ≡ pair (datum_of v) (datum_of w.now)) }
 {
@@ -50,7 +50,7 @@ pub(crate) fn paired_with(alloc: Global, v: Sample, w: &Sample) -> Result<Sample
     }
 }
 
-/// The pair of copies of two values. `Memory` where a growth was refused.
+/// The pair of copies of two values. `Memory` if allocation fails.
 pub(crate) fn beside(alloc: Global, v: &Sample, w: &Sample) -> Result<Sample, Memory>
     ensures { IfOk result (λ p. datum_of p ≡ pair (datum_of v.now) (datum_of w.now)) }
 {
@@ -58,8 +58,8 @@ pub(crate) fn beside(alloc: Global, v: &Sample, w: &Sample) -> Result<Sample, Me
     paired_with(alloc, v, w)
 }
 
-/// Puts the pair of copies of two values in the place of another value: in its memory, where that
-/// is a pair that no one else holds. `Memory` where a growth was refused.
+/// Puts the pair of copies of two values in place of another value: in its memory, where that is a
+/// pair that no one else holds. `Memory` if allocation fails.
 pub(crate) fn put_pair(
     alloc: Global,
     v: &Sample,
@@ -90,7 +90,7 @@ pub(crate) fn let_go(value: Sample) {
     }
 }
 
-/// Puts a number in the place of an answer that is a pair or an event: a row keeps a copy of its last
+/// Puts a number in place of an answer that is a pair or an event: a row keeps a copy of its last
 /// answer, and the next one comes into its memory where no one else holds it.
 #[inline(always)]
 pub(crate) fn let_parts_go(answer: &mut Sample) {
@@ -100,7 +100,7 @@ pub(crate) fn let_parts_go(answer: &mut Sample) {
     }
 }
 
-/// Puts a number in the place of an answer that is no number, where it is a pair or an event.
+/// Puts a number in place of an answer that is no number, where it is a pair or an event.
 #[inline(never)]
 fn let_other_parts_go(answer: &mut Sample) {
     if let Sample::Pair(_) | Sample::Event(_) = answer {
@@ -108,7 +108,7 @@ fn let_other_parts_go(answer: &mut Sample) {
     }
 }
 
-/// Puts a number in the place of a pair's second part, where no one else holds the pair: so it holds
+/// Puts a number in place of a pair's second part, where no one else holds the pair: so it holds
 /// that part no longer.
 pub(crate) fn let_second_go(pair: &mut Sample) {
     if let Sample::Pair(parts) = pair {
@@ -153,7 +153,7 @@ pub(crate) fn elements(value: &Sample) -> &[Sample]
 }
 
 /// The places of so many answers: those of the list that stands in the place, and room for more.
-/// `Memory` where a growth was refused.
+/// `Memory` if allocation fails.
 pub(crate) fn answer_places(
     alloc: Global,
     count: usize,
@@ -171,7 +171,7 @@ pub(crate) fn answer_places(
 }
 
 /// Sees to it that there is a place behind so many others; a value that stands there lets its parts
-/// go. `Memory` where a growth was refused.
+/// go. `Memory` if allocation fails.
 #[inline(always)]
 pub(crate) fn make_place(places: &mut Vec<Sample>, before: usize) -> Result<(), Memory>
     requires { before ≤ length places.old.items }

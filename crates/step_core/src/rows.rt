@@ -17,14 +17,13 @@ use std::cell::Cell;
 pub(crate) trait Rows {
     ghost keys: { Self → List KeyTree };
 
-    /// What the row answers to the parameters' values and the input. `Memory` where a growth was
-    /// refused.
+    /// What the row answers to the parameters' values and the input. `Memory` if allocation fails.
     fn call(&self, id: LeafId, params: &[Sample], x: &Sample) -> Result<Sample, Memory>
         ensures { IfOk result (λ v.
             Called (keys self.now) id.0 (map datum_of params.now) (datum_of x.now) (datum_of v)) };
 
     /// A pair of copies of two values, in the memory of the pair that was given back last. `Memory`
-    /// where a growth was refused.
+    /// if allocation fails.
     fn pair(&self, alloc: Global, v: &Sample, w: &Sample) -> Result<Sample, Memory>
         ensures { IfOk result (λ p. datum_of p ≡ pair (datum_of v.now) (datum_of w.now)) };
 

@@ -28,7 +28,7 @@ use std::alloc::Global;
 use std::rc::Rc;
 
 /// What runs at the next place: what ran there before goes on; at a start the network begins.
-/// Answers how many nodes were visited. `Memory` where a growth was refused.
+/// Answers how many nodes were visited. `Memory` if allocation fails.
 #[cycle(run)]
 #[inline(never)]
 pub(crate) fn run_place<'n, R: Rows>(

@@ -75,7 +75,7 @@ impl<'a> Runner<'a> {
     /// `step` is the time since the sample before, from 1 to 2^63 - 1; a first sample's step is
     /// ignored. There must be fewer than 2^63 samples before.
     ///
-    /// `Memory` where a growth was refused; the runner is then as it was before the call.
+    /// `Memory` if allocation fails; the runner is then as it was before the call.
     pub fn push(&mut self, step: u64, sample: &Sample) -> Result<Sample, Memory>
         requires typed { HasType (datum_of sample.now) (runner_state self.old).input }
         requires later { 0 < (runner_state self.old).samples → (1 ≤ step) × (step < 2 ^ 63) }
@@ -120,7 +120,7 @@ impl<'a> Runner<'a> {
 }
 
 /// A start of the network, or a step of its state where it has one: its visits, and its answer. A
-/// list that it answers stays in the place of the last one, and a copy is answered.
+/// list that it answers stays in place of the last one, and a copy is answered.
 #[inline(always)]
 fn run_next<'n, R: Rows>(
     on: &On<'_, 'n, R>,
@@ -145,8 +145,7 @@ fn run_next<'n, R: Rows>(
     }
 }
 
-/// A start of the network, or a step of its state, which puts the answer in the place of the last
-/// one.
+/// A start of the network, or a step of its state, which puts the answer in place of the last one.
 #[inline(always)]
 fn run_from<'n, R: Rows>(
     on: &On<'_, 'n, R>,

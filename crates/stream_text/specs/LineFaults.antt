@@ -47,7 +47,7 @@ pub data LineFaulty (A : TypeTree) (n : ℕ) (line : List ℕ) : Option Datum �
         → IsWithinLimits n line → IsStepped line d rest → rest ≢ codes "="
         → ValueFaulty A rest fault → LineFaulty A n line (Some v) (S.Value n fault)
 
--- a line has a fault exactly where that fault's row of the table holds
+-- a line has a fault if and only if that fault's row of the table holds
 abbrev pub LineFaultLaw : Type 0
 LineFaultLaw = (A : TypeTree) (n : ℕ) (before : Option Datum) (line : List ℕ) (fault : StreamFault)
     → line_read A n before line ≡ Err fault ↔ LineFaulty A n line before fault

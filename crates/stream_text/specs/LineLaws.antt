@@ -9,7 +9,7 @@ use Rattle.stream_text.specs.StepText.{step_in}
 use Rattle.stream_text.specs.StreamText.{line_read, whole_value}
 use Rattle.stream_text.specs.declared.line.TheConstants.{MOST_SAMPLES, MOST_BYTES}
 
--- bytes are read as a value of a type exactly where they are its spelling
+-- bytes are read as a value of a type if and only if they are its spelling
 abbrev pub WholeValueLaw : Type 0
 WholeValueLaw = (A : TypeTree) (n : ℕ) (bs : List ℕ) (v : Datum)
     → whole_value A n bs ≡ Ok v ↔ (HasType v A × (bs ≡ spelling v))
@@ -19,7 +19,7 @@ abbrev pub IsStepped : List ℕ → ℕ → List ℕ → Type 0
 IsStepped line d rest = (1 ≤ d) × (d < 2 ^ 63)
     × (line ≡ codes "+" ++ (decimal d ++ (codes " " ++ rest)))
 
--- a line is read as a step and a rest exactly where it is written so
+-- a line is read as a step and a rest if and only if it is written so
 abbrev pub StepLaw : Type 0
 StepLaw = (line rest : List ℕ) (d : ℕ) → step_in line ≡ Some (d, rest) ↔ IsStepped line d rest
 
@@ -30,7 +30,7 @@ HoldsSample A None line x = (x.0 ≡ 0) × HasType x.1 A × (line ≡ spelling x
 HoldsSample A (Some before) line x = (rest : List ℕ) × IsStepped line x.0 rest
     × (((rest ≡ codes "=") × (x.1 ≡ before)) ⊎ (HasType x.1 A × (rest ≡ spelling x.1)))
 
--- line n is read as a sample exactly where it is one of the first 1,000,000, has at most 65,536
+-- line n is read as a sample if and only if it is one of the first 1,000,000, has at most 65,536
 -- bytes and holds the sample
 abbrev pub LineLaw : Type 0
 LineLaw = (A : TypeTree) (n : ℕ) (before : Option Datum) (line : List ℕ) (x : ℕ × Datum)

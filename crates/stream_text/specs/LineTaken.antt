@@ -43,7 +43,7 @@ TakesKept A s size (Err fault) s' =
     (fault ≢ S.Memory → line_read A (suc s.lines) s.before (take size s.kept) ≡ Err fault)
     × EndsFaulty s s'
 
--- at the end, what the last line holds is answered, or nothing where there is none
+-- at the end, what the last line holds is answered, or nothing if there is none
 abbrev pub TakesLast : TypeTree → ReaderState → Result (Option (ℕ × Sample)) StreamFault
     → ReaderState → Type 0
 TakesLast A s (Ok None) s' = (s.kept ≡ []) × (s'.kept ≡ []) × (s'.met ≡ M.End) × SameLast s s'

@@ -14,7 +14,7 @@ step_view (Some s) = Some (s.0, s.1.now)
 abbrev pub sample_view : ℕ × Sample → ℕ × Datum
 sample_view x = (x.0, datum_of x.1)
 
--- the value before, where there is one
+-- the value before, if there is one
 abbrev pub before_view : Option (Bor Sample) → Option Datum
 before_view None = None
 before_view (Some v) = Some (datum_of v.now)

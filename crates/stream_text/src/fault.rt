@@ -21,7 +21,7 @@ pub enum StreamFault {
     ReadTurns,
     /// A read failed.
     Read,
-    /// A growth was refused.
+    /// Allocation failed.
     Memory,
     /// An earlier call answered a fault. No run answers it.
     Ended,

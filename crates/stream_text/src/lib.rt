@@ -5,8 +5,8 @@
 //!     while let Some((step, value)) = lines.next(&ty)? { .. }
 //!
 //! What a text holds is `samples`. Successive calls of `next` answer these in order, whatever the
-//! pieces; `None` where there is no line more; a line's fault where it has one. A line is read as
-//! soon as what was read settles it. `Read` comes only where the reader's failures rose.
+//! pieces; `None` if there is no line more; a line's fault where it has one. A line is read as soon
+//! as what was read settles it. `Read` comes only where the reader's failures rose.
 //!
 //! First `specs/StreamText`, which says what a line holds, then `src/reader.rt`; faults are
 //! `src/fault.rt` and `specs/LineFaults`, devices `src/device.rt`.

@@ -26,9 +26,9 @@ pub const LINE_FEED: u8 = b'\n';
 /// step is 0.
 ///
 /// Refusals in order. `TooManySamples`: the number is over 1,000,000. `LineTooLong`: more than
-/// 65,536 bytes. `Step`: line 1 begins with `+`, or a later line doesn't begin with `+`, a step
-/// and a space. `NothingBefore`: line 1 is `=`. `Value`: the value is faulty, by its bytes counted
-/// from 0. `Memory`: a growth was refused.
+/// 65,536 bytes. `Step`: line 1 begins with `+`, or a later line doesn't begin with `+`, a step and
+/// a space. `NothingBefore`: line 1 is `=`. `Value`: the value is faulty, by its bytes counted from
+/// 0. `Memory`: allocation failed.
 pub fn read_line(
     alloc: Global,
     ty: &Ty,

@@ -28,7 +28,7 @@ fn digits_len(text: &[u8]) -> usize
     text.iter().take_while(|b| b.is_ascii_digit()).count()
 }
 
-/// The step that the digits write; `None` where there are none, the first is 0, or it is over the
+/// The step that the digits write; `None` if there are none, the first is 0, or it is over the
 /// greatest.
 fn step_value(digits: &[u8]) -> Option<u64>
     requires { (k : ℕ) → k < length digits.now → is_ascii_digit (slice_index digits.now k) ≡ true }
@@ -46,7 +46,7 @@ fn step_value(digits: &[u8]) -> Option<u64>
 }
 
 /// The step of a line that begins with `+`, a step and a space, and what stands behind these;
-/// `None` where it doesn't.
+/// `None` if it doesn't.
 #[inline(always)]
 pub fn split_step(line: &[u8]) -> Option<(u64, &[u8])>
     ensures { step_view result ≡ step_in line.now }

@@ -3,10 +3,10 @@
 //!
 //!     $ yampa run net < stream
 //!
-//! No contract can speak of the host's files and streams, so `main` stays thin: it reads the
-//! words, asks `prepare` for the job, stores a closure for each expression of the network
-//! (`fill_table!`), runs it by `run_network`, and prints a refusal's line. It answers the exit
-//! status: that of the job, of the run, or of the refusal. `tests/examples` tries it.
+//! No contract can describe the host's files and streams, so `main` stays thin: it reads the words,
+//! asks `prepare` for the job, stores a closure for each expression of the network (`fill_table!`),
+//! runs it by `run_network`, and prints a refusal's line. It answers the exit status: that of the
+//! job, of the run, or of the refusal. `tests/examples` tries it.
 //!
 //! First this file; the host's files are `src/host.rt`, and `src/streams.rt` is standard input and
 //! the writer that holds lines back until more input is asked for.

@@ -26,7 +26,7 @@ pub struct Output {
 }
 
 impl Output {
-    /// No output. `Memory` where there is no room to hold any.
+    /// No output. `Memory` if there is no room to hold any.
     pub fn new(alloc: Global, stdout: Stdout) -> Result<Output, Memory> {
         let mut room = Vec::new(alloc);
         room.resize(ROOM, 0)?;

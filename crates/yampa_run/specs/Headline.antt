@@ -42,7 +42,7 @@ RunsSo t has has' holds holds' (Ok report) =
     RunsToEnd t.input t.net has has' holds holds' report.lines report.most_visits
 RunsSo t has has' holds holds' (Err fault) = StopsRun t.input t.net has has' holds holds' fault
 
--- no growth, read or write was refused, nor a read for the number of reads
+-- no allocation, read or write was refused, nor a read for the number of reads
 abbrev pub Unhindered : Result RunReport RunFault → Type 0
 Unhindered (Ok report) = ⊤
 Unhindered (Err (U.Stream lines S.Read)) = ⊥
@@ -57,7 +57,7 @@ pub data TellsFault (lines : ℕ) : Option StreamFault → Result RunReport RunF
   tells_first : {fault : StreamFault} → TellsFault lines (Some fault) (Err (U.Stream lines fault))
 
 -- a run that writes exactly the output of a typed network on a text, a line for each sample, and
--- tells the text's first fault
+-- returns the text's first fault
 pub record WritesOutput (t : TypedNetwork) (text : List ℕ) (holds holds' : Option (List ℕ))
     (result : Result RunReport RunFault) : Type 0 where
   pub bytes : Appends holds holds' (text_output t text).bytes

@@ -51,6 +51,6 @@ abbrev pub greatest_of : List ℕ → ℕ
 greatest_of [] = 0
 greatest_of (n ∷ ns) = max n (greatest_of ns)
 
--- the most nodes that a sample visits, 0 where there is none
+-- the most nodes that a sample visits, 0 if there is none
 abbrev pub most_visits_of : Network Expression → TimedList → ℕ
 most_visits_of net xs = greatest_of (visits_of value_of net closed xs)

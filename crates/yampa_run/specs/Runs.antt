@@ -123,7 +123,7 @@ pub record IsPartOfLine (r : RunnerState) (x : ℕ × Datum) (r' : RunnerState) 
   pub parts : part ++ rest ≡ line_of_value y
   pub more : 0 < length rest
 
--- of the bytes a part from the front is given to the writer, but not all
+-- of the bytes a part as a prefix is given to the writer, but not all
 pub record BreaksOff (holds holds' : Option (List ℕ)) (bytes : List ℕ) : Type 0 where
   pub part : List ℕ
   pub rest : List ℕ

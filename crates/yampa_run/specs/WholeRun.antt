@@ -34,7 +34,7 @@ use Rattle.yampa_run.specs.declared.fault.RunReport.{RunReport}
 use Rattle.yampa_run.specs.declared.preparation.Job.TheVariants as J
 use Rattle.yampa_run.specs.declared.preparation.Refusal.{Refusal}
 
--- of a typed network's output on a text a part from the front is written, maybe all
+-- of a typed network's output on a text a part as a prefix is written, maybe all
 pub record WritesPart (t : TypedNetwork) (text : List ℕ) (holds holds' : Option (List ℕ)) : Type 0
   where
     pub written : List ℕ
@@ -48,7 +48,7 @@ hindrances = codes "memory" ∷ codes "stream: cannot be read" ∷ codes "stream
 
 -- What is written of a typed network's output on a text, by the status and the line of what is
 -- answered. With status 0 it is all, and the text has no fault; with status 1 it is all up to the
--- text's first fault, which the line names; with status 3 it is a part from the front, and the line
+-- text's first fault, which the line names; with status 3 it is a part as a prefix, and the line
 -- tells what hindered the run. There is no other status.
 pub data WritesAsTold (t : TypedNetwork) (text : List ℕ) (holds holds' : Option (List ℕ)) :
     Result RunReport Refusal → Type 0 where

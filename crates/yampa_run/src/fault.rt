@@ -10,7 +10,7 @@ pub enum RunFault {
     /// A write of the output failed or took no byte. Where it isn't known how many lines were
     /// written, as of what the program prints, `lines` is 0.
     Write { lines: u64 },
-    /// A growth was refused.
+    /// Allocation failed.
     Memory { lines: u64 },
 }
 

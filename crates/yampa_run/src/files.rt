@@ -13,7 +13,7 @@ use std::alloc::Global;
 pub enum FileFault {
     /// There is no such file, or it can't be read.
     Unread,
-    /// A growth was refused.
+    /// Allocation failed.
     Memory,
 }
 
@@ -21,7 +21,7 @@ pub enum FileFault {
 pub trait Files {
     ghost told: { Self → List ℕ → Option (List ℕ) };
 
-    /// The bytes of the file of that name: those that are told, where any are. `Unread` only where
+    /// The bytes of the file of that name: those that are told, where any are. `Unread` only if
     /// nothing is told of it.
     fn read(&self, alloc: Global, name: &str) -> Result<Vec<u8>, FileFault>
         ensures agrees { IfOk result (λ bytes. AgreesWith (told self.now name.now) bytes.items) }

@@ -36,8 +36,8 @@ pub fn table_refusal(alloc: Global, fault: TableFault) -> Refusal
 /// Adds a row for a need: the closure under the need's key. Where the key has a row already, that
 /// row stays. A part of `fill_table!`, which boxes the closure.
 ///
-/// `Full`: the key is new, and the table has 4,096 rows. `Memory`: a growth was refused. The table
-/// is then as it was.
+/// `Full`: the key is new, and the table has 4,096 rows. `Memory`: allocation failed. The table is
+/// then as it was.
 pub fn add_row(
     alloc: Global,
     table: &mut LeafTable,
@@ -62,7 +62,7 @@ pub fn add_row(
         → (length (rows_of table.old) ≡ MOST_ROWS)
         × (Contains (rows_of table.old) need.now.key → ⊥)) }
 {
-    // What is let go here is dropped by calls: where a scope ends, its drop is written out in
+    // What is dropped here is dropped by calls: where a scope ends, its drop is written out in
     // place, and proved there.
     let Ok(key) = need.key.try_copy(alloc) else {
         return Err(TableFault::Memory);
@@ -82,7 +82,7 @@ pub fn add_row(
     }
 }
 
-/// The closure in a box; none where a growth was refused. A part of `fill_table!`.
+/// The closure in a box; none where allocation failed. A part of `fill_table!`.
 pub fn boxed<F: Drop>(alloc: Global, run: F) -> Option<Box<F>>
     ensures { IfSome result (λ b. b.value ≡ run) }
 {
@@ -118,7 +118,7 @@ macro_rules! stored_row {
 /// a row.
 ///
 /// It stops at the first need that the table doesn't take; the rows of the needs before it stay.
-/// `Full`: the key is new, and the table has 4,096 rows. `Memory`: a growth was refused.
+/// `Full`: the key is new, and the table has 4,096 rows. `Memory`: allocation failed.
 ///
 /// It is dear to prove: use it in a function that does little else.
 #[macro_export]

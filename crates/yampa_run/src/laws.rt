@@ -27,9 +27,9 @@ pub fn refusal_laws()
 {}
 
 /// Where `check` accepts a certificate from a source to a target network, then, whatever bytes come
-/// as the timed stream and in whatever pieces, a `run` of either network in which no growth, read or
-/// write is refused writes the same bytes: one line per sample, the values of the source's stream
-/// meaning, up to the stream's first faulty line, which it names.
+/// as the timed stream and in whatever pieces, a `run` of either network in which no allocation,
+/// read or write is refused writes the same bytes: one line per sample, the values of the source's
+/// stream meaning, up to the stream's first faulty line, which it names.
 ///
 /// Accepts: `check` answered `Ok`, whose contract says `Derives`. `lines` is the same in both runs;
 /// `most_visits` may differ.
@@ -46,8 +46,8 @@ pub fn headline_laws()
 /// Where the words ask for a run of a network file, or of a target whose certificate is to be
 /// checked, and the bytes of the files that they name are told: what `run_network` writes of any
 /// text is the output of the file's network, or of the source. With status 0, by `run_status`, all
-/// of it; with status 1, all of it up to the text's first fault, which the line names; with status 3,
-/// a part of it from the front, and the line tells what hindered it. There is no other status.
+/// of it; with status 1, all of it up to the text's first fault, which the line names; with status
+/// 3, a part of it as a prefix, and the line tells what ended it early. There is no other status.
 pub fn whole_run_laws()
     ensures whole { WholeRunLaw }
 {

@@ -23,8 +23,8 @@ use stream_text::Device;
 ///
 /// A refusal has the status and the line of what stopped it. `no row`, with status 3: the table has
 /// no row for an expression of the network, and nothing is read or written. Else the line of the
-/// run's fault, as `fault_line` has it; nothing but what begins the output is written. `Memory`: a
-/// growth was refused, also one for the line.
+/// run's fault, as `fault_line` has it; nothing but what begins the output is written. `Memory`:
+/// allocation failed, also one for the line.
 pub fn run_network<R: Read + Device, W: Write + Device>(
     alloc: Global,
     net: &TypedNet,

@@ -12,8 +12,8 @@ use net_tree::Position;
 use net_view::{has_position, possible_text};
 use std::alloc::Global;
 
-/// The text of the command `laws` on the file of that name, at the place of a word and below; of the
-/// whole network, where there is none.
+/// The text of the command `laws` on the file of that name, at the place of a word and below; of
+/// the whole network, if there is none.
 pub(crate) fn possible<F: Files>(
     alloc: Global,
     name: &str,

@@ -48,7 +48,7 @@ impl Job {
 pub enum Refusal {
     /// The exit status, and the line that says why, without its line feed.
     Line { status: u8, line: String },
-    /// A growth was refused.
+    /// Allocation failed.
     Memory,
 }
 

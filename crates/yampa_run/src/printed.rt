@@ -12,7 +12,7 @@ use stream_text::StreamFault;
 
 /// The exit status of a run that ended early, and the line that tells why, without a line feed: 1
 /// for what is wrong with the stream's text, 3 for reading, writing and memory. The fault must be
-/// one that a run answers, so not `Ended`. `Memory` where a growth was refused.
+/// one that a run answers, so not `Ended`. `Memory` if allocation fails.
 pub fn fault_line(alloc: Global, fault: &RunFault) -> Result<(u8, String), Memory>
     requires { EndsRun fault.now }
     ensures status { IfOk result (λ r. r.0 ≡ status_of fault.now) }
@@ -99,7 +99,7 @@ fn push_place(out: &mut String, line: u64, what: &str, place: usize) -> Result<(
     Ok(())
 }
 
-/// Adds the words. `Memory` where a growth was refused.
+/// Adds the words. `Memory` if allocation fails.
 pub(crate) fn push_words(out: &mut String, words: &str) -> Result<(), Memory>
     ensures { OnOk result (string_bytes out.new ≡ string_bytes out.old ++ words.now) }
 {
@@ -109,7 +109,7 @@ pub(crate) fn push_words(out: &mut String, words: &str) -> Result<(), Memory>
     }
 }
 
-/// Adds the number in digits. `Memory` where a growth was refused.
+/// Adds the number in digits. `Memory` if allocation fails.
 pub(crate) fn push_number(out: &mut String, number: u64) -> Result<(), Memory>
     ensures { OnOk result (string_bytes out.new ≡ string_bytes out.old ++ decimal number) }
 {

@@ -24,7 +24,7 @@ use stream_text::{Device, LineState, StreamFault};
 pub(crate) enum WriteStop {
     /// A write failed.
     Write,
-    /// A growth was refused.
+    /// Allocation failed.
     Memory,
 }
 
@@ -34,8 +34,7 @@ pub(crate) enum WriteStop {
 ///
 /// A refusal counts the lines that were wholly written; nothing but what begins the output is.
 /// `Stream`: the stream's first fault, as `LineState::next` answers it; the lines of the samples
-/// before it are all written. `Write`: a write failed or took no byte. `Memory`: a growth was
-/// refused.
+/// before it are all written. `Write`: a write failed or took no byte. `Memory`: allocation failed.
 pub fn run<R: Read + Device, W: Write + Device>(
     alloc: Global,
     bound: &Bound,
@@ -198,9 +197,9 @@ fn spell(text: &mut String, value: &Sample) -> Result<(), Memory>
     Ok(())
 }
 
-/// Writes all of the bytes, or a part from the front. `Write`: a write failed or took no byte, so
-/// that the writer has failed more often than `failures`. A failure that the writer doesn't count
-/// is none, and the write is made again; `Memory` after 2^64 of these.
+/// Writes all of the bytes, or a part as a prefix. `Write`: a write failed or took no byte, so that
+/// the writer has failed more often than `failures`. A failure that the writer doesn't count is
+/// none, and the write is made again; `Memory` after 2^64 of these.
 #[inline(always)]
 fn put<W: Write + Device>(writer: &mut W, failures: u64, bytes: &[u8]) -> Result<(), WriteStop>
     ensures all { OnOk result (Appends (W.contents writer.old) (W.contents writer.new)

@@ -38,8 +38,8 @@ pub(crate) fn first_of(alloc: Global, word: Option<&str>) -> Result<Option<usize
     }
 }
 
-/// The number that a word of digits is, or the largest that there is, where it is larger. `None`
-/// where the word is no number.
+/// The number that a word of digits is, or the largest that there is, where it is larger. `None` if
+/// the word is no number.
 fn number_in(word: &str) -> Option<usize>
     ensures { result ≡ number_in word.now }
 {
@@ -103,7 +103,7 @@ fn place_in(alloc: Global, word: &str) -> Result<Option<Position>, Memory>
     }
 }
 
-/// `Memory` where that is why a text is refused.
+/// `Memory` if that is why a text is refused.
 fn unless_memory(fault: &NetTextFault) -> Result<(), Memory>
     ensures { OnOk result (fault.now ≢ Fault.Memory) }
 {
