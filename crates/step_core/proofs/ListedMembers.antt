@@ -1,7 +1,6 @@
 -- Frozen members of the code, and the clean ones.
-use Rattle.std.proofs.Common.{◌≡◌, Some, None, ℕ, zero, suc, ◌+◌, ◌-◌, ◌<◌, ◌≤◌, min, List, [], ◌∷◌, ◌++◌, length, map, take, get_or, refl, sym, ap, ◌∙◌, arith, append_assoc}
-use Rattle.std.proofs.Math.Seq.{take-suc}
-use Rattle.std.proofs.lemmas.List.{length-map, map_push, take-map, take_all, take_min}
+use Rattle.std.proofs.Common.{◌≡◌, Some, None, ℕ, zero, suc, ◌-◌, ◌≤◌, min, List, [], ◌∷◌, ◌++◌, length, map, take, refl, sym, ap, ◌∙◌, arith}
+use Rattle.std.proofs.lemmas.List.{length-map, take-map, take_all, take_min}
 use Rattle.leaf_table.specs.declared.table.LeafId.{LeafId}
 use Rattle.net_tree.specs.Network.{Network, Networks, map_networks}
 use Rattle.net_meaning.specs.SignalFunction.{items_named, items_of}

@@ -1,5 +1,5 @@
 -- A network with the rows of its expressions in their place is one of rows for the same types.
-use Rattle.std.proofs.Common.{◌≡◌, ◌≢◌, ◌≤◌, ℕ, suc, List, [], ◌∷◌, ◌++◌, map, Option, Some, None, slice_get, refl, sym, ap, ap₂, ◌∙◌, subst, append_assoc, append-nil, Contains, inr, Result, Ok, Err, IfErr, OnOk, length}
+use Rattle.std.proofs.Common.{◌≡◌, ◌≢◌, ◌≤◌, ℕ, suc, List, [], ◌∷◌, ◌++◌, map, Option, Some, None, slice_get, refl, sym, ap, ap₂, ◌∙◌, subst, append_assoc, append-nil, Contains, inl, inr, Result, Ok, Err, IfErr, OnOk, length}
 use Rattle.std.proofs.lemmas.Option.{slice_get_within, get_or_from_slice_get}
 use Rattle.std.proofs.lemmas.List.Elements.{All-cons, All-nil, Contains-get_or}
 use Rattle.sample_core.specs.TypeTree.{TypeTree, unit_ty, int_ty, pair_ty, event_ty, list_ty}
@@ -20,7 +20,7 @@ use Rattle.net_tree.specs.declared.net.Net.{Net}
 use Rattle.net_tree.proofs.MappedMeasures.{weight_map}
 use Rattle.state_core.specs.RowsView.{row_number, rows_in}
 use Rattle.step_core.specs.RowTyping.{RowTyped, RowsTyped, row_expression, network_by, expression_in}
-use Rattle.step_core.specs.Lookup.{AllFound, FirstMissing, Misses, MissesIn, RowsOf, no_rows, and_row, AddsRows}
+use Rattle.step_core.specs.Lookup.{AllFound, FirstMissing, Misses, MissesIn, Names, RowsOf, no_rows, and_row, AddsRows}
 use Rattle.step_core.specs.Lowering.{Filled, fill, fill_leaf, fill_members, both, AddsMembers}
 use Rattle.step_core.specs.declared.fault.BindFault.{BindFault}
 use Rattle.step_core.specs.declared.fault.BindFault.TheVariants as F
@@ -228,6 +228,12 @@ module _ (keys : List KeyTree) where
       → Misses keys (n ∷ ns) fault
   missed_later n ns k (F.MissingLeaf p) e h = inr (has_row k n.key e, h)
   missed_later n ns k F.Memory e h = tt
+
+  -- the first need, where it has no row
+  pub first_missed : (n : Need) (ns : List Need) (fault : BindFault) → (Contains keys n.key → ⊥) → Names n.position fault
+      → Misses keys (n ∷ ns) fault
+  first_missed n ns (F.MissingLeaf p) e h = inl (e, h)
+  first_missed n ns F.Memory e h = tt
 
   -- the network of rows that a whole typed network is lowered to
   pub record LoweredTo (t : TypedNetwork) (net : Network Expression) (rows : List ℕ) : Type 0 where

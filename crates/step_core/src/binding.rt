@@ -47,16 +47,15 @@ fn add_rows(
         (map row_number rows.old.items) (map row_number rows.new.items)) }
     ensures missing { IfErr result (Misses (rows_of table.now) (map need_of needs.now)) }
 {
-    match needs.split_first() {
-        Some((need, rest)) => match table.find(&need.key) {
-            Some(row) => {
-                rows.push(row)?;
-                add_rows(alloc, table, rest, rows)
-            }
-            None => Err(missing(alloc, &need.position)),
-        },
-        None => Ok(()),
+    let mut left = needs;
+    while let Some((need, rest)) = left.split_first() {
+        match table.find(&need.key) {
+            Some(row) => rows.push(row)?,
+            None => return Err(missing(alloc, &need.position)),
+        }
+        left = rest;
     }
+    Ok(())
 }
 
 /// The refusal for an expression that has no row.
