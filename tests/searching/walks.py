@@ -1,0 +1,49 @@
+"""Random walks: steps forward from a network, which `certify` is to find again.
+
+A line of tests/searching/walked is a walk: the example that it starts from, `:`, and its steps, with `;` between them: a law and the
+numbers of its position. They were drawn from what `laws` prints, at random positions.
+"""
+from pathlib import Path
+
+from searching.calls import TIMES
+
+TOP = Path(__file__).resolve().parent.parent.parent
+# Of all walks so many are to be found, by at most `TIMES` as many steps as they have.
+FOUND = 0.95
+
+
+def walks():
+    """The walks: the name of the example, and the steps."""
+    for line in (TOP / "tests/searching/walked").read_text().splitlines():
+        if not line.startswith("; "):
+            name, steps = line.split(": ")
+            yield name, steps.split("; ")
+
+
+def certificate_of(steps):
+    """The text of a certificate with these steps."""
+    told = [f"(step {law} forward (at{''.join(f' {k}' for k in path)}))" for law, *path in map(str.split, steps)]
+    return "\n".join(["laws 2", *told, ""])
+
+
+def walk_found(caller, name, steps):
+    """How many steps `certify` finds to where a walk ends, None where it finds none, and what is wrong."""
+    source = str(TOP / "examples" / name / "net")
+    status, target, error = caller.call("apply", source, caller.file(certificate_of(steps)))
+    if status:
+        return None, f"apply: status {status}, {error!r}"
+    return caller.certified(source, caller.file(target))
+
+
+def all_walks(caller, only):
+    """What is wrong with the walks whose example has the word in its name, and how many were found."""
+    faults, good, count = [], 0, 0
+    for number, (name, steps) in enumerate(walks()):
+        if only in name:
+            found, fault = walk_found(caller, name, steps)
+            faults += [f"walk {number}, {name}: {fault}"] if fault else []
+            good += found is not None and found <= TIMES * len(steps)
+            count += 1
+    if good < FOUND * count:
+        faults.append(f"fewer than {FOUND:.0%}")
+    return faults, f"{good} of {count} found with at most {TIMES} times the steps"
