@@ -71,10 +71,10 @@ def tool(name: str, *words: object, stream: str | bytes = b"", folder: Path | No
     return ran.returncode, ran.stdout.decode(errors="replace"), ran.stderr.decode(errors="replace")
 
 
-def each(run: Callable[[Any], Any], items: Iterable[Any]) -> list[tuple[Any, Any]]:
-    """Each item, as an example, with what comes of it; several are run at once."""
+def each(run: Callable[[Any], Any], items: Iterable[Any], at_once: int | None = None) -> list[tuple[Any, Any]]:
+    """Each item, as an example, with what comes of it; several are run at once, or as many as is told."""
     items = list(items)
-    with ThreadPoolExecutor(os.cpu_count()) as pool:
+    with ThreadPoolExecutor(at_once or os.cpu_count()) as pool:
         return list(zip(items, pool.map(run, items)))
 
 

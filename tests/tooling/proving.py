@@ -75,7 +75,7 @@ BUGS = [
     ("(goes 2 true)", "(goes 3 false)", "red"),
     ("(equal (phase x) 3))", "(less 0 (phase x)))", "safe"),
 ]
-EXAMPLES_GOALS = [("junction", ["parted"]), ("boiler", ["apart", "power", "off", "warm"]), ("elevator", ["floors"])]
+EXAMPLES_GOALS = [("junction", ["parted"]), ("boiler", ["apart", "power", "off", "warm"]), ("elevator", ["floors", "steps"])]
 
 
 def told_of(case):

@@ -7,7 +7,7 @@ from typing import Any, Optional
 
 from workbench.ending import INTERRUPTED, REFUSED, Refused, Words, write
 from workbench.proving.contract import Contract, contract_of
-from workbench.proving.deciding import Decision, Verdict, ways_of_z3
+from workbench.proving.deciding import Decision, Verdict, in_long_recordings, ways_of_z3, wishes_of
 from workbench.proving.question import Question
 from workbench.proving.words import (
     NOT_KNOWN,
@@ -36,9 +36,10 @@ of its input and its output, and what helps to prove that; then each guarantee h
   invariant rising (arr ..)
   guarantee safe (arr (not (and (green (snd x)) (walk (snd x)))))
 
-Recordings are searched from the first sample on, with small numbers and with all; a proof is sought by
-induction with guessed invariants, over numbers that wrap and over integers of which none leaves 64 bits, and
-by z3's Spacer. A recording that is found is run by the program, and made as short and simple as possible.
+Recordings are searched from the first sample on, with small numbers and with all, and long random ones are
+run; a proof is sought by induction with guessed invariants, over numbers that wrap and over integers of
+which none leaves 64 bits, and by z3's Spacer. A recording that is found is run by the program, and made as
+short and simple as possible.
 
 Assume what is true of the world, such as a speed from 0 to 300: else the recording that is found has a
 speed of 2^63 - 1. An assumption is an observer of the input."""
@@ -88,7 +89,9 @@ class Proof:
         return self.contract.question(net, pace_of(self.given), self.assumed, self.lemmas)
 
     def decided(self, net: Any) -> Verdict:
-        verdict = Decision(self.question(net), limits_of(self.given)).by(ways_of_z3(True))
+        question = self.question(net)
+        ways = {**ways_of_z3(True), "long": in_long_recordings(wishes_of(question.pace))}
+        verdict = Decision(question, limits_of(self.given)).by(ways)
         if verdict.unfair == 0:
             raise Refused("no recording keeps to what is assumed: it is false at the first sample, whatever the input")
         return verdict

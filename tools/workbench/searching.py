@@ -10,7 +10,7 @@ from workbench.comparing import first_difference, said
 from workbench.ending import INTERRUPTED, REFUSED, UNREADABLE, Refused, Words, stream_bytes, write
 from workbench.program import call
 from workbench.proving.contract import contract_of
-from workbench.proving.deciding import Decision, Limits, Verdict, Way, certifying, random_ways, ways_of_z3
+from workbench.proving.deciding import Decision, Limits, Verdict, Way, certifying, in_long_recordings, random_ways, ways_of_z3, wishes_of
 from workbench.proving.question import ALIKE, Pace, Question
 from workbench.proving.words import (
     NOT_KNOWN,
@@ -26,7 +26,7 @@ from workbench.proving.words import (
     with_limits,
     with_paces,
 )
-from workbench.streams import Recording, Wishes, stream_text
+from workbench.streams import LENGTH, Recording, Wishes, stream_text
 
 FALSIFY = """Looks for a stream on which NET outputs `false`. NET outputs a Bool: it is an observer of a property,
 such as whether a controller's output stays within its bounds.
@@ -52,7 +52,7 @@ def falsify_main() -> None:
     words.add_argument("net", metavar="NET")
     with_assumptions(words)
     words.add_argument("--from", metavar="STREAM", action="append", default=[], dest="recordings", help="tries recordings like this one")
-    words.add_argument("--length", type=whole(1, 100_000), default=60, metavar="N", help="random streams have at most N samples; 60 by default")
+    words.add_argument("--length", type=whole(1, 100_000), metavar="N", help="random streams have at most N samples; by default 60, and some 2,048")
     words.add_argument("--steps", type=numbers, metavar="N,N", help="only these steps")
     words.add_argument("--seed", type=int, default=1, metavar="N", help="another number tries other streams")
     with_limits(words, 30)
@@ -61,7 +61,9 @@ def falsify_main() -> None:
     pace = Pace(given.steps[0] if given.steps and len(given.steps) == 1 else None, max(given.steps) if given.steps else None, None)
     assuming = assumed(given.assume, contract.loaded.given)
     question = contract.question(joined([goal.net for goal in contract.goals]), pace, assuming)
-    verdict = searched("falsify", question, limits_of(given), {}, given.seed, wishes_of(given, question))
+    wishes = wishes_for(given, question)
+    long = {} if given.length else {"long": in_long_recordings(wishes)}
+    verdict = searched("falsify", question, limits_of(given), long, given.seed, wishes)
     if not verdict.recording:
         print(f"yampa falsify: none found: {verdict.what_was_searched()} (seed {given.seed})", file=sys.stderr)
         sys.exit(INTERRUPTED if verdict.interrupted else 0)
@@ -85,9 +87,9 @@ def breaks(question: Question, verdict: Verdict) -> bool:
     return Observer(question.observer()).first(verdict.recording) == verdict.sample
 
 
-def wishes_of(given: Namespace, question: Question) -> Wishes:
+def wishes_for(given: Namespace, question: Question) -> Wishes:
     recordings = tuple(recording_in(name, question) for name in given.recordings)
-    return Wishes(given.length, given.steps, recordings=recordings)
+    return Wishes(given.length or LENGTH, given.steps, recordings=recordings)
 
 
 def recording_in(name: str, question: Question) -> Recording:
@@ -128,9 +130,8 @@ def differ_main() -> None:
         raise Refused("the two networks have other types: " + " and ".join(" -> ".join(map(shown, pair)) for pair in types))
     assuming, pace = assumed(given.assume, source.given), pace_of(given)
     question = Question(source.given, (source.net, target.net), ALIKE, assuming, pace=pace)
-    wishes = Wishes(steps=[pace.step] if pace.step else None, most_step=pace.most or 2**63 - 1, lists=pace.lists)
-    certify = {"certify": certifying(source.name, target.name)}
-    verdict = searched("differ", question, limits_of(given), certify, given.seed, wishes, True)
+    ways = {"certify": certifying(source.name, target.name), "long": in_long_recordings(wishes_of(pace))}
+    verdict = searched("differ", question, limits_of(given), ways, given.seed, wishes_of(pace), True)
     sys.exit(told_of_two(verdict, question, source, target, given))
 
 

@@ -8,6 +8,7 @@ from model.trees import GREATEST, is_form, shown
 LIMITS = [GREATEST, -GREATEST - 1, GREATEST - 1, 2**32, 2**31, 2**62]
 LONG_STEPS = [10, 60, 100, 1000, 4096, 2**31, 2**62, GREATEST]
 STICKY = [0.0, 0.3, 0.6, 0.9, 0.97]
+LENGTH = 60
 
 
 class Value(NamedTuple):
@@ -25,7 +26,7 @@ class Wishes:
     """What recordings are asked for: how long they are at most, which steps they have, how many elements a list has, and recordings
     of which those that are made are variations."""
 
-    length: int = 60
+    length: int = LENGTH
     steps: Optional[list[int]] = None
     most_step: int = GREATEST
     lists: int = 5

@@ -1,9 +1,10 @@
 """What comes of a question: the ways race, the program confirms a recording, and the recording is made short."""
+import contextlib
 import os
 import random
 import time
-from dataclasses import dataclass, field
-from typing import Any, Callable, Optional
+from dataclasses import dataclass, field, replace
+from typing import Any, Callable, Iterator, Optional
 
 from model.texts import read_stream
 from model.trees import GREATEST
@@ -16,6 +17,9 @@ from workbench.proving.told import Hindered, Holds, Search, Searched, Tried, Unf
 from workbench.streams import Recording, Streams, Wishes, stream_text
 
 SHORTENING, CERTIFYING, BATCH, CONTRADICTING = 8.0, 10.0, 4_000, 100
+EARLY = 64
+# The ways that decide most questions, and soon.
+FIRST = ("narrow", "induction", "spacer", "certify")
 Way = Callable[[Search], None]
 
 
@@ -78,6 +82,11 @@ def allowed(pace: Pace, wishes: Optional[Wishes] = None) -> Callable[[Recording]
     return holds
 
 
+def wishes_of(pace: Pace) -> Wishes:
+    """Random recordings of this pace."""
+    return Wishes(steps=[pace.step] if pace.step else None, most_step=pace.most or GREATEST, lists=pace.lists)
+
+
 class Decision:
     """A question that is looked at from all sides until it is decided or the time is over."""
 
@@ -99,11 +108,13 @@ class Decision:
 
     def by(self, ways: dict[str, Way]) -> Verdict:
         """What the ways lead to. One that finds a certificate says more than z3, which waits for it a while."""
+        with contextlib.suppress(Refused):
+            self.question.parts  # found here, and once for all ways
         search = Search(self.question, self.until, self.limits.depth, self.confirmed)
         running = {name: guarded(way, search) for name, way in ways.items()}
         seconds, waits = self.limits.seconds, "certify" in ways
         try:
-            for name, told in raced(running, seconds):
+            for name, told in raced(running, FIRST, seconds):
                 if isinstance(told, Holds) and name != "certify":
                     told = self.contradicted() or told
                 if isinstance(told, Wrong):
@@ -121,9 +132,7 @@ class Decision:
 
     def contradicted(self) -> Optional[Wrong]:
         """A recording on which the program outputs false, of some random ones that are run where z3 says that there is none."""
-        pace = self.question.pace
-        wishes = Wishes(steps=[pace.step] if pace.step else None, most_step=pace.most or GREATEST, lists=pace.lists)
-        streams = Streams(self.question.given, self.question.numbers, random.Random(1), wishes)
+        streams = Streams(self.question.given, self.question.numbers, random.Random(1), wishes_of(self.question.pace))
         recordings = list(filter(self.allowed, (streams.recording() for _ in range(CONTRADICTING))))
         found = zip(recordings, self.observer.firsts(recordings))
         return next((Wrong(stream_text(recording[:first])) for recording, first in found if first is not None), None)
@@ -162,23 +171,42 @@ def guarded(way: Way, search: Search) -> Callable:
 # ---- ways that need no z3
 
 
+def tried_at_random(search: Search, seed: str, numbers: list[int], wishes: Wishes) -> Iterator[Recording]:
+    """Random recordings on which it is false, up to there; many are tried in each run of the program."""
+    observer = Observer(search.question.observer())
+    streams = Streams(search.question.given, numbers, random.Random(seed), wishes)
+    fits, tried, size = allowed(search.question.pace, wishes), 0, BATCH // 16
+    while search.left() > 0:
+        batch: list[Recording] = []
+        while sum(map(len, batch)) < size:
+            batch.append(streams.recording())
+        batch = [recording for recording in batch if fits(recording)]
+        for recording, first in zip(batch, observer.firsts(batch)):
+            if first is not None:
+                yield recording[:first]
+        tried, size = tried + len(batch), min(2 * size, BATCH)
+        search.tell(Tried(tried))
+
+
 def at_random(seed: str, numbers: list[int], wishes: Wishes) -> Way:
-    """Random recordings, many in each run of the program."""
+    def way(search: Search) -> None:
+        for recording in tried_at_random(search, seed, numbers, wishes):
+            search.tell(Wrong(stream_text(recording)))
+
+    return way
+
+
+def in_long_recordings(wishes: Wishes) -> Way:
+    """Random recordings of as many samples as are searched. Those that are false early are left to z3 at first, which finds the
+    shortest; for that it has as long again as a late one took."""
 
     def way(search: Search) -> None:
-        observer = Observer(search.question.observer())
-        streams = Streams(search.question.given, numbers, random.Random(seed), wishes)
-        fits, tried, size = allowed(search.question.pace, wishes), 0, BATCH // 16
-        while search.left() > 0:
-            batch: list[Recording] = []
-            while sum(map(len, batch)) < size:
-                batch.append(streams.recording())
-            batch = [recording for recording in batch if fits(recording)]
-            for recording, first in zip(batch, observer.firsts(batch)):
-                if first is not None:
-                    search.tell(Wrong(stream_text(recording[:first])))
-            tried, size = tried + len(batch), min(2 * size, BATCH)
-            search.tell(Tried(tried))
+        begun, half = time.monotonic(), search.left() / 2
+        for recording in tried_at_random(search, "long", search.question.numbers, replace(wishes, length=search.depth)):
+            taken = time.monotonic() - begun
+            if len(recording) > EARLY or taken > half:
+                time.sleep(min(taken, half))
+                search.tell(Wrong(stream_text(recording)))
 
     return way
 

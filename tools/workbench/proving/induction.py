@@ -26,28 +26,22 @@ class Candidate:
 
 def is_inductive(system: System, depth: int, invariants: list[Candidate], until: float) -> bool:
     """Whether the goal holds at a sample where it held at so many before, all from a state with these invariants."""
-    state, bounds = system.unknown("state")
     solver = solver_of(system.terms, until)
-    for number in range(depth + 1):
-        step, sample, more = system.sample(f"step{number}", False)
-        held = [candidate.of(system.leaves(state)) for candidate in invariants]
-        frame = system.step(state, step, sample)
-        for leaf in [*bounds, *more, *held, frame.passed if number < depth else frame.wrong]:
+    for number, link in enumerate(system.chain(depth + 1)):
+        held = [candidate.of(link.before) for candidate in invariants]
+        for leaf in [*link.given, *held, link.frame.passed if number < depth else link.frame.wrong]:
             solver.add(formula(leaf))
-        state, bounds = frame.state, []
     return not satisfied(solver)
 
 
 def kept(system: System, candidates: list[Candidate], until: float) -> list[Candidate]:
     """Those of the candidates that hold behind the first sample, and behind each sample where all of them held before, if all is well
     at the sample."""
-    step, sample, bounds = system.sample("first", True)
-    frame = system.step(system.start, step, sample)
-    found = pruned(system, candidates, [*bounds, frame.passed], None, system.leaves(frame.state), until)
-    state, lengths = system.unknown("state")
-    step, sample, bounds = system.sample("next", False)
-    frame = system.step(state, step, sample)
-    return pruned(system, found, [*lengths, *bounds, frame.passed], system.leaves(state), system.leaves(frame.state), until)
+    if not candidates:
+        return []
+    first, (next_,) = system.beginning, system.chain(1)
+    found = pruned(system, candidates, [*first.given, first.frame.passed], None, system.leaves(first.frame.state), until)
+    return pruned(system, found, [*next_.given, next_.frame.passed], next_.before, system.leaves(next_.frame.state), until)
 
 
 def pruned(system: System, candidates: list, given: list, before: Optional[list], after: list, until: float) -> list:

@@ -12,8 +12,9 @@ from workbench.proving.values import encoded
 from workbench.streams import Streams, Wishes
 
 RUNS, LENGTH, ROWS, SEED = 40, 100, 1_500, 7
-STEPS = 400_000
-GROUP, FEW, MODES, MOST, RAISED = 40, 12, 20, 2_000, 12
+# How many steps its parts take for the states from which equal leaves are guessed, and for those from which all is.
+FEW_STEPS, STEPS = 40_000, 400_000
+FEW, MODES, MOST, RAISED = 12, 20, 2_000, 12
 
 
 @dataclass(frozen=True)
@@ -26,29 +27,41 @@ class Bound(Candidate):
         return self.raise_(after, value)
 
 
-def simulated(system: System) -> list[tuple]:
-    """The leaves of states behind samples of random recordings, each state once, until their parts have taken so many steps; a sample
-    that isn't fair is tried with a step of 1."""
-    question, pace = system.question, system.pace
-    wishes = Wishes(LENGTH, [pace.step] if pace.step else None, pace.most or 2**63 - 1, pace.lists)
-    streams = Streams(question.given, question.numbers, random.Random(SEED), wishes)
-    rows: dict[tuple, None] = {}
-    taken = 0
-    for _ in range(RUNS):
-        state = system.start
-        for number, (step, value) in enumerate(streams.recording()):
-            sample = encoded(value.value, question.given)
-            steps = [0] if number == 0 else [step, 1] if system.timed and not pace.step else [pace.step or 1]
-            frames = (system.step(state, step, sample) for step in steps)
-            frame = next((frame for frame in frames if frame.fair is True and frame.inside is True), None)
-            if frame is None:
-                break
-            state = frame.state
-            rows[tuple(system.leaves(state))] = None
-            taken += system.terms.steps
-        if len(rows) > ROWS or taken > STEPS:
-            break
-    return list(rows)
+class States:
+    """The leaves of states behind samples of random recordings, each state once; more are simulated as they are asked for."""
+
+    def __init__(self, system: System):
+        self.system, self.taken = system, 0
+        self.rows: dict[tuple, None] = {}
+        self.more = self.simulated()
+
+    def by(self, steps: int) -> list[tuple]:
+        """Those that are seen until the parts have taken so many steps, but not many more than ROWS."""
+        while self.taken < steps and len(self.rows) < ROWS and (row := next(self.more, None)):
+            self.rows[row] = None
+        return list(self.rows)
+
+    def simulated(self) -> Iterator[tuple]:
+        system, pace = self.system, self.system.pace
+        wishes = Wishes(LENGTH, [pace.step] if pace.step else None, pace.most or 2**63 - 1, pace.lists)
+        streams = Streams(system.question.given, system.question.numbers, random.Random(SEED), wishes)
+        for _ in range(RUNS):
+            state = system.start
+            for number, (step, value) in enumerate(streams.recording()):
+                state = self.behind(state, step if number else 0, encoded(value.value, system.question.given))
+                if state is None:
+                    break
+                yield tuple(system.leaves(state))
+
+    def behind(self, state: Any, step: int, sample: Any) -> Optional[Any]:
+        """The state behind a sample, or None where it isn't fair; it is tried with a step of 1 too."""
+        system, pace = self.system, self.system.pace
+        for length in [step, 1] if step and system.timed and not pace.step else [step and (pace.step or 1)]:
+            frame = system.step(state, length, sample)
+            self.taken += system.terms.steps
+            if frame.fair is True and frame.inside is True:
+                return frame.state
+        return None
 
 
 class Templates:
@@ -64,27 +77,9 @@ class Templates:
         self.rows = range(len(rows))
         self.distances: dict = {}
         self.farthest: dict = {}
-        groups: dict = {}
-        for place, column in enumerate(self.columns):
-            groups.setdefault((self.truths[place], column), []).append(place)
-        self.groups = list(groups.values())
         varied = [place for place in range(len(self.truths)) if place not in system.learned and len(set(self.columns[place])) > 1]
         self.ints = [place for place in varied if not self.truths[place]]
         self.bools = [place for place in varied if self.truths[place]]
-
-    def equal_leaves(self) -> list[Candidate]:
-        """All pairs that were always equal, of many the first with each other one; and what was always the same."""
-        found = []
-        for group in self.groups:
-            pairs = combinations(group, 2) if len(group) <= GROUP else ((group[0], other) for other in group[1:])
-            for one, other in pairs:
-                told = f"{self.names[one]} = {self.names[other]}"
-                found.append(Candidate(told, lambda s, i=one, j=other: self.terms.equal(s[i], s[j]), (one, other)))
-        for place, column in enumerate(self.columns):
-            if len(set(column)) == 1:
-                told = f"{self.names[place]} = {said(column[0])}"
-                found.append(Candidate(told, lambda s, i=place, c=column[0]: self.terms.equal(s[i], c), (place, column[0]), True))
-        return found
 
     def plain(self) -> list[Candidate]:
         """Bounds and differences."""

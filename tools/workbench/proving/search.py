@@ -4,26 +4,27 @@ from typing import Callable, Optional, Sequence
 
 import z3
 
+from workbench.proving.alike import equal_leaves
 from workbench.proving.bounded import Unknown, Unrolling, depths, fair_samples
 from workbench.proving.induction import Candidate, is_inductive, kept
 from workbench.proving.integers import Horn
-from workbench.proving.mining import Templates, simulated
+from workbench.proving.mining import FEW_STEPS, STEPS, States, Templates
 from workbench.proving.question import Pace
 from workbench.proving.system import System
 from workbench.proving.terms import Terms
 from workbench.proving.told import Holds, Search, Searched, Unfair, Wrong
 
-SPARE_BITS, LATER, FIRST_SAMPLES = 4, 2**40, 6
+SPARE_BITS, LATER, SHALLOW, FIRST_SAMPLES = 4, 2**40, 8, 6
 WITHIN = " over integers, of which none leaves 64 bits"
 
 
 # ---- a recording on which it is false
 
 
-def looked_into(search: Search, system: System, until: float, told: str) -> Optional[bytes]:
+def looked_into(search: Search, system: System, until: float, told: str, most: Optional[int] = None) -> Optional[bytes]:
     """A recording from the first sample on, ever longer; what was searched is told."""
     unrolling, clear = Unrolling(system), 0
-    for depth in depths(search.depth):
+    for depth in depths(min(most or search.depth, search.depth)):
         try:
             found = unrolling.search(clear, depth, until)
         except Unknown:
@@ -47,15 +48,16 @@ def told_steps(search: Search, pace: Pace) -> str:
 
 
 def by_narrow_numbers(search: Search) -> None:
-    """Numbers of few bits are searched faster; the program tells whether what is found holds of 64."""
+    """Numbers of few bits are searched faster; the program tells whether what is found holds of 64. A few samples of any steps come
+    before many with steps of one."""
     numbers = [abs(number) for number in search.question.numbers if abs(number) < LATER]
     width = max([8, *[number.bit_length() for number in numbers]]) + SPARE_BITS
-    for bits in (width, 2 * width):
-        for pace in paces(search):
-            system = System(search.question, Terms(min(bits, 64)), pace)
-            found = looked_into(search, system, search.by(0.4), f" with numbers of {min(bits, 64)} bits{told_steps(search, pace)}")
-            if seen(search, found):
-                return
+    plans = [(width, search.question.pace, 0.1, SHALLOW)] if len(paces(search)) == 2 else []
+    plans += [(min(bits, 64), pace, 0.4, None) for bits in (width, 2 * width) for pace in paces(search)]
+    for bits, pace, share, most in plans:
+        told = f" with numbers of {bits} bits{told_steps(search, pace)}"
+        if seen(search, looked_into(search, System(search.question, Terms(bits), pace), search.by(share), told, most)):
+            return
 
 
 def by_all_bits(search: Search) -> None:
@@ -71,13 +73,12 @@ def by_all_bits(search: Search) -> None:
 
 def by_induction(search: Search) -> None:
     """Over numbers that wrap, first with products of unknown numbers as a function of which nothing is known."""
-    system = System(search.question, Terms())
+    states = States(System(search.question, Terms()))
     if not keeps_to_it(search):
         return
-    rows = simulated(system)
     for named, share in ((True, 0.6), (False, 1.0)):
         terms = Terms(named=named)
-        if proved(search, System(search.question, terms), rows, search.by(share)) or not terms.uses_function:
+        if proved(search, System(search.question, terms), states, search.by(share)) or not terms.uses_function:
             return
 
 
@@ -86,7 +87,7 @@ def by_integers(search: Search) -> None:
     system = System(search.question, Terms(None))
     if not keeps_to_it(search):
         return
-    if not proved(search, System(search.question, Terms(None)), simulated(system), search.by(0.6)):
+    if not proved(search, System(search.question, Terms(None)), States(system), search.by(0.6)):
         seen(search, looked_into(search, system, search.until, " where no number leaves 64 bits"))
 
 
@@ -97,7 +98,7 @@ def by_spacer(search: Search) -> None:
         return
     horn = Horn(system, search.until)
     found = horn.invariant() if horn.holds() else None
-    if not found or not proved(search, system, simulated(system), search.until, [found], "Spacer"):
+    if not found or not proved(search, system, States(system), search.until, [found], "Spacer"):
         search.tell(Searched("spacer", "Spacer finds none"))
 
 
@@ -114,19 +115,19 @@ def keeps_to_it(search: Search) -> bool:
     return count > 0
 
 
-def proved(search: Search, system: System, rows: list, until: float, given: Sequence[Candidate] = (), way: str = "") -> bool:
+def proved(search: Search, system: System, states: States, until: float, given: Sequence[Candidate] = (), way: str = "") -> bool:
     """Tries induction from any state: with what is given, with equal leaves, with bounds and differences, with all that is guessed. What is proved is told."""
     try:
         found = kept(system, [*given], until)
         if by_depths(search, system, (0, 1), found, min(until, search.by(0.1)), way):
             return True
-        equal = kept(system, found + Templates(system, rows).equal_leaves(), until)
+        equal = found + equal_leaves(system, states.by(FEW_STEPS), found, until)
         for candidate in equal:
             if candidate.equal:
                 system.learn(candidate.equal, candidate.fixed)
         if len(equal) > len(found) and by_depths(search, system, (0, 1), equal, until, way):
             return True
-        templates = Templates(system, rows)
+        templates = Templates(system, states.by(STEPS))
         plain, others = templates.plain(), templates.in_modes()
         bounded = kept(system, equal + plain, until)
         if len(bounded) > len(equal) and by_depths(search, system, (0, 1), bounded, until, way):

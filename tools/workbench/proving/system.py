@@ -38,6 +38,15 @@ class Frame:
         return either(self.doubtful, both(both(self.fair, self.known), negation(both(self.good, self.inside))))
 
 
+@dataclass
+class Link:
+    """A sample: the leaves of the state before it, what holds of it, and what it leads to."""
+
+    before: list[Leaf]
+    given: list[Leaf]
+    frame: Frame
+
+
 class System:
     """The networks of a question side by side: a state, and a step that is Python's or z3's."""
 
@@ -49,6 +58,7 @@ class System:
         self.start = self.started(self.env)
         self.begun = all_of(terms.ranges)
         self.learned: dict[int, tuple] = {}
+        self.links: list[Link] = []
 
     def started(self, env: Environment) -> Tree:
         return ("state", *[machine.start(env) for machine in self.machines], 0)
@@ -88,13 +98,21 @@ class System:
 
     def names(self) -> list[str]:
         """What each leaf of the state is."""
-        found = [name for machine, state in zip(self.machines, self.shape[1:]) for name in leaf_names(machine, state)]
+        parts = zip(self.owners(), self.machines, self.shape[1:])
+        found = [owner + name for owner, machine, state in parts for name in leaf_names(machine, state)]
         return [*found, "the sum of all steps" if self.timed else "the number of samples before"]
+
+    def owners(self) -> list[str]:
+        """What each machine is for, in a word; a network that is alone has none."""
+        question = self.question
+        nets = [""] if len(question.nets) == 1 else ["source ", "target "]
+        return [*nets, "goal ", *["invariant "] * len(question.lemmas), *["assumed "] * len(question.assumed)]
 
     def learn(self, equal: tuple, fixed: bool) -> None:
         """Takes in that a leaf is always equal to one before it, or to a fixed value; so it is in an unknown state from now on."""
         place, other = equal if fixed else (max(equal), min(equal))
         self.learned.setdefault(place, (None, other) if fixed else (other, None))
+        self.links.clear()
 
     # ---- unknowns
 
@@ -140,6 +158,20 @@ class System:
         return ("list", length, tuple(self.unknown_value(type_[1], f"{name}.{at}", bounds) for at in range(self.pace.lists)))
 
     # ---- the step
+
+    @cached_property
+    def beginning(self) -> Link:
+        """The first sample."""
+        step, sample, given = self.sample("first", True)
+        return Link(self.leaves(self.start), given, self.step(self.start, step, sample))
+
+    def chain(self, count: int) -> list[Link]:
+        """So many samples from any state on."""
+        while len(self.links) < count:
+            state, lengths = (self.links[-1].frame.state, []) if self.links else self.unknown("state")
+            step, sample, given = self.sample(f"step{len(self.links)}", False)
+            self.links.append(Link(self.leaves(state), [*lengths, *given], self.step(state, step, sample)))
+        return self.links[:count]
 
     def step(self, state: Tree, step: Leaf, sample: Tree) -> Frame:
         self.terms.steps, self.terms.facts = 0, []

@@ -57,8 +57,8 @@ def with_assumptions(words: ArgumentParser) -> None:
 def with_paces(words: ArgumentParser, total: Optional[int] = TOTAL) -> None:
     words.add_argument("--step", type=whole(1), metavar="N", help="all steps are N")
     words.add_argument("--most-step", type=whole(1), metavar="N", help="steps are at most N")
-    told = "; 2^62 by default" if total else ""
-    words.add_argument("--total", type=whole(1), default=total, metavar="N", help=f"all steps together are at most N{told}")
+    told = "; 2^62 by default, and from 2^63 on clocks wrap" if total else ""
+    words.add_argument("--total", type=whole(1, 2**64), default=total, metavar="N", help=f"all steps together are at most N{told}")
     words.add_argument("--lists", type=whole(0, 64), default=4, metavar="N", help="lists have at most N elements; 4 by default")
 
 
@@ -69,7 +69,8 @@ def with_limits(words: ArgumentParser, wait: float) -> None:
 
 
 def pace_of(words: Namespace) -> Pace:
-    return Pace(words.step, words.most_step, words.total, words.lists)
+    total = words.total if words.total and words.total <= GREATEST else None
+    return Pace(words.step, words.most_step, total, words.lists)
 
 
 def limits_of(words: Namespace) -> Limits:
