@@ -18,6 +18,8 @@ DEAR = bool(os.environ.get("DEAR"))
 COUNTED = "yampa 1\ninput (Event Unit)\n(>>> (accumHoldBy (add (fst x) 1) 0) (arr (less x {})))"
 FORGETS = ("(goes 4 pushed)", "(goes 4 false)")
 HASTY, SHORT = ("(lasted 3)", "(lasted 2)"), ("(lasted 10)", "(lasted 9)")
+# A hint, without which it isn't known that who asks walks soon.
+PACED = ("guarantee soon", (HERE / "junction.paced").read_text() + "guarantee soon")
 SANE = ["--assume", str(HERE / "sane.source")]
 HOLDS, FALSE = "holds", "false"
 
@@ -47,7 +49,7 @@ DEAR_GOALS = [
     ("junction", HASTY, [], {"fair": HOLDS}),
     ("junction", SHORT, [], {"fair": HOLDS}),
     ("junction", FORGETS, ["--step", "1"], {"soon": FALSE}),
-    ("junction", None, ["--step", "1"], {"soon": HOLDS}),
+    ("junction", PACED, ["--step", "1"], {"soon": HOLDS}),
     ("cruise", None, SANE, {"throttled": HOLDS}),
 ]
 SAMPLES = NUMBERS + "(>>> (loopPre 0 (arr (then (add (snd x) 1) (pair x x)))) (arr (less x 1000)))"
@@ -95,7 +97,7 @@ def goals_are_decided():
         for goal, answer in goals.items():
             row = HOLDS if answer == HOLDS else rf"false .* at sample {answer if answer != FALSE else '[0-9]+'}:"
             found = re.search(rf"^(.*?) +{goal} .*$", output, re.M)
-            want(f"{goal} of {name} {change or ''} {words[:2]}", found and re.match(row, found.group()), output + error)
+            want(f"{goal} of {name} {change[1][:60] if change else ''} {words[:2]}", found and re.match(row, found.group()), output + error)
 
 
 def counts_are_found():
