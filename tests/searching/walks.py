@@ -8,8 +8,9 @@ from pathlib import Path
 from searching.calls import TIMES
 
 TOP = Path(__file__).resolve().parent.parent.parent
-# Of all walks so many are to be found, by at most `TIMES` as many steps as they have.
-FOUND = 0.95
+# Of all walks so many are to be found, and so many by at most `TIMES` as many steps as they have.
+FOUND = 0.98
+SHORT = 0.3
 
 
 def walks():
@@ -37,13 +38,16 @@ def walk_found(caller, name, steps):
 
 def all_walks(caller, only):
     """What is wrong with the walks whose example has the word in its name, and how many were found."""
-    faults, good, count = [], 0, 0
+    faults, found, short, count = [], 0, 0, 0
     for number, (name, steps) in enumerate(walks()):
         if only in name:
-            found, fault = walk_found(caller, name, steps)
+            length, fault = walk_found(caller, name, steps)
             faults += [f"walk {number}, {name}: {fault}"] if fault else []
-            good += found is not None and found <= TIMES * len(steps)
+            found += length is not None
+            short += length is not None and length <= TIMES * len(steps)
             count += 1
-    if good < FOUND * count:
-        faults.append(f"fewer than {FOUND:.0%}")
-    return faults, f"{good} of {count} found with at most {TIMES} times the steps"
+    if found < FOUND * count:
+        faults.append(f"fewer than {FOUND:.0%} found")
+    if not only and short < SHORT * count:
+        faults.append(f"fewer than {SHORT:.0%} with at most {TIMES} times the steps")
+    return faults, f"{found} of {count} found, {short} with at most {TIMES} times the steps"
