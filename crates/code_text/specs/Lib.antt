@@ -1,0 +1,4 @@
+-- C as text, a file a line.
+pub mod Piece
+pub mod PieceView
+pub mod LeafText
