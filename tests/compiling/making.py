@@ -14,7 +14,7 @@ COMPILERS = {
     "clang++": ["clang++", "-x", "c++", "-std=c++11", "-O1", *STRICT],
 }
 SANITIZED = ["gcc", "-std=c99", "-O1", "-g", *STRICT, "-fsanitize=undefined,address", "-fno-sanitize-recover=all"]
-SECONDS = 60
+SECONDS = 300
 
 
 class Differs(Exception):
