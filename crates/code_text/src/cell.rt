@@ -1,63 +1,18 @@
 // The C of cells.
 
+ghost use Rattle.std.specs.Prelude.{◌≡◌, ◌++◌, IfOk, string_bytes};
+ghost use Rattle.code_text.specs.{Piece.pieces_text, PieceView.piece_of};
+ghost use Rattle.code_text.specs.CellText.{after_rows, declared_in, delay_rows, hold_rows, i_pre_rows, integral_rows, repeatedly_rows, time_rows};
+
+use crate::declared::Declared;
 use crate::piece::{Piece, push};
-use crate::row::{Declared, push_zeros};
-use crate::scope::Caller;
-use cell_core::Form;
 use sample_core::Memory;
 
-/// The lines that declare a value as the answer of a cell, which begins as the first register, at the second.
-pub(crate) fn push_cell(
-    text: &mut String,
-    caller: Caller<'_>,
-    declared: Declared<'_>,
-    form: Form,
-    at: (usize, usize),
-) -> Result<(), Memory> {
-    let prefix = caller.named.prefix;
-    let (c, x) = (Piece::Reg(at.0), Piece::Reg(at.1));
-    match form {
-        Form::IPre => {
-            push_declared(text, prefix, declared)?;
-            push(
-                text,
-                prefix,
-                &[
-                    Piece::Text("(dt == 0) ? "),
-                    c,
-                    Piece::Text(" : s->value;\n"),
-                    Piece::Text(declared.indent),
-                    Piece::Text("s->value = "),
-                    x,
-                    Piece::Text(";\n"),
-                ],
-            )
-        }
-        Form::Hold => push_hold(text, prefix, declared, c, x),
-        Form::After(q) => push_after(text, prefix, declared, q, c),
-        Form::Repeatedly(q) => push_repeatedly(text, prefix, declared, q, c),
-        Form::Time => {
-            push(
-                text,
-                prefix,
-                &[
-                    Piece::Text(declared.indent),
-                    Piece::Text("s->time = (dt == 0) ? 0 : "),
-                    Piece::Name,
-                    Piece::Text("_add(s->time, dt);\n"),
-                ],
-            )?;
-            push_declared(text, prefix, declared)?;
-            push(text, prefix, &[Piece::Text("s->time;\n")])
-        }
-        Form::Integral => push_integral(text, prefix, declared, x),
-        Form::Delay(q) => push_delay(text, prefix, declared, q, (c, x)),
-        Form::AccumBy => Ok(()),
-    }
-}
-
-/// The beginning of a declaration.
-fn push_declared(text: &mut String, prefix: &str, declared: Declared<'_>) -> Result<(), Memory> {
+/// `iPre`.
+pub(crate) fn push_i_pre<'a>(text: &mut String, prefix: &str, declared: Declared<'a>, c: Piece<'a>, x: Piece<'a>) -> Result<(), Memory>
+    ensures { IfOk result (λ _. string_bytes text.new ≡ string_bytes text.old
+        ++ pieces_text prefix.now (i_pre_rows (declared_in declared.entry) (piece_of c.entry) (piece_of x.entry))) }
+{
     push(
         text,
         prefix,
@@ -68,113 +23,155 @@ fn push_declared(text: &mut String, prefix: &str, declared: Declared<'_>) -> Res
             Piece::Text(" "),
             declared.name,
             Piece::Text(" = "),
+            Piece::Text("(dt == 0) ? "),
+            c,
+            Piece::Text(" : s->value;\n"),
+            Piece::Text(declared.indent),
+            Piece::Text("s->value = "),
+            x,
+            Piece::Text(";\n"),
         ],
-    )
+    )?;
+    Ok(())
 }
 
 /// `hold`.
-fn push_hold(
-    text: &mut String,
-    prefix: &str,
-    declared: Declared<'_>,
-    c: Piece<'_>,
-    x: Piece<'_>,
-) -> Result<(), Memory> {
-    let indent = Piece::Text(declared.indent);
+pub(crate) fn push_hold<'a>(text: &mut String, prefix: &str, declared: Declared<'a>, c: Piece<'a>, x: Piece<'a>) -> Result<(), Memory>
+    ensures { IfOk result (λ _. string_bytes text.new ≡ string_bytes text.old
+        ++ pieces_text prefix.now (hold_rows (declared_in declared.entry) (piece_of c.entry) (piece_of x.entry))) }
+{
     push(
         text,
         prefix,
         &[
-            indent,
+            Piece::Text(declared.indent),
             Piece::Text("if (dt == 0) { s->value = "),
             c,
             Piece::Text("; }\n"),
-            indent,
+            Piece::Text(declared.indent),
             Piece::Text("if ("),
             x,
             Piece::Text(".is) { s->value = "),
             x,
             Piece::Text(".v; }\n"),
+            Piece::Text(declared.indent),
+            Piece::Text("const "),
+            Piece::Type(declared.ty),
+            Piece::Text(" "),
+            declared.name,
+            Piece::Text(" = "),
+            Piece::Text("s->value;\n"),
         ],
     )?;
-    push_declared(text, prefix, declared)?;
-    push(text, prefix, &[Piece::Text("s->value;\n")])
+    Ok(())
 }
 
 /// `after`.
-fn push_after(
-    text: &mut String,
-    prefix: &str,
-    declared: Declared<'_>,
-    q: u64,
-    c: Piece<'_>,
-) -> Result<(), Memory> {
-    let indent = Piece::Text(declared.indent);
-    push_zeros(text, prefix, declared)?;
+pub(crate) fn push_after<'a>(text: &mut String, prefix: &str, declared: Declared<'a>, q: usize, c: Piece<'a>) -> Result<(), Memory>
+    ensures { IfOk result (λ _. string_bytes text.new ≡ string_bytes text.old
+        ++ pieces_text prefix.now (after_rows (declared_in declared.entry) q (piece_of c.entry))) }
+{
     push(
         text,
         prefix,
         &[
-            indent,
+            Piece::Text(declared.indent),
+            Piece::Type(declared.ty),
+            Piece::Text(" "),
+            declared.name,
+            Piece::Text("; memset(&"),
+            declared.name,
+            Piece::Text(", 0, sizeof "),
+            declared.name,
+            Piece::Text(");\n"),
+            Piece::Text(declared.indent),
             Piece::Text("if (dt == 0) { s->over = false; s->left = INT64_C("),
-            Piece::Number(q as usize),
+            Piece::Number(q),
             Piece::Text("); s->value = "),
             c,
             Piece::Text("; } else if (!s->over) { s->left -= dt; }\n"),
-            indent,
+            Piece::Text(declared.indent),
             Piece::Text("if (!s->over && (s->left <= 0)) { s->over = true; "),
             declared.name,
             Piece::Text(".is = true; "),
             declared.name,
             Piece::Text(".v = s->value; }\n"),
         ],
-    )
+    )?;
+    Ok(())
 }
 
 /// `repeatedly`.
-fn push_repeatedly(
-    text: &mut String,
-    prefix: &str,
-    declared: Declared<'_>,
-    q: u64,
-    c: Piece<'_>,
-) -> Result<(), Memory> {
-    let indent = Piece::Text(declared.indent);
-    let span = Piece::Number(q as usize);
-    push_zeros(text, prefix, declared)?;
+pub(crate) fn push_repeatedly<'a>(text: &mut String, prefix: &str, declared: Declared<'a>, q: usize, c: Piece<'a>) -> Result<(), Memory>
+    ensures { IfOk result (λ _. string_bytes text.new ≡ string_bytes text.old
+        ++ pieces_text prefix.now (repeatedly_rows (declared_in declared.entry) q (piece_of c.entry))) }
+{
     push(
         text,
         prefix,
         &[
-            indent,
+            Piece::Text(declared.indent),
+            Piece::Type(declared.ty),
+            Piece::Text(" "),
+            declared.name,
+            Piece::Text("; memset(&"),
+            declared.name,
+            Piece::Text(", 0, sizeof "),
+            declared.name,
+            Piece::Text(");\n"),
+            Piece::Text(declared.indent),
             Piece::Text("if (dt == 0) { s->left = INT64_C("),
-            span,
+            Piece::Number(q),
             Piece::Text("); s->value = "),
             c,
             Piece::Text("; }\n"),
-            indent,
+            Piece::Text(declared.indent),
             Piece::Text("else if (s->left <= dt) { s->left = INT64_C("),
-            span,
+            Piece::Number(q),
             Piece::Text(") - (dt - s->left) % INT64_C("),
-            span,
+            Piece::Number(q),
             Piece::Text("); "),
             declared.name,
             Piece::Text(".is = true; "),
             declared.name,
             Piece::Text(".v = s->value; }\n"),
-            indent,
+            Piece::Text(declared.indent),
             Piece::Text("else { s->left -= dt; }\n"),
         ],
-    )
+    )?;
+    Ok(())
+}
+
+/// `time`.
+pub(crate) fn push_time<'a>(text: &mut String, prefix: &str, declared: Declared<'a>) -> Result<(), Memory>
+    ensures { IfOk result (λ _. string_bytes text.new ≡ string_bytes text.old
+        ++ pieces_text prefix.now (time_rows (declared_in declared.entry))) }
+{
+    push(
+        text,
+        prefix,
+        &[
+            Piece::Text(declared.indent),
+            Piece::Text("s->time = (dt == 0) ? 0 : "),
+            Piece::Name,
+            Piece::Text("_add(s->time, dt);\n"),
+            Piece::Text(declared.indent),
+            Piece::Text("const "),
+            Piece::Type(declared.ty),
+            Piece::Text(" "),
+            declared.name,
+            Piece::Text(" = "),
+            Piece::Text("s->time;\n"),
+        ],
+    )?;
+    Ok(())
 }
 
 /// `integral`.
-fn push_integral(
-    text: &mut String,
-    prefix: &str,
-    declared: Declared<'_>,
-    x: Piece<'_>,
-) -> Result<(), Memory> {
+pub(crate) fn push_integral<'a>(text: &mut String, prefix: &str, declared: Declared<'a>, x: Piece<'a>) -> Result<(), Memory>
+    ensures { IfOk result (λ _. string_bytes text.new ≡ string_bytes text.old
+        ++ pieces_text prefix.now (integral_rows (declared_in declared.entry) (piece_of x.entry))) }
+{
     push(
         text,
         prefix,
@@ -189,48 +186,55 @@ fn push_integral(
             Piece::Text("s->before = "),
             x,
             Piece::Text(";\n"),
+            Piece::Text(declared.indent),
+            Piece::Text("const "),
+            Piece::Type(declared.ty),
+            Piece::Text(" "),
+            declared.name,
+            Piece::Text(" = "),
+            Piece::Text("s->sum;\n"),
         ],
     )?;
-    push_declared(text, prefix, declared)?;
-    push(text, prefix, &[Piece::Text("s->sum;\n")])
+    Ok(())
 }
 
 /// `delay`: a queue of the samples that are younger than q.
-fn push_delay(
-    text: &mut String,
-    prefix: &str,
-    declared: Declared<'_>,
-    q: u64,
-    at: (Piece<'_>, Piece<'_>),
-) -> Result<(), Memory> {
-    let indent = Piece::Text(declared.indent);
-    let span = Piece::Number(q as usize);
+pub(crate) fn push_delay<'a>(text: &mut String, prefix: &str, declared: Declared<'a>, q: usize, c: Piece<'a>, x: Piece<'a>) -> Result<(), Memory>
+    ensures { IfOk result (λ _. string_bytes text.new ≡ string_bytes text.old
+        ++ pieces_text prefix.now (delay_rows (declared_in declared.entry) q (piece_of c.entry) (piece_of x.entry))) }
+{
     push(
         text,
         prefix,
         &[
-            indent,
+            Piece::Text(declared.indent),
             Piece::Text("if (dt == 0) { s->now = 0; s->head = 0; s->size = 0; s->out = "),
-            at.0,
+            c,
             Piece::Text("; }\n"),
-            indent,
+            Piece::Text(declared.indent),
             Piece::Text("s->now += (uint64_t)dt;\n"),
-            indent,
+            Piece::Text(declared.indent),
             Piece::Text("while ((s->size > 0) && (s->now - s->at[s->head] >= "),
-            span,
+            Piece::Number(q),
             Piece::Text(")) { s->out = s->value[s->head]; s->head = (s->head + 1 == "),
-            span,
+            Piece::Number(q),
             Piece::Text(") ? 0 : s->head + 1; s->size--; }\n"),
-            indent,
+            Piece::Text(declared.indent),
             Piece::Text("{ const uint32_t i = (s->head + s->size >= "),
-            span,
+            Piece::Number(q),
             Piece::Text(") ? s->head + s->size - "),
-            span,
+            Piece::Number(q),
             Piece::Text(" : s->head + s->size; s->at[i] = s->now; s->value[i] = "),
-            at.1,
+            x,
             Piece::Text("; s->size++; }\n"),
+            Piece::Text(declared.indent),
+            Piece::Text("const "),
+            Piece::Type(declared.ty),
+            Piece::Text(" "),
+            declared.name,
+            Piece::Text(" = "),
+            Piece::Text("s->out;\n"),
         ],
     )?;
-    push_declared(text, prefix, declared)?;
-    push(text, prefix, &[Piece::Text("s->out;\n")])
+    Ok(())
 }

@@ -1,7 +1,8 @@
 // The C of `rpSwitchB`.
 
 use crate::piece::{Piece, push};
-use crate::row::{Declared, push_leaf_call, push_zeros};
+use crate::declared::Declared;
+use crate::row::{push_leaf_call, push_zeros};
 use crate::scope::{Call, Caller, members_of, push_call};
 use net_code::Scope;
 use sample_core::{Memory, Ty};

@@ -2,7 +2,8 @@
 
 use crate::leaf::{Leaf, push_leaf};
 use crate::piece::{Piece, push};
-use crate::row::{Declared, leaf_of, push_action, push_effect, push_guard};
+use crate::declared::Declared;
+use crate::row::{leaf_of, push_action, push_effect, push_guard};
 use crate::scope::{Caller, push_arguments, push_unused};
 use cell_core::Form;
 use leaf_code::compile_expr;

@@ -9,6 +9,7 @@
 
 mod cell;
 mod collection;
+mod declared;
 mod file;
 mod file_text;
 mod filter;

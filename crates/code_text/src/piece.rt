@@ -22,6 +22,9 @@ pub(crate) enum Piece<'a> {
     Type(&'a Ty),
     /// A type's letters.
     Letters(&'a Ty),
+    /// `Unit` in C, and its letters.
+    UnitType,
+    UnitLetters,
     /// A type as the language spells it.
     Spelt(&'a Ty),
     /// A register.
@@ -53,6 +56,8 @@ fn push_piece(text: &mut String, prefix: &str, piece: Piece<'_>) -> Result<(), M
         Piece::Signed(n) => write!(text, "{n}")?,
         Piece::Type(ty) => push_c_type(text, prefix, ty)?,
         Piece::Letters(ty) => push_letters(text, ty)?,
+        Piece::UnitType => write!(text, "uint8_t")?,
+        Piece::UnitLetters => write!(text, "u")?,
         Piece::Spelt(ty) => push_type(text, ty)?,
         Piece::Reg(0) => write!(text, "(*x)")?,
         Piece::Reg(k) => write!(text, "r{k}")?,

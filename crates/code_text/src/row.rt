@@ -1,21 +1,14 @@
 // The C of a function's rows.
 
-use crate::cell::push_cell;
+use crate::cell::{push_after, push_delay, push_hold, push_i_pre, push_integral, push_repeatedly, push_time};
 use crate::collection::push_collection;
+use crate::declared::Declared;
 use crate::piece::{Piece, push};
 use crate::scope::{Call, Caller, members_of, push_call, push_params};
+use cell_core::Form;
 use leaf_core::Expr;
 use net_code::{Action, Effect, Function, Guard, Part, Scope, When};
 use sample_core::{Memory, Ty};
-
-/// A value that a row declares: its name, its type, the row's number, and what stands before its lines.
-#[derive(Clone, Copy)]
-pub(crate) struct Declared<'a> {
-    pub(crate) name: Piece<'a>,
-    pub(crate) ty: &'a Ty,
-    pub(crate) row: usize,
-    pub(crate) indent: &'a str,
-}
 
 /// The field of a part.
 fn field_of(part: Part) -> &'static str {
@@ -86,7 +79,7 @@ fn push_value(
         Action::Left(k) => push(text, prefix, &[Piece::Reg(*k), Piece::Text(".a")]),
         Action::Right(k) | Action::Beside(k) => push(text, prefix, &[Piece::Reg(*k), Piece::Text(".b")]),
         Action::Leaf(_, k) => push_leaf_call(text, caller, declared.row, &[Piece::At(*k)]),
-        Action::Constant(_) => push_leaf_call(text, caller, declared.row, &[]),
+        Action::Constant(_) => push_leaf_call(text, caller, declared.row, &[Piece::Text("0")]),
         Action::FirstOr(j, k) => push(
             text,
             prefix,
@@ -164,22 +157,31 @@ pub(crate) fn push_leaf_call(
             Piece::Text("("),
         ],
     )?;
-    if input.is_empty() {
-        push_constant_params(text, prefix, caller.layout.params.len())?;
-    } else {
-        push(text, prefix, input)?;
-        push_params(text, prefix, caller.layout.params.len())?;
-    }
+    push(text, prefix, input)?;
+    push_params(text, prefix, caller.layout.params.len())?;
     push(text, prefix, &[Piece::Text(")")])
 }
 
-/// The parameters, with nothing before them.
-fn push_constant_params(text: &mut String, prefix: &str, count: usize) -> Result<(), Memory> {
-    for k in 0..count {
-        let between = if k == 0 { "p" } else { ", p" };
-        push(text, prefix, &[Piece::Text(between), Piece::Number(k)])?;
+/// The lines of a cell, which begins as register j, at register k.
+fn push_cell(
+    text: &mut String,
+    caller: Caller<'_>,
+    declared: Declared<'_>,
+    form: Form,
+    at: (usize, usize),
+) -> Result<(), Memory> {
+    let prefix = caller.named.prefix;
+    let (c, x) = (Piece::Reg(at.0), Piece::Reg(at.1));
+    match form {
+        Form::IPre => push_i_pre(text, prefix, declared, c, x),
+        Form::Hold => push_hold(text, prefix, declared, c, x),
+        Form::After(q) => push_after(text, prefix, declared, q as usize, c),
+        Form::Repeatedly(q) => push_repeatedly(text, prefix, declared, q as usize, c),
+        Form::Time => push_time(text, prefix, declared),
+        Form::Integral => push_integral(text, prefix, declared, x),
+        Form::Delay(q) => push_delay(text, prefix, declared, q as usize, c, x),
+        Form::AccumBy => Ok(()),
     }
-    Ok(())
 }
 
 /// A pair of registers.
