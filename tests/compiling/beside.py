@@ -7,7 +7,7 @@ from generator.breaking import Breaker
 from generator.cases import FORM_WORDS
 from generator.making import Maker
 from model.texts import ValueFault, ValueReader, network_text, read_network, step_of
-from model.trees import NEW_FORMS, expanded, is_form, preorder, shown
+from model.trees import NEW_FORMS, expanded, preorder, shown
 from model.typed import Scope, check_types, weight
 
 TOP = Path(__file__).resolve().parents[2]
