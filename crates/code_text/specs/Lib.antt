@@ -1,0 +1,6 @@
+-- C as text, a file a line.
+pub mod Piece
+pub mod PieceView
+pub mod TypeText
+pub mod LeafText
+pub mod CellText
