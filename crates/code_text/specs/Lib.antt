@@ -4,3 +4,4 @@ pub mod PieceView
 pub mod TypeText
 pub mod LeafText
 pub mod CellText
+pub mod ScopeText

@@ -1,5 +1,5 @@
 -- What the code's pieces are.
-use Rattle.std.specs.Prelude.{List, map}
+use Rattle.std.specs.Prelude.{List, [], Bool, true, false}
 use Rattle.sample_core.specs.TypeTree.{unit_ty}
 use Rattle.sample_core.specs.TypeView.{type_of}
 use Rattle.code_text.specs.Piece as S
@@ -19,3 +19,8 @@ piece_of V.UnitLetters = S.letter unit_ty
 piece_of (V.Spelt T) = S.spelt (type_of T.now)
 piece_of (V.Reg k) = S.reg k
 piece_of (V.At k) = S.at k
+
+-- these, where that holds
+abbrev pub pieces_if : Bool → List S.Piece → List S.Piece
+pieces_if true ps = ps
+pieces_if false ps = []

@@ -2,8 +2,8 @@
 
 use crate::piece::{Piece, push};
 use crate::declared::Declared;
-use crate::row::{push_leaf_call, push_zeros};
-use crate::scope::{Call, Caller, members_of, push_call};
+use crate::row::push_zeros;
+use crate::scope::{Call, Caller, members_of, push_call, push_leaf_call};
 use net_code::Scope;
 use sample_core::{Memory, Ty};
 

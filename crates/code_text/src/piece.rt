@@ -3,7 +3,7 @@
 ghost use Rattle.std.specs.Prelude.{◌≡◌, ◌++◌, IfOk, map, string_bytes};
 ghost use Rattle.sample_core.specs.{Adding.Adds, TypeView.type_of};
 ghost use Rattle.code_text.specs.Piece.{address, c_type, letters, piece_text, pieces_text, register};
-ghost use Rattle.code_text.specs.PieceView.{piece_of};
+ghost use Rattle.code_text.specs.PieceView.{piece_of, pieces_if};
 
 use sample_core::{Memory, Ty, push_type};
 
@@ -40,6 +40,17 @@ pub(crate) fn push(text: &mut String, prefix: &str, pieces: &[Piece<'_>]) -> Res
 {
     for piece in pieces {
         push_piece(text, prefix, *piece)?;
+    }
+    Ok(())
+}
+
+/// Adds pieces to the end of the text, where that holds.
+pub(crate) fn push_if(text: &mut String, prefix: &str, holds: bool, pieces: &[Piece<'_>]) -> Result<(), Memory>
+    ensures { IfOk result (λ _. string_bytes text.new
+        ≡ string_bytes text.old ++ pieces_text prefix.now (pieces_if holds (map piece_of pieces.now))) }
+{
+    if holds {
+        push(text, prefix, pieces)?;
     }
     Ok(())
 }
