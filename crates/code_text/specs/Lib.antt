@@ -5,3 +5,7 @@ pub mod TypeText
 pub mod LeafText
 pub mod CellText
 pub mod ScopeText
+pub mod CollectionText
+pub mod RowText
+pub mod KeptText
+pub mod FunctionText

@@ -1,11 +1,16 @@
 // The C of `rpSwitchB`.
 
-use crate::piece::{Piece, push};
+ghost use Rattle.std.specs.Prelude.{◌≡◌, ◌++◌, IfOk, map, string_bytes};
+ghost use Rattle.code_text.specs.{Piece.pieces_text, PieceView.piece_of};
+ghost use Rattle.code_text.specs.{CellText.declared_in, ScopeText.caller_in, ScopeText.members};
+ghost use Rattle.code_text.specs.CollectionText.{beginning_text, cases_text, choice_text, chosen_rows, collection_text, kept_type, letters_row, turn_text, turns_head, turns_text, written_text};
+
 use crate::declared::Declared;
+use crate::piece::{Piece, push};
 use crate::row::push_zeros;
 use crate::scope::{Call, Caller, members_of, push_call, push_leaf_call};
 use net_code::Scope;
-use sample_core::{Memory, Ty};
+use sample_core::Memory;
 
 /// The lines that declare a value as the answers of a collection of the members and of function t, at register k.
 pub(crate) fn push_collection(
@@ -14,20 +19,30 @@ pub(crate) fn push_collection(
     declared: Declared<'_>,
     t: usize,
     k: usize,
-) -> Result<(), Memory> {
+) -> Result<(), Memory>
+    ensures { IfOk result (λ _. string_bytes text.new ≡ string_bytes text.old
+        ++ collection_text (caller_in caller.entry) (declared_in declared.entry) declared.entry.row t k) }
+{
     push_zeros(text, caller.named.prefix, declared)?;
     push_beginning(text, caller, declared)?;
     push_choice(text, caller, declared, k)?;
-    push_turns(text, caller, declared, t, k)
+    push_turns(text, caller, declared, t, k)?;
+    Ok(())
 }
 
 /// At the first sample the written members run.
-fn push_beginning(text: &mut String, caller: Caller<'_>, declared: Declared<'_>) -> Result<(), Memory> {
-    let prefix = caller.named.prefix;
+fn push_beginning(
+    text: &mut String,
+    caller: Caller<'_>,
+    declared: Declared<'_>,
+) -> Result<(), Memory>
+    ensures { IfOk result (λ _. string_bytes text.new
+        ≡ string_bytes text.old ++ beginning_text (caller_in caller.entry) (declared_in declared.entry)) }
+{
     let count = members_of(caller.function).len();
     push(
         text,
-        prefix,
+        caller.named.prefix,
         &[
             Piece::Text(declared.indent),
             Piece::Text("if (dt == 0) { s->count = "),
@@ -35,6 +50,24 @@ fn push_beginning(text: &mut String, caller: Caller<'_>, declared: Declared<'_>)
             Piece::Text("; s->side = 0;"),
         ],
     )?;
+    push_written(text, caller.named.prefix, count)?;
+    push(
+        text,
+        caller.named.prefix,
+        &[
+            Piece::Text(" }\n"),
+            Piece::Text(declared.indent),
+            Piece::Text("uint32_t kept = s->count;\n"),
+        ],
+    )?;
+    Ok(())
+}
+
+/// The first so many members are the written ones.
+fn push_written(text: &mut String, prefix: &str, count: usize) -> Result<(), Memory>
+    ensures { IfOk result (λ _. string_bytes text.new
+        ≡ string_bytes text.old ++ written_text prefix.now count) }
+{
     for i in 0..count {
         push(
             text,
@@ -48,20 +81,7 @@ fn push_beginning(text: &mut String, caller: Caller<'_>, declared: Declared<'_>)
             ],
         )?;
     }
-    push(
-        text,
-        prefix,
-        &[
-            Piece::Text(" }\n"),
-            Piece::Text(declared.indent),
-            Piece::Text("uint32_t kept = s->count;\n"),
-        ],
-    )
-}
-
-/// The type of the choice at an event: a list of numbers and a list of values.
-fn choice_type<'a>(caller: Caller<'a>) -> Option<&'a Ty> {
-    caller.layout.kept.as_ref()
+    Ok(())
 }
 
 /// At an event members go on, and others start.
@@ -70,36 +90,61 @@ fn push_choice(
     caller: Caller<'_>,
     declared: Declared<'_>,
     k: usize,
-) -> Result<(), Memory> {
-    let prefix = caller.named.prefix;
-    let indent = Piece::Text(declared.indent);
+) -> Result<(), Memory>
+    ensures { IfOk result (λ _. string_bytes text.new ≡ string_bytes text.old
+        ++ choice_text (caller_in caller.entry) (declared_in declared.entry) declared.entry.row k) }
+{
     push(
         text,
-        prefix,
+        caller.named.prefix,
         &[
-            indent,
+            Piece::Text(declared.indent),
             Piece::Text("if ("),
             Piece::Reg(k),
             Piece::Text(".b.is) {\n"),
-            indent,
+            Piece::Text(declared.indent),
             Piece::Text("    const struct "),
             Piece::Name,
             Piece::Text("_plil"),
         ],
     )?;
-    if let Some(value) = choice_type(caller) {
-        push(text, prefix, &[Piece::Letters(value)])?;
-    }
-    push(text, prefix, &[Piece::Text(" w = ")])?;
+    push_kept_letters(text, caller)?;
+    push(text, caller.named.prefix, &[Piece::Text(" w = ")])?;
     push_leaf_call(
         text,
         caller,
         declared.row,
         &[Piece::Text("&"), Piece::Reg(k), Piece::Text(".b.v")],
     )?;
+    push_chosen(text, caller, declared)?;
+    Ok(())
+}
+
+/// The letters of the type of the values by which members are made.
+fn push_kept_letters(text: &mut String, caller: Caller<'_>) -> Result<(), Memory>
+    ensures { IfOk result (λ _. string_bytes text.new ≡ string_bytes text.old
+        ++ pieces_text caller.entry.named.prefix.now (letters_row (kept_type (caller_in caller.entry)))) }
+{
+    match caller.layout.kept {
+        Some(kept) => {
+            let ty = caller.named.ty(kept);
+            push(text, caller.named.prefix, &[Piece::Letters(ty)])?;
+        }
+        None => {}
+    }
+    Ok(())
+}
+
+/// The members that are named go on, and others start, on the other side.
+fn push_chosen(text: &mut String, caller: Caller<'_>, declared: Declared<'_>) -> Result<(), Memory>
+    ensures { IfOk result (λ _. string_bytes text.new ≡ string_bytes text.old
+        ++ pieces_text caller.entry.named.prefix.now (chosen_rows (caller_in caller.entry) (declared_in declared.entry))) }
+{
+    let indent = Piece::Text(declared.indent);
+    let count = members_of(caller.function).len();
     push(
         text,
-        prefix,
+        caller.named.prefix,
         &[
             Piece::Text(";\n"),
             indent,
@@ -119,7 +164,9 @@ fn push_choice(
             indent,
             Piece::Text("    for (uint32_t i = 0; (i < w.a.n) && (kept < 64); i++) {\n"),
             indent,
-            Piece::Text("        if ((uint64_t)w.a.e[i] < s->count) { to[kept] = was[w.a.e[i]]; kept++; }\n"),
+            Piece::Text(
+                "        if ((uint64_t)w.a.e[i] < s->count) { to[kept] = was[w.a.e[i]]; kept++; }\n",
+            ),
             indent,
             Piece::Text("    }\n"),
             indent,
@@ -128,7 +175,7 @@ fn push_choice(
             Piece::Text("    for (uint32_t i = 0; (i < w.b.n) && (all < 64); i++) {\n"),
             indent,
             Piece::Text("        to[all].origin = "),
-            Piece::Number(members_of(caller.function).len()),
+            Piece::Number(count),
             Piece::Text("; to[all].by = w.b.e[i]; all++;\n"),
             indent,
             Piece::Text("    }\n"),
@@ -139,7 +186,8 @@ fn push_choice(
             indent,
             Piece::Text("}\n"),
         ],
-    )
+    )?;
+    Ok(())
 }
 
 /// Each member's answer: of those that start now at the moment 0.
@@ -149,12 +197,46 @@ fn push_turns(
     declared: Declared<'_>,
     t: usize,
     k: usize,
-) -> Result<(), Memory> {
-    let prefix = caller.named.prefix;
+) -> Result<(), Memory>
+    ensures { IfOk result (λ _. string_bytes text.new ≡ string_bytes text.old
+        ++ turns_text (caller_in caller.entry) (declared_in declared.entry) t k) }
+{
+    let indent = Piece::Text(declared.indent);
+    push_turns_head(text, caller, declared)?;
+    push_cases(text, caller, declared, k)?;
+    push(
+        text,
+        caller.named.prefix,
+        &[indent, Piece::Text("    default: ")],
+    )?;
+    push_turn(
+        text,
+        caller,
+        declared,
+        (t, &[Piece::Text("&m->taker")]),
+        (k, Scope::Value),
+    )?;
+    push(
+        text,
+        caller.named.prefix,
+        &[indent, Piece::Text("    }\n"), indent, Piece::Text("}\n")],
+    )?;
+    Ok(())
+}
+
+/// The beginning of the loop over members.
+fn push_turns_head(
+    text: &mut String,
+    caller: Caller<'_>,
+    declared: Declared<'_>,
+) -> Result<(), Memory>
+    ensures { IfOk result (λ _. string_bytes text.new ≡ string_bytes text.old
+        ++ pieces_text caller.entry.named.prefix.now (turns_head (caller_in caller.entry) (declared_in declared.entry))) }
+{
     let indent = Piece::Text(declared.indent);
     push(
         text,
-        prefix,
+        caller.named.prefix,
         &[
             indent,
             declared.name,
@@ -173,17 +255,39 @@ fn push_turns(
             Piece::Text("    switch (m->origin) {\n"),
         ],
     )?;
+    Ok(())
+}
+
+/// The answers of the written members.
+fn push_cases(
+    text: &mut String,
+    caller: Caller<'_>,
+    declared: Declared<'_>,
+    k: usize,
+) -> Result<(), Memory>
+    ensures { IfOk result (λ _. string_bytes text.new ≡ string_bytes text.old
+        ++ cases_text (caller_in caller.entry) (declared_in declared.entry) k 0 (members (caller_in caller.entry).function)) }
+{
     for (i, member) in members_of(caller.function).iter().enumerate() {
-        push(text, prefix, &[indent, Piece::Text("    case "), Piece::Number(i), Piece::Text(": ")])?;
-        push_turn(text, caller, declared, (*member, &[Piece::Text("&m->m"), Piece::Number(i)]), (k, Scope::Same))?;
+        push(
+            text,
+            caller.named.prefix,
+            &[
+                Piece::Text(declared.indent),
+                Piece::Text("    case "),
+                Piece::Number(i),
+                Piece::Text(": "),
+            ],
+        )?;
+        push_turn(
+            text,
+            caller,
+            declared,
+            (*member, &[Piece::Text("&m->m"), Piece::Number(i)]),
+            (k, Scope::Same),
+        )?;
     }
-    push(text, prefix, &[indent, Piece::Text("    default: ")])?;
-    push_turn(text, caller, declared, (t, &[Piece::Text("&m->taker")]), (k, Scope::Value))?;
-    push(
-        text,
-        prefix,
-        &[indent, Piece::Text("    }\n"), indent, Piece::Text("}\n")],
-    )
+    Ok(())
 }
 
 /// The answer of one member: its function and its part, at the left of a register.
@@ -193,8 +297,15 @@ fn push_turn(
     declared: Declared<'_>,
     member: (usize, &[Piece<'_>]),
     at: (usize, Scope),
-) -> Result<(), Memory> {
-    push(text, caller.named.prefix, &[declared.name, Piece::Text(".e[i] = ")])?;
+) -> Result<(), Memory>
+    ensures { IfOk result (λ _. string_bytes text.new ≡ string_bytes text.old
+        ++ turn_text (caller_in caller.entry) (declared_in declared.entry) member.entry.0 (map piece_of member.entry.1.now) at.1 at.0) }
+{
+    push(
+        text,
+        caller.named.prefix,
+        &[declared.name, Piece::Text(".e[i] = ")],
+    )?;
     push_call(
         text,
         caller,
@@ -207,5 +318,6 @@ fn push_turn(
             by: "&m->by",
         },
     )?;
-    push(text, caller.named.prefix, &[Piece::Text("; break;\n")])
+    push(text, caller.named.prefix, &[Piece::Text("; break;\n")])?;
+    Ok(())
 }

@@ -1,8 +1,8 @@
 // The C of a function: its leaves, and its rows.
 
+use crate::declared::Declared;
 use crate::leaf::{Leaf, push_leaf};
 use crate::piece::{Piece, push};
-use crate::declared::Declared;
 use crate::row::{leaf_of, push_action, push_effect, push_guard};
 use crate::scope::{Caller, push_arguments, push_unused};
 use cell_core::Form;
@@ -18,10 +18,18 @@ pub(crate) fn push_comment(text: &mut String, caller: Caller<'_>) -> Result<(), 
     push(
         text,
         prefix,
-        &[Piece::Text("/* "), Piece::Text(word_of(caller.function)), Piece::Text(" at (at")],
+        &[
+            Piece::Text("/* "),
+            Piece::Text(word_of(caller.function)),
+            Piece::Text(" at (at"),
+        ],
     )?;
     for k in caller.layout.position.as_slice() {
-        push(text, prefix, &[Piece::Text(" "), Piece::Number(*k as usize)])?;
+        push(
+            text,
+            prefix,
+            &[Piece::Text(" "), Piece::Number(*k as usize)],
+        )?;
     }
     push(
         text,
@@ -74,7 +82,11 @@ fn cell_word(form: Form) -> &'static str {
 }
 
 /// A function, behind those of its leaves.
-pub(crate) fn push_function(alloc: Global, text: &mut String, caller: Caller<'_>) -> Result<(), Memory> {
+pub(crate) fn push_function(
+    alloc: Global,
+    text: &mut String,
+    caller: Caller<'_>,
+) -> Result<(), Memory> {
     let prefix = caller.named.prefix;
     let rows = caller.function.rows(alloc)?;
     push(text, prefix, &[Piece::Text("\n")])?;
@@ -204,7 +216,13 @@ fn push_leaf_of(
     match leaf_of(action) {
         Some(e) => {
             let input = leaf_input(alloc, caller, action)?;
-            push_leaf_at(alloc, text, caller, (row, matches!(action, Action::Constant(_))), (&input, e))
+            push_leaf_at(
+                alloc,
+                text,
+                caller,
+                (row, matches!(action, Action::Constant(_))),
+                (&input, e),
+            )
         }
         None => Ok(()),
     }

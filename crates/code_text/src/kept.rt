@@ -119,7 +119,12 @@ fn push_field(text: &mut String, caller: Caller<'_>, ty: &Ty, field: &str) -> Re
     push(
         text,
         caller.named.prefix,
-        &[Piece::Text("    "), Piece::Type(ty), Piece::Text(" "), Piece::Text(field)],
+        &[
+            Piece::Text("    "),
+            Piece::Type(ty),
+            Piece::Text(" "),
+            Piece::Text(field),
+        ],
     )
 }
 
@@ -225,12 +230,19 @@ fn push_cell(text: &mut String, caller: Caller<'_>, form: Form) -> Result<(), Me
         Form::Time => push_line(text, "    int64_t time;\n"),
         Form::Integral => push_line(text, "    int64_t sum;\n    int64_t before;\n"),
         Form::Delay(q) => {
-            push_line(text, "    uint64_t now;\n    uint32_t head;\n    uint32_t size;\n")?;
+            push_line(
+                text,
+                "    uint64_t now;\n    uint32_t head;\n    uint32_t size;\n",
+            )?;
             push_by(text, caller, "out;\n")?;
             push(
                 text,
                 caller.named.prefix,
-                &[Piece::Text("    uint64_t at["), Piece::Number(q as usize), Piece::Text("];\n")],
+                &[
+                    Piece::Text("    uint64_t at["),
+                    Piece::Number(q as usize),
+                    Piece::Text("];\n"),
+                ],
             )?;
             push_by(text, caller, "value[")?;
             push(
