@@ -43,12 +43,12 @@ abbrev pub moment_text : When → List ℕ
 moment_text W.Now = codes "dt"
 moment_text W.Start = codes "0"
 
--- a call of function f on a part at this input
-abbrev pub called : ℕ → List Piece → List ℕ → List Piece → Scope → Call
-called f part moment input scope = record {
+-- a call of function f on a part, at a moment and an input
+abbrev pub called : ℕ → List Piece → When → List Piece → Scope → Call
+called f part when input scope = record {
   function = f;
   part = part;
-  moment = moment;
+  moment = moment_text when;
   input = input;
   scope = scope;
   by = codes "&s->by";
@@ -87,10 +87,14 @@ input_in c (Some L) = type_at c.named L.input
 abbrev pub input_of : Caller → ℕ → TypeTree
 input_of c k = input_in c (slice_get c.named.program.layouts.items k)
 
+-- the letters of a type, and of what the event carries
+abbrev pub letters_of : Named → Option ℕ → TypeTree → List Piece
+letters_of n (Some k) (event_ty A) = letter (type_at n k) ∷ letter A ∷ []
+letters_of n k T = []
+
 -- the letters of the type that is accumulated, and of what the event carries
-abbrev pub accumulator_letters : Named → Option ℕ → TypeTree → List Piece
-accumulator_letters n (Some k) (event_ty A) = letter (type_at n k) ∷ letter A ∷ []
-accumulator_letters n k T = []
+abbrev pub accumulator_letters : Caller → List Piece
+accumulator_letters c = letters_of c.named c.layout.kept (type_at c.named c.layout.input)
 
 -- whether one of these functions keeps anything
 abbrev pub keeps_any : Named → List ℕ → Bool
@@ -103,15 +107,18 @@ keeps_watched n (F.KSwitch f e t) = keeps n f
 keeps_watched n f = keeps_any n (members f)
 
 module _ (c : Caller) where
+  -- a call of function f on a part, at register k
+  abbrev pub part_call_text : ℕ → Part → When → Scope → ℕ → List ℕ
+  part_call_text f part when scope k =
+      call_text c (called f (text (part_text part) ∷ []) when (at k ∷ []) scope)
+
   -- what goes on: t by the value that has taken over, or f
   abbrev pub going_text : ℕ → ℕ → ℕ → List ℕ
   going_text f t k =
       pieces_text c.named.prefix (text (codes "s->taken ? ") ∷ [])
-      ++ (call_text c
-      (called t (text (codes "&s->taker") ∷ []) (codes "dt") (at k ∷ []) C.Value)
+      ++ (part_call_text t P.Taker W.Now C.Value k
       ++ (pieces_text c.named.prefix (text (codes " : ") ∷ [])
-      ++ call_text c
-      (called f (text (codes "&s->front") ∷ []) (codes "dt") (at k ∷ []) C.Same)))
+      ++ part_call_text f P.Front W.Now C.Same k))
 
   -- an action that is one expression, in row r
   abbrev pub value_text : ℕ → Action → List ℕ
@@ -127,9 +134,7 @@ module _ (c : Caller) where
   value_text r (A.FedOr j) =
       pieces_text c.named.prefix
       (text (codes "(dt == 0) ? ") ∷ reg j ∷ text (codes " : s->fed") ∷ [])
-  value_text r (A.Call f scope part when k) =
-      call_text c
-      (called f (text (part_text part) ∷ []) (moment_text when) (at k ∷ []) scope)
+  value_text r (A.Call f scope part when k) = part_call_text f part when scope k
   value_text r (A.GoesOn f t k) = going_text f t k
   value_text r a = []
 
@@ -137,8 +142,7 @@ module _ (c : Caller) where
   abbrev pub member_call_text : Part → ℕ → ℕ → List Piece → List ℕ
   member_call_text part i f input =
       call_text c
-      (called f (text (part_text part) ∷ text (codes ".m") ∷ number i ∷ []) (codes "dt") input
-      C.Same)
+      (called f (text (part_text part) ∷ text (codes ".m") ∷ number i ∷ []) W.Now input C.Same)
 
   -- the answer of member i, function f, at register k
   abbrev pub each_text : Declared → Part → ℕ → ℕ → ℕ → List ℕ
@@ -180,14 +184,19 @@ module _ (c : Caller) where
       ++ (pieces_text c.named.prefix
       (d.indent ∷ text (codes "if (dt == 0) { s->value = ") ∷ reg j ∷ text (codes "; }\n") ∷ d.indent
       ∷ text (codes "if (") ∷ reg k ∷ text (codes ".is) { struct ") ∷ name ∷ text (codes "_p") ∷ [])
-      ++ (pieces_text c.named.prefix
-      (accumulator_letters c.named c.layout.kept (type_at c.named c.layout.input))
+      ++ (pieces_text c.named.prefix (accumulator_letters c)
       ++ (pieces_text c.named.prefix
       (text (codes " i; i.a = s->value; i.b = ") ∷ reg k ∷ text (codes ".v; s->value = ") ∷ [])
       ++ (leaf_call_text c r (text (codes "&i") ∷ [])
       ++ pieces_text c.named.prefix
       (text (codes "; ") ∷ d.value ∷ text (codes ".is = true; ") ∷ d.value
       ∷ text (codes ".v = s->value; }\n") ∷ [])))))
+
+  -- the line that declares a value as that of row r's action, which is one expression
+  abbrev pub declaration_text : Declared → ℕ → Action → List ℕ
+  declaration_text d r a =
+      pieces_text c.named.prefix (begins d [])
+      ++ (value_text r a ++ pieces_text c.named.prefix (text (codes ";\n") ∷ []))
 
   -- the lines that declare a value as that of row r's action
   abbrev pub action_text : Declared → ℕ → Action → List ℕ
@@ -201,9 +210,24 @@ module _ (c : Caller) where
   action_text d r (A.Cell form j k) = pieces_text c.named.prefix (cell_rows d form (reg j) (reg k))
   action_text d r (A.Accumulate e j k) = accumulation_text d r j k
   action_text d r (A.Collect e t k) = collection_text c d r t k
-  action_text d r a =
-      pieces_text c.named.prefix (begins d [])
-      ++ (value_text r a ++ pieces_text c.named.prefix (text (codes ";\n") ∷ []))
+  action_text d r a = declaration_text d r a
+
+  -- what is watched is frozen as it is, with the moment
+  abbrev pub freezing_text : List ℕ
+  freezing_text =
+      pieces_text c.named.prefix (text (codes "    s->frozen_at = dt;\n") ∷ [])
+      ++ pieces_text c.named.prefix
+      (pieces_if (keeps_watched c.named c.function)
+      (text (codes "    s->frozen = s->watched;\n") ∷ []))
+
+  -- at the first sample the frozen network k is copied, and its moment taken
+  abbrev pub resumption_text : ℕ → List ℕ
+  resumption_text k =
+      pieces_text c.named.prefix
+      (text (codes "    if (dt == 0) { dt = o") ∷ number k ∷ text (codes "_at;") ∷ [])
+      ++ (pieces_text c.named.prefix
+      (pieces_if c.layout.keeps (text (codes " s->all = *o") ∷ number k ∷ text (codes ";") ∷ []))
+      ++ pieces_text c.named.prefix (text (codes " }\n") ∷ []))
 
   -- the lines of an effect
   abbrev pub effect_text : Effect → List ℕ
@@ -216,17 +240,8 @@ module _ (c : Caller) where
   effect_text (E.Feed k) =
       pieces_text c.named.prefix
       (text (codes "    s->fed = ") ∷ reg k ∷ text (codes ";\n") ∷ [])
-  effect_text E.Freeze =
-      pieces_text c.named.prefix (text (codes "    s->frozen_at = dt;\n") ∷ [])
-      ++ pieces_text c.named.prefix
-      (pieces_if (keeps_watched c.named c.function)
-      (text (codes "    s->frozen = s->watched;\n") ∷ []))
-  effect_text (E.Resume k) =
-      pieces_text c.named.prefix
-      (text (codes "    if (dt == 0) { dt = o") ∷ number k ∷ text (codes "_at;") ∷ [])
-      ++ (pieces_text c.named.prefix
-      (pieces_if c.layout.keeps (text (codes " s->all = *o") ∷ number k ∷ text (codes ";") ∷ []))
-      ++ pieces_text c.named.prefix (text (codes " }\n") ∷ []))
+  effect_text E.Freeze = freezing_text
+  effect_text (E.Resume k) = resumption_text k
   effect_text (E.Member f) = []
 
 -- when a function answers, as the beginning of a block
@@ -236,10 +251,10 @@ guard_row G.Taken = text (codes "    if (s->taken) {\n") ∷ []
 guard_row (G.NoEvent k) = text (codes "    if (!") ∷ reg k ∷ text (codes ".is) {\n") ∷ []
 
 -- the expression of an action, if it has one
-abbrev pub leaf_of : Action → Option Expr
-leaf_of (A.Leaf e k) = Some e
-leaf_of (A.Constant e) = Some e
-leaf_of (A.Routed e part k) = Some e
-leaf_of (A.Accumulate e j k) = Some e
-leaf_of (A.Collect e t k) = Some e
-leaf_of a = None
+abbrev pub expression_in : Action → Option Expr
+expression_in (A.Leaf e k) = Some e
+expression_in (A.Constant e) = Some e
+expression_in (A.Routed e part k) = Some e
+expression_in (A.Accumulate e j k) = Some e
+expression_in (A.Collect e t k) = Some e
+expression_in a = None

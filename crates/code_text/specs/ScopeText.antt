@@ -144,11 +144,16 @@ module _ (n : Named) where
   frozen_members k [] = []
   frozen_members k (f ∷ fs) = frozen_member k f ++ frozen_members (suc k) fs
 
+  -- the same of what a `kSwitch` watches
+  abbrev pub frozen_of : Function → List ℕ
+  frozen_of (F.KSwitch f e t) = frozen_watched f
+  frozen_of f = []
+
   -- what a function has frozen, for this scope
-  abbrev pub frozen_text : Function → Scope → List ℕ
-  frozen_text (F.KSwitch f e t) C.Frozen = frozen_watched f
-  frozen_text f (C.Members m) = frozen_members 0 (members f)
-  frozen_text f s = []
+  abbrev pub frozen_text : Scope → Function → List ℕ
+  frozen_text C.Frozen f = frozen_of f
+  frozen_text (C.Members m) f = frozen_members 0 (members f)
+  frozen_text s f = []
 
 module _ (c : Caller) where
   -- the arguments: what is kept, the moment, the input, the parameters and the frozen networks
@@ -178,7 +183,7 @@ module _ (c : Caller) where
   taken_scope s by =
       first_params c.named.prefix (length c.layout.params.items)
       ++ (pieces_text c.named.prefix (text (codes ", ") ∷ text by ∷ [])
-      ++ (passed_olds c.named 0 c.layout.olds.items ++ frozen_text c.named c.function s))
+      ++ (passed_olds c.named 0 c.layout.olds.items ++ frozen_text c.named s c.function))
 
   -- all that is in scope
   abbrev pub same_scope : List ℕ

@@ -3,7 +3,7 @@
 ghost use Rattle.std.specs.Prelude.{◌≡◌, ◌++◌, IfOk, length, map, string_bytes};
 ghost use Rattle.sample_core.specs.TypeView.{type_of};
 ghost use Rattle.code_text.specs.{LeafText.params_text, LeafText.unused_params_text, Piece.pieces_text, PieceView.piece_of};
-ghost use Rattle.code_text.specs.ScopeText.{arguments_text, call_in, call_text, caller_in, first_params, first_scope, frozen_member, frozen_members, frozen_text, frozen_watched, keeps, leaf_call_text, members, named_in, old_argument, old_arguments, passed_old, passed_olds, same_scope, scope_text, taken_scope, type_at, unused_line, unused_old, unused_olds};
+ghost use Rattle.code_text.specs.ScopeText.{arguments_text, call_in, call_text, caller_in, first_params, first_scope, frozen_member, frozen_members, frozen_of, frozen_text, frozen_watched, keeps, leaf_call_text, members, named_in, old_argument, old_arguments, passed_old, passed_olds, same_scope, scope_text, taken_scope, type_at, unused_line, unused_old, unused_olds};
 
 use crate::piece::{Piece, push, push_if};
 use code_fits::{Layout, Program};
@@ -23,7 +23,10 @@ impl<'a> Named<'a> {
     pub(crate) fn ty(self, k: usize) -> &'a Ty
         ensures { type_of result.now ≡ type_at (named_in self.entry) k }
     {
-        self.program.types.trees.as_slice().get(k).unwrap_or(self.otherwise)
+        match self.program.types.trees.as_slice().get(k) {
+            Some(ty) => ty,
+            None => self.otherwise,
+        }
     }
 
     /// Whether a function keeps anything.
@@ -335,11 +338,23 @@ fn push_old(text: &mut String, named: Named<'_>, k: usize, old: usize) -> Result
 /// What the function itself has frozen.
 fn push_frozen(text: &mut String, caller: Caller<'_>, scope: Scope) -> Result<(), Memory>
     ensures { IfOk result (λ _. string_bytes text.new ≡ string_bytes text.old
-        ++ frozen_text (named_in caller.entry.named) caller.entry.function.now scope) }
+        ++ frozen_text (named_in caller.entry.named) scope caller.entry.function.now) }
 {
-    match (caller.function, scope) {
-        (Function::KSwitch(watched, _, _), Scope::Frozen) => push_frozen_watched(text, caller.named, *watched)?,
-        (function, Scope::Members(_)) => push_frozen_members(text, caller.named, members_of(function))?,
+    match scope {
+        Scope::Frozen => push_frozen_of(text, caller.named, caller.function)?,
+        Scope::Members(_) => push_frozen_members(text, caller.named, members_of(caller.function))?,
+        _ => {}
+    }
+    Ok(())
+}
+
+/// What a `kSwitch` has frozen.
+fn push_frozen_of(text: &mut String, named: Named<'_>, function: &Function) -> Result<(), Memory>
+    ensures { IfOk result (λ _. string_bytes text.new
+        ≡ string_bytes text.old ++ frozen_of (named_in named.entry) function.now) }
+{
+    match function {
+        Function::KSwitch(watched, _, _) => push_frozen_watched(text, named, *watched)?,
         _ => {}
     }
     Ok(())
