@@ -12,4 +12,5 @@ mod AppliedFiles
 mod Numbers
 mod Places
 mod CertifiedFiles
+mod CompiledFiles
 mod ImprovedFiles
