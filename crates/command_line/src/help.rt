@@ -289,7 +289,7 @@ and the file `target` holds `yampa 1 input Int (arr (then (add x 1) (mul x 2)))`
 };
 
 /// Help on `--name`.
-pub const NAME: &str = "What all names begin with (yampa): letters, digits and `_`, at most 32";
+pub const NAME: &str = "What all names begin with (yampa)";
 
 /// Help on `--no-main`.
 pub const NO_MAIN: &str = "Leaves out the `main`";
@@ -298,7 +298,7 @@ pub const NO_MAIN: &str = "Leaves out the `main`";
 pub const HEADER: &str = "Prints the declarations alone";
 
 /// Help on `--most`.
-pub const MOST: &str = "How many elements a list of the input may have, 1 to 32765 (32765)";
+pub const MOST: &str = "How many elements a list of the input may have (32765)";
 
 /// Help on `compile`.
 pub const COMPILE: HelpText<'static> = HelpText {
@@ -327,10 +327,6 @@ pub const COMPILE_CHECKED: HelpText<'static> = HelpText {
     does: "Checks a certificate, and prints the network that it leads to as C",
     more: "\
 If the certificate is accepted, the network of TGT is printed, as by `yampa compile TGT`.
-
-Example: with the three files of the example in `yampa check --help`,
-
-  $ yampa compile-checked source target steps > target.c
 
 `yampa --help` lists the exit statuses.",
 };
