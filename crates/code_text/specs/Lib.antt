@@ -4,6 +4,9 @@ pub mod PieceView
 pub mod TypeText
 pub mod LeafText
 pub mod CellText
+pub mod NamedText
+pub mod FilterText
+pub mod FileText
 pub mod ScopeText
 pub mod CollectionText
 pub mod RowText

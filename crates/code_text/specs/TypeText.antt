@@ -1,17 +1,7 @@
 -- The C of types: their structs, and what is computed on each.
-use Rattle.std.specs.Prelude.{ℕ, List, [], ◌∷◌, ◌++◌, codes, map}
+use Rattle.std.specs.Prelude.{ℕ, suc, List, [], ◌∷◌, ◌++◌, codes, slice_index}
 use Rattle.sample_core.specs.TypeTree.{TypeTree, unit_ty, bool_ty, int_ty, pair_ty, event_ty, list_ty}
-use Rattle.sample_core.specs.TypeView.{type_of}
-use Rattle.sample_core.specs.declared.ty.Ty.{Ty}
 use Rattle.code_text.specs.Piece.{Piece, text, name, number, ty, letter, spelt, pieces_text}
-
--- a type, and of a list how many elements it has at most
-abbrev pub Bound : Type 0
-Bound = TypeTree × ℕ
-
--- the bounds that some are in code
-abbrev pub bound_of : Ty × ℕ → Bound
-bound_of b = (type_of b.0, b.1)
 
 -- the struct of a type that has parts
 abbrev pub struct_row : TypeTree → ℕ → List Piece
@@ -26,10 +16,11 @@ struct_row (list_ty A) n =
     ∷ text (codes "]; }; /* ") ∷ spelt (list_ty A) ∷ text (codes " */\n") ∷ []
 struct_row T n = []
 
--- the structs of types
-abbrev pub structs_text : List ℕ → List Bound → List ℕ
-structs_text P [] = []
-structs_text P (b ∷ bs) = pieces_text P (struct_row b.0 b.1) ++ structs_text P bs
+-- the structs of types, from number k on, with the bounds of all
+abbrev pub structs_text : List ℕ → List ℕ → ℕ → List TypeTree → List ℕ
+structs_text P ns k [] = []
+structs_text P ns k (T ∷ Ts) =
+    pieces_text P (struct_row T (slice_index ns k)) ++ structs_text P ns (suc k) Ts
 
 -- whether two values of a type are the same: the function's head
 abbrev pub same_head : TypeTree → List Piece
@@ -82,6 +73,6 @@ unfoldable pub helper_text : List ℕ → TypeTree → List ℕ
 helper_text P T = same_text P T ++ pieces_text P (access_row T)
 
 -- what is computed on types
-abbrev pub helpers_text : List ℕ → List Bound → List ℕ
+abbrev pub helpers_text : List ℕ → List TypeTree → List ℕ
 helpers_text P [] = []
-helpers_text P (b ∷ bs) = helper_text P b.0 ++ helpers_text P bs
+helpers_text P (T ∷ Ts) = helper_text P T ++ helpers_text P Ts

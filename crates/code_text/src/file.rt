@@ -1,13 +1,22 @@
 // The C of a network.
 
-use crate::file_text::{ENTRIES, FILTER_INCLUDES, INCLUDES, NUMBERS, PLAIN_INCLUDES, POSIX, PROTOTYPES, USE};
-use crate::filter::{push_filter, push_named};
+ghost use Rattle.std.specs.Prelude.{◌≡◌, ◌++◌, IfOk, slice_get, string_bytes};
+ghost use Rattle.sample_core.specs.TypeView.{type_of};
+ghost use Rattle.code_text.specs.{Piece.pieces_text, ScopeText.caller_in, ScopeText.named_in};
+ghost use Rattle.code_text.specs.FileText.{about_text, all_functions, all_kept, c_of, declarations_text, definitions_text, entry_row, figures_row, file_of, file_text, function_at, kept_at, kept_text, options_in, posix_text, printed_text, state_text, stored_row, type_name, types_row};
+
+use crate::file_text::{
+    ENTRIES, FILTER_INCLUDES, INCLUDES, NUMBERS, PLAIN_INCLUDES, POSIX, PROTOTYPES, USE,
+};
+use crate::filter::push_filter;
 use crate::function::{push_comment, push_function};
 use crate::kept::push_kept;
-use crate::piece::{Piece, push};
+use crate::named::{push_named, push_with_each};
+use crate::piece::{Piece, push, push_if};
 use crate::scope::{Caller, Named};
 use crate::types::{push_helpers, push_structs};
-use code_fits::{Layout, Program};
+use code_fits::Program;
+use net_code::Function;
 use sample_core::{Memory, Ty};
 use std::alloc::Global;
 
@@ -34,108 +43,293 @@ pub struct Options<'a> {
 }
 
 /// A network's code as C. `Memory` where a growth was refused.
-pub fn print_c(alloc: Global, program: &Program, options: Options<'_>) -> Result<String, Memory> {
+pub fn print_c(alloc: Global, program: &Program, options: Options<'_>) -> Result<String, Memory>
+    ensures { IfOk result (λ text. string_bytes text ≡ c_of program.now (options_in options.entry)) }
+{
+    let otherwise = Ty::Unit;
     let mut text = String::new(alloc);
-    let Some(layout) = program.layouts.as_slice().last() else {
-        return Ok(text);
+    let named = Named {
+        prefix: options.prefix,
+        program,
+        otherwise: &otherwise,
     };
-    push_declarations(&mut text, program, layout, options)?;
+    push_program(alloc, &mut text, named, options)?;
+    Ok(text)
+}
+
+/// The file of a program; nothing where it has no function.
+fn push_program(
+    alloc: Global,
+    text: &mut String,
+    named: Named<'_>,
+    options: Options<'_>,
+) -> Result<(), Memory>
+    ensures { IfOk result (λ _. string_bytes text.new
+        ≡ string_bytes text.old ++ file_of (named_in named.entry) (options_in options.entry)) }
+{
+    let number = named.program.functions.len().saturating_sub(1);
+    let function = named.program.functions.as_slice().get(number);
+    let layout = named.program.layouts.as_slice().get(number);
+    match (function, layout) {
+        (Some(function), Some(layout)) => push_file(
+            alloc,
+            text,
+            Caller {
+                named,
+                number,
+                function,
+                layout,
+            },
+            options,
+        )?,
+        _ => {}
+    }
+    Ok(())
+}
+
+/// The file of a program, whose last function this is.
+fn push_file(
+    alloc: Global,
+    text: &mut String,
+    last: Caller<'_>,
+    options: Options<'_>,
+) -> Result<(), Memory>
+    ensures { IfOk result (λ _. string_bytes text.new
+        ≡ string_bytes text.old ++ file_text (caller_in last.entry) (options_in options.entry)) }
+{
+    push_declarations(text, last, options)?;
+    push_printed(alloc, text, last, options)?;
+    Ok(())
+}
+
+/// What stands behind the declarations.
+fn push_printed(
+    alloc: Global,
+    text: &mut String,
+    last: Caller<'_>,
+    options: Options<'_>,
+) -> Result<(), Memory>
+    ensures { IfOk result (λ _. string_bytes text.new ≡ string_bytes text.old
+        ++ printed_text (caller_in last.entry) (options_in options.entry) options.entry.printed) }
+{
     match options.printed {
         Printed::Header => {}
         Printed::Functions => {
-            push_named(&mut text, options.prefix, PLAIN_INCLUDES)?;
-            push_definitions(alloc, &mut text, program, layout, options)?;
+            push_named(text, options.prefix, PLAIN_INCLUDES)?;
+            push_definitions(alloc, text, last, options)?;
         }
         Printed::Filter => {
-            push_named(&mut text, options.prefix, FILTER_INCLUDES)?;
-            push_definitions(alloc, &mut text, program, layout, options)?;
+            push_named(text, options.prefix, FILTER_INCLUDES)?;
+            push_definitions(alloc, text, last, options)?;
             push_filter(
-                &mut text,
+                text,
                 options.prefix,
-                program.bounds.as_slice(),
-                (&layout.input, &layout.output),
+                last.named.program.types.trees.as_slice(),
+                (
+                    last.named.ty(last.layout.input),
+                    last.named.ty(last.layout.output),
+                ),
                 options.most,
             )?;
         }
     }
-    Ok(text)
-}
-
-/// Each function of a program.
-fn caller<'a>(program: &'a Program, prefix: &'a str, k: usize) -> Option<Caller<'a>> {
-    match (program.functions.as_slice().get(k), program.layouts.as_slice().get(k)) {
-        (Some(function), Some(layout)) => Some(Caller {
-            named: Named { prefix, program },
-            number: k,
-            function,
-            layout,
-        }),
-        _ => None,
-    }
+    Ok(())
 }
 
 /// The comment, types and structs, and what a program calls.
 fn push_declarations(
     text: &mut String,
-    program: &Program,
-    layout: &Layout,
+    last: Caller<'_>,
     options: Options<'_>,
-) -> Result<(), Memory> {
-    let prefix = options.prefix;
-    push_about(text, program, layout, options)?;
-    if matches!(options.printed, Printed::Filter) {
-        push_named(text, prefix, POSIX)?;
-    }
-    push_named(text, prefix, INCLUDES)?;
-    push_structs(text, prefix, program.bounds.as_slice())?;
-    for k in 0..program.functions.len() {
-        if let Some(caller) = caller(program, prefix, k) {
-            if layout_keeps(program, k) {
-                push(text, prefix, &[Piece::Text("\n")])?;
-                push_comment(text, caller)?;
-                push_kept(text, caller)?;
-            }
-        }
-    }
-    push_state(text, program, layout, prefix)?;
-    push_named(text, prefix, PROTOTYPES)
+) -> Result<(), Memory>
+    ensures { IfOk result (λ _. string_bytes text.new
+        ≡ string_bytes text.old ++ declarations_text (caller_in last.entry) (options_in options.entry)) }
+{
+    push_about(text, last, options)?;
+    push_posix(text, options)?;
+    push_named(text, options.prefix, INCLUDES)?;
+    push_structs(
+        text,
+        options.prefix,
+        last.named.program.types.trees.as_slice(),
+        last.named.program.bounds.as_slice(),
+    )?;
+    push_all_kept(text, last.named)?;
+    push_state(text, last, options)?;
+    push_named(text, options.prefix, PROTOTYPES)?;
+    Ok(())
 }
 
-/// Whether a function keeps anything.
-fn layout_keeps(program: &Program, k: usize) -> bool {
-    match program.layouts.as_slice().get(k) {
-        Some(layout) => layout.keeps,
-        None => false,
+/// What POSIX has, where there is a filter.
+fn push_posix(text: &mut String, options: Options<'_>) -> Result<(), Memory>
+    ensures { IfOk result (λ _. string_bytes text.new
+        ≡ string_bytes text.old ++ posix_text (options_in options.entry) options.entry.printed) }
+{
+    match options.printed {
+        Printed::Filter => push_named(text, options.prefix, POSIX)?,
+        Printed::Functions | Printed::Header => {}
     }
+    Ok(())
+}
+
+/// The comment at the top.
+fn push_about(text: &mut String, last: Caller<'_>, options: Options<'_>) -> Result<(), Memory>
+    ensures { IfOk result (λ _. string_bytes text.new
+        ≡ string_bytes text.old ++ about_text (caller_in last.entry) (options_in options.entry)) }
+{
+    push_types(text, last, options)?;
+    push_with_each(text, '\n', "\n * ", options.network)?;
+    push_named(text, options.prefix, USE)?;
+    push_figures(text, last, options)?;
+    Ok(())
+}
+
+/// Its first line.
+fn push_types(text: &mut String, last: Caller<'_>, options: Options<'_>) -> Result<(), Memory>
+    ensures { IfOk result (λ _. string_bytes text.new ≡ string_bytes text.old
+        ++ pieces_text options.entry.prefix.now (types_row (caller_in last.entry) (options_in options.entry))) }
+{
+    let input = last.named.ty(last.layout.input);
+    let output = last.named.ty(last.layout.output);
+    push(
+        text,
+        options.prefix,
+        &[
+            Piece::Text("/* "),
+            Piece::Name,
+            Piece::Text(": "),
+            Piece::Spelt(input),
+            Piece::Text(" -> "),
+            Piece::Spelt(output),
+            Piece::Text(". By `yampa compile`, of the network\n *\n * "),
+        ],
+    )?;
+    Ok(())
+}
+
+/// Its figures.
+fn push_figures(text: &mut String, last: Caller<'_>, options: Options<'_>) -> Result<(), Memory>
+    ensures { IfOk result (λ _. string_bytes text.new ≡ string_bytes text.old
+        ++ pieces_text options.entry.prefix.now (figures_row (caller_in last.entry) (options_in options.entry))) }
+{
+    push(
+        text,
+        options.prefix,
+        &[
+            Piece::Text(" *\n * Weight "),
+            Piece::Number(options.weight as usize),
+            Piece::Text(". The state has at most "),
+            Piece::Number(last.named.program.state_bytes as usize),
+            Piece::Text(" bytes, lists of the input at most "),
+            Piece::Number(options.most),
+            Piece::Text(" elements. */\n"),
+        ],
+    )?;
+    Ok(())
+}
+
+/// What the functions keep.
+fn push_all_kept(text: &mut String, named: Named<'_>) -> Result<(), Memory>
+    ensures { IfOk result (λ _. string_bytes text.new ≡ string_bytes text.old
+        ++ all_kept (named_in named.entry) 0 named.entry.program.now.functions.items) }
+{
+    let functions = named.program.functions.as_slice();
+    for (k, function) in functions.iter().enumerate() {
+        push_kept_at(text, named, k, function)?;
+    }
+    Ok(())
+}
+
+/// What function k keeps.
+fn push_kept_at<'a>(
+    text: &mut String,
+    named: Named<'a>,
+    k: usize,
+    function: &'a Function,
+) -> Result<(), Memory>
+    ensures { IfOk result (λ _. string_bytes text.new ≡ string_bytes text.old
+        ++ kept_at (named_in named.entry) k function.now (slice_get named.entry.program.now.layouts.items k)) }
+{
+    if let Some(layout) = named.program.layouts.as_slice().get(k) {
+        push_kept_of(
+            text,
+            Caller {
+                named,
+                number: k,
+                function,
+                layout,
+            },
+        )?;
+    }
+    Ok(())
+}
+
+/// What a function keeps, if it keeps something.
+fn push_kept_of(text: &mut String, caller: Caller<'_>) -> Result<(), Memory>
+    ensures { IfOk result (λ _. string_bytes text.new
+        ≡ string_bytes text.old ++ kept_text (caller_in caller.entry)) }
+{
+    if caller.layout.keeps {
+        push(text, caller.named.prefix, &[Piece::Text("\n")])?;
+        push_comment(text, caller)?;
+        push_kept(text, caller)?;
+    }
+    Ok(())
 }
 
 /// The types of input and output, and the struct of all that is kept.
-fn push_state(text: &mut String, program: &Program, layout: &Layout, prefix: &str) -> Result<(), Memory> {
-    push_type_name(text, prefix, &layout.input, "_input")?;
-    push_type_name(text, prefix, &layout.output, "_output")?;
+fn push_state(text: &mut String, last: Caller<'_>, options: Options<'_>) -> Result<(), Memory>
+    ensures { IfOk result (λ _. string_bytes text.new
+        ≡ string_bytes text.old ++ state_text (caller_in last.entry) (options_in options.entry)) }
+{
+    let input = last.named.ty(last.layout.input);
+    let output = last.named.ty(last.layout.output);
+    push_type_name(text, options.prefix, input, "_input")?;
+    push_type_name(text, options.prefix, output, "_output")?;
     push(
         text,
-        prefix,
-        &[Piece::Text("\nstruct "), Piece::Name, Piece::Text("_state {\n    bool started;\n")],
+        options.prefix,
+        &[
+            Piece::Text("\nstruct "),
+            Piece::Name,
+            Piece::Text("_state {\n    bool started;\n"),
+        ],
     )?;
-    if layout.keeps {
-        push(
-            text,
-            prefix,
-            &[
-                Piece::Text("    struct "),
-                Piece::Name,
-                Piece::Text("_s"),
-                Piece::Number(program.functions.len().saturating_sub(1)),
-                Piece::Text(" s;\n"),
-            ],
-        )?;
-    }
-    push(text, prefix, &[Piece::Text("};\n")])
+    push_stored(text, last, options)?;
+    push(text, options.prefix, &[Piece::Text("};\n")])?;
+    Ok(())
+}
+
+/// What the last function keeps, if it keeps something.
+fn push_stored(text: &mut String, last: Caller<'_>, options: Options<'_>) -> Result<(), Memory>
+    ensures { IfOk result (λ _. string_bytes text.new ≡ string_bytes text.old
+        ++ pieces_text options.entry.prefix.now (stored_row (caller_in last.entry) (options_in options.entry))) }
+{
+    push_if(
+        text,
+        options.prefix,
+        last.layout.keeps,
+        &[
+            Piece::Text("    struct "),
+            Piece::Name,
+            Piece::Text("_s"),
+            Piece::Number(last.number),
+            Piece::Text(" s;\n"),
+        ],
+    )?;
+    Ok(())
 }
 
 /// A name for a type.
-fn push_type_name(text: &mut String, prefix: &str, ty: &Ty, name: &str) -> Result<(), Memory> {
+fn push_type_name<'a>(
+    text: &mut String,
+    prefix: &str,
+    ty: &'a Ty,
+    name: &'a str,
+) -> Result<(), Memory>
+    ensures { IfOk result (λ _. string_bytes text.new
+        ≡ string_bytes text.old ++ pieces_text prefix.now (type_name (type_of ty.now) name.now)) }
+{
     push(
         text,
         prefix,
@@ -149,71 +343,86 @@ fn push_type_name(text: &mut String, prefix: &str, ty: &Ty, name: &str) -> Resul
             Piece::Spelt(ty),
             Piece::Text(" */"),
         ],
-    )
-}
-
-/// The comment at the top.
-fn push_about(
-    text: &mut String,
-    program: &Program,
-    layout: &Layout,
-    options: Options<'_>,
-) -> Result<(), Memory> {
-    push(
-        text,
-        options.prefix,
-        &[
-            Piece::Text("/* "),
-            Piece::Name,
-            Piece::Text(": "),
-            Piece::Spelt(&layout.input),
-            Piece::Text(" -> "),
-            Piece::Spelt(&layout.output),
-            Piece::Text(". By `yampa compile`, of the network\n *\n"),
-        ],
     )?;
-    for line in options.network.lines() {
-        push(text, options.prefix, &[Piece::Text(" * "), Piece::Text(line), Piece::Text("\n")])?;
-    }
-    push_named(text, options.prefix, USE)?;
-    push(
-        text,
-        options.prefix,
-        &[
-            Piece::Text(" *\n * Weight "),
-            Piece::Number(options.weight as usize),
-            Piece::Text(". The state has at most "),
-            Piece::Number(program.state_bytes as usize),
-            Piece::Text(" bytes, lists of the input at most "),
-            Piece::Number(options.most),
-            Piece::Text(" elements. */\n"),
-        ],
-    )
+    Ok(())
 }
 
 /// The functions.
 fn push_definitions(
     alloc: Global,
     text: &mut String,
-    program: &Program,
-    layout: &Layout,
+    last: Caller<'_>,
     options: Options<'_>,
-) -> Result<(), Memory> {
-    let prefix = options.prefix;
-    push_named(text, prefix, NUMBERS)?;
-    push_helpers(text, prefix, program.bounds.as_slice())?;
-    for k in 0..program.functions.len() {
-        if let Some(caller) = caller(program, prefix, k) {
-            push_function(alloc, text, caller)?;
-        }
+) -> Result<(), Memory>
+    ensures { IfOk result (λ _. string_bytes text.new
+        ≡ string_bytes text.old ++ definitions_text (caller_in last.entry) (options_in options.entry)) }
+{
+    push_named(text, options.prefix, NUMBERS)?;
+    push_helpers(
+        text,
+        options.prefix,
+        last.named.program.types.trees.as_slice(),
+    )?;
+    push_all_functions(alloc, text, last.named)?;
+    push_named(text, options.prefix, ENTRIES)?;
+    push_entry(text, last, options)?;
+    Ok(())
+}
+
+/// Each function.
+fn push_all_functions(alloc: Global, text: &mut String, named: Named<'_>) -> Result<(), Memory>
+    ensures { IfOk result (λ _. string_bytes text.new ≡ string_bytes text.old
+        ++ all_functions (named_in named.entry) 0 named.entry.program.now.functions.items) }
+{
+    let functions = named.program.functions.as_slice();
+    for (k, function) in functions.iter().enumerate() {
+        push_function_at(alloc, text, named, k, function)?;
     }
-    push_named(text, prefix, ENTRIES)?;
+    Ok(())
+}
+
+/// Function k.
+fn push_function_at<'a>(
+    alloc: Global,
+    text: &mut String,
+    named: Named<'a>,
+    k: usize,
+    function: &'a Function,
+) -> Result<(), Memory>
+    ensures { IfOk result (λ _. string_bytes text.new ≡ string_bytes text.old
+        ++ function_at (named_in named.entry) k function.now (slice_get named.entry.program.now.layouts.items k)) }
+{
+    if let Some(layout) = named.program.layouts.as_slice().get(k) {
+        push_function(
+            alloc,
+            text,
+            Caller {
+                named,
+                number: k,
+                function,
+                layout,
+            },
+        )?;
+    }
+    Ok(())
+}
+
+/// The call of the last function.
+fn push_entry(text: &mut String, last: Caller<'_>, options: Options<'_>) -> Result<(), Memory>
+    ensures { IfOk result (λ _. string_bytes text.new ≡ string_bytes text.old
+        ++ pieces_text options.entry.prefix.now (entry_row (caller_in last.entry) (options_in options.entry))) }
+{
     push(
         text,
-        prefix,
+        options.prefix,
         &[
-            Piece::Number(program.functions.len().saturating_sub(1)),
-            Piece::Text(if layout.keeps { "(&state->s, step, input);\n}\n" } else { "(step, input);\n}\n" }),
+            Piece::Number(last.number),
+            Piece::Text(if last.layout.keeps {
+                "(&state->s, step, input);\n}\n"
+            } else {
+                "(step, input);\n}\n"
+            }),
         ],
-    )
+    )?;
+    Ok(())
 }

@@ -1,7 +1,7 @@
 // The constant text of a file of C: `@` stands for the prefix of all names.
 
-/// Before the comment's figures.
-pub(crate) const USE: &str = r#" *
+/// Behind the network, before the comment's figures.
+pub(crate) const USE: &str = r#"
  * struct @_state state;                     all the memory that there is
  * @_init(&state);                           before the first sample, and to start anew
  * @_step(&state, dt, &input, &output);      at each sample: dt is the time since the sample before, at least 1; at the first sample
@@ -44,6 +44,7 @@ pub(crate) const FILTER_INCLUDES: &str = r#"
 #include <string.h>
 #include <unistd.h>
 "#;
+
 pub(crate) const PLAIN_INCLUDES: &str = r#"
 #include <string.h>
 "#;

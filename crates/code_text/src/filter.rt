@@ -1,29 +1,44 @@
 // The filter: constant text, and a reader and a writer of each type with parts.
 
+ghost use Rattle.std.specs.Prelude.{◌≡◌, ◌++◌, IfOk, map, string_bytes};
+ghost use Rattle.sample_core.specs.{TypeTree.event_ty, TypeTree.list_ty, TypeTree.pair_ty, TypeView.type_of};
+ghost use Rattle.code_text.specs.Piece.{pieces_text};
+ghost use Rattle.code_text.specs.FilterText.{filter_text, has_parts, is_part, reader_head, reader_if, reader_text, readers_text, reading_rows, sample_rows, writer_head, writer_if, writer_text, writers_text, writing_rows};
+
 use crate::filter_text::{HEAD, TAIL};
+use crate::named::push_named;
 use crate::piece::{Piece, push};
 use sample_core::{Memory, Ty, same_type};
 
-/// The filter of a network, whose input's lists have at most so many elements.
+/// The filter of a network of an input and an output type, whose input's lists have at most so many elements.
 pub(crate) fn push_filter(
     text: &mut String,
     prefix: &str,
-    bounds: &[(Ty, usize)],
-    types: (&Ty, &Ty),
+    types: &[Ty],
+    of: (&Ty, &Ty),
     most: usize,
-) -> Result<(), Memory> {
-    let (input, output) = types;
+) -> Result<(), Memory>
+    ensures { IfOk result (λ _. string_bytes text.new ≡ string_bytes text.old
+        ++ filter_text prefix.now (map type_of types.now) (type_of of.entry.0.now) (type_of of.entry.1.now) most) }
+{
     push_named(text, prefix, HEAD)?;
-    for bound in bounds {
-        if is_part(&bound.0, input) {
-            push_reader(text, prefix, &bound.0, most)?;
-        }
-    }
-    for bound in bounds {
-        if is_part(&bound.0, output) {
-            push_writer(text, prefix, &bound.0)?;
-        }
-    }
+    push_readers(text, prefix, types, of.0, most)?;
+    push_writers(text, prefix, types, of.1)?;
+    push_sample(text, prefix, of.0, of.1)?;
+    push_named(text, prefix, TAIL)?;
+    Ok(())
+}
+
+/// How a sample's input is read, and its output written.
+fn push_sample<'a>(
+    text: &mut String,
+    prefix: &str,
+    input: &'a Ty,
+    output: &'a Ty,
+) -> Result<(), Memory>
+    ensures { IfOk result (λ _. string_bytes text.new
+        ≡ string_bytes text.old ++ pieces_text prefix.now (sample_rows (type_of input.now) (type_of output.now))) }
+{
     push(
         text,
         prefix,
@@ -49,25 +64,14 @@ pub(crate) fn push_filter(
             Piece::Text("(output);\n}\n"),
         ],
     )?;
-    push_named(text, prefix, TAIL)
-}
-
-/// Constant text, in which `@` stands for the prefix.
-pub(crate) fn push_named(text: &mut String, prefix: &str, constant: &str) -> Result<(), Memory> {
-    let mut is_first = true;
-    for part in constant.split('@') {
-        if !is_first {
-            text.push_str(prefix)?;
-        }
-        is_first = false;
-        text.push_str(part)?;
-    }
     Ok(())
 }
 
 /// Whether a type is this one or a part of it.
 #[cycle(is_part)]
-fn is_part(ty: &Ty, whole: &Ty) -> bool {
+fn is_part(ty: &Ty, whole: &Ty) -> bool
+    ensures { result ≡ is_part (type_of ty.now) (type_of whole.now) }
+{
     if same_type(ty, whole) {
         return true;
     }
@@ -78,130 +82,322 @@ fn is_part(ty: &Ty, whole: &Ty) -> bool {
     }
 }
 
-/// The reader of a type with parts.
-fn push_reader(text: &mut String, prefix: &str, ty: &Ty, most: usize) -> Result<(), Memory> {
+/// Whether a type has parts.
+fn has_parts(ty: &Ty) -> bool
+    ensures { result ≡ has_parts (type_of ty.now) }
+{
     match ty {
-        Ty::Unit | Ty::Bool | Ty::Int => Ok(()),
-        _ => {
-            push(
-                text,
-                prefix,
-                &[
-                    Piece::Text("\nstatic bool "),
-                    Piece::Name,
-                    Piece::Text("_read_"),
-                    Piece::Letters(ty),
-                    Piece::Text("(struct "),
-                    Piece::Name,
-                    Piece::Text("_reader *r, "),
-                    Piece::Type(ty),
-                    Piece::Text(" *v)\n{\n"),
-                ],
-            )?;
-            push_reading(text, prefix, ty, most)?;
-            push(text, prefix, &[Piece::Text("}\n")])
-        }
+        Ty::Unit | Ty::Bool | Ty::Int => false,
+        Ty::Pair(..) | Ty::Event(_) | Ty::List(_) => true,
     }
+}
+
+/// The readers of the types that the input has.
+fn push_readers(
+    text: &mut String,
+    prefix: &str,
+    types: &[Ty],
+    input: &Ty,
+    most: usize,
+) -> Result<(), Memory>
+    ensures { IfOk result (λ _. string_bytes text.new ≡ string_bytes text.old
+        ++ readers_text prefix.now most (type_of input.now) (map type_of types.now)) }
+{
+    for ty in types {
+        push_reader_if(text, prefix, ty, input, most)?;
+    }
+    Ok(())
+}
+
+/// The reader of a type with parts that the input has.
+fn push_reader_if(
+    text: &mut String,
+    prefix: &str,
+    ty: &Ty,
+    input: &Ty,
+    most: usize,
+) -> Result<(), Memory>
+    ensures { IfOk result (λ _. string_bytes text.new ≡ string_bytes text.old
+        ++ reader_if prefix.now most (type_of input.now) (type_of ty.now)) }
+{
+    if has_parts(ty) && is_part(ty, input) {
+        push_reader(text, prefix, ty, most)?;
+    }
+    Ok(())
+}
+
+/// The reader of a type.
+fn push_reader(text: &mut String, prefix: &str, ty: &Ty, most: usize) -> Result<(), Memory>
+    ensures { IfOk result (λ _. string_bytes text.new
+        ≡ string_bytes text.old ++ reader_text prefix.now most (type_of ty.now)) }
+{
+    push(
+        text,
+        prefix,
+        &[
+            Piece::Text("\nstatic bool "),
+            Piece::Name,
+            Piece::Text("_read_"),
+            Piece::Letters(ty),
+            Piece::Text("(struct "),
+            Piece::Name,
+            Piece::Text("_reader *r, "),
+            Piece::Type(ty),
+            Piece::Text(" *v)\n{\n"),
+        ],
+    )?;
+    push_reading(text, prefix, ty, most)?;
+    push(text, prefix, &[Piece::Text("}\n")])?;
+    Ok(())
 }
 
 /// The lines of a reader.
-fn push_reading(text: &mut String, prefix: &str, ty: &Ty, most: usize) -> Result<(), Memory> {
+fn push_reading(text: &mut String, prefix: &str, ty: &Ty, most: usize) -> Result<(), Memory>
+    ensures { IfOk result (λ _. string_bytes text.new
+        ≡ string_bytes text.old ++ pieces_text prefix.now (reading_rows most (type_of ty.now))) }
+{
     match ty {
-        Ty::Unit | Ty::Bool | Ty::Int => Ok(()),
-        Ty::Pair(a, b) => {
-            push_named(text, prefix, "    return @_word(r, 'P', \"(pair\", 5) && @_byte(r, ' ') && @_read_")?;
-            push(text, prefix, &[Piece::Letters(a.get())])?;
-            push_named(text, prefix, "(r, &v->a)\n        && @_byte(r, ' ') && @_read_")?;
-            push(text, prefix, &[Piece::Letters(b.get())])?;
-            push_named(text, prefix, "(r, &v->b) && @_byte(r, ')');\n")
-        }
-        Ty::Event(a) => {
-            push_named(
-                text,
-                prefix,
-                "    v->is = @_is_word(r, \"(event\", 6);\n    if (v->is) {\n        return @_byte(r, ' ') && @_read_",
-            )?;
-            push(text, prefix, &[Piece::Letters(a.get())])?;
-            push_named(
-                text,
-                prefix,
-                "(r, &v->v) && @_byte(r, ')');\n    }\n    return @_word(r, 'E', \"none\", 4);\n",
-            )
-        }
-        Ty::List(a) => {
-            push_named(
-                text,
-                prefix,
-                "    if (!@_word(r, 'L', \"(list\", 5)) {\n        return false;\n    }\n    for (v->n = 0; *r->at != ')'; v->n++) {\n        if (!@_byte(r, ' ') || !@_room(r, v->n, ",
-            )?;
-            push(text, prefix, &[Piece::Number(most)])?;
-            push_named(text, prefix, ") || !@_read_")?;
-            push(text, prefix, &[Piece::Letters(a.get())])?;
-            push_named(
-                text,
-                prefix,
-                "(r, &v->e[v->n])) {\n            return false;\n        }\n    }\n    r->at++;\n    return true;\n",
-            )
-        }
+        Ty::Unit | Ty::Bool | Ty::Int => {}
+        Ty::Pair(a, b) => push_reading_pair(text, prefix, a.get(), b.get())?,
+        Ty::Event(a) => push_reading_event(text, prefix, a.get())?,
+        Ty::List(a) => push_reading_list(text, prefix, a.get(), most)?,
     }
+    Ok(())
 }
 
-/// The writer of a type with parts.
-fn push_writer(text: &mut String, prefix: &str, ty: &Ty) -> Result<(), Memory> {
-    match ty {
-        Ty::Unit | Ty::Bool | Ty::Int => Ok(()),
-        _ => {
-            push(
-                text,
-                prefix,
-                &[
-                    Piece::Text("\nstatic void "),
-                    Piece::Name,
-                    Piece::Text("_put_"),
-                    Piece::Letters(ty),
-                    Piece::Text("(const "),
-                    Piece::Type(ty),
-                    Piece::Text(" *v)\n{\n"),
-                ],
-            )?;
-            push_writing(text, prefix, ty)?;
-            push(text, prefix, &[Piece::Text("}\n")])
-        }
+/// The lines of a reader of pairs.
+fn push_reading_pair<'a>(
+    text: &mut String,
+    prefix: &str,
+    a: &'a Ty,
+    b: &'a Ty,
+) -> Result<(), Memory>
+    ensures { IfOk result (λ _. string_bytes text.new
+        ≡ string_bytes text.old ++ pieces_text prefix.now (reading_rows 0 (pair_ty (type_of a.now) (type_of b.now)))) }
+{
+    push(
+        text,
+        prefix,
+        &[
+            Piece::Text("    return "),
+            Piece::Name,
+            Piece::Text("_word(r, 'P', \"(pair\", 5) && "),
+            Piece::Name,
+            Piece::Text("_byte(r, ' ') && "),
+            Piece::Name,
+            Piece::Text("_read_"),
+            Piece::Letters(a),
+            Piece::Text("(r, &v->a)\n        && "),
+            Piece::Name,
+            Piece::Text("_byte(r, ' ') && "),
+            Piece::Name,
+            Piece::Text("_read_"),
+            Piece::Letters(b),
+            Piece::Text("(r, &v->b) && "),
+            Piece::Name,
+            Piece::Text("_byte(r, ')');\n"),
+        ],
+    )?;
+    Ok(())
+}
+
+/// The lines of a reader of events.
+fn push_reading_event(text: &mut String, prefix: &str, a: &Ty) -> Result<(), Memory>
+    ensures { IfOk result (λ _. string_bytes text.new
+        ≡ string_bytes text.old ++ pieces_text prefix.now (reading_rows 0 (event_ty (type_of a.now)))) }
+{
+    push(
+        text,
+        prefix,
+        &[
+            Piece::Text("    v->is = "),
+            Piece::Name,
+            Piece::Text("_is_word(r, \"(event\", 6);\n    if (v->is) {\n        return "),
+            Piece::Name,
+            Piece::Text("_byte(r, ' ') && "),
+            Piece::Name,
+            Piece::Text("_read_"),
+            Piece::Letters(a),
+            Piece::Text("(r, &v->v) && "),
+            Piece::Name,
+            Piece::Text("_byte(r, ')');\n    }\n    return "),
+            Piece::Name,
+            Piece::Text("_word(r, 'E', \"none\", 4);\n"),
+        ],
+    )?;
+    Ok(())
+}
+
+/// The lines of a reader of lists.
+fn push_reading_list(text: &mut String, prefix: &str, a: &Ty, most: usize) -> Result<(), Memory>
+    ensures { IfOk result (λ _. string_bytes text.new
+        ≡ string_bytes text.old ++ pieces_text prefix.now (reading_rows most (list_ty (type_of a.now)))) }
+{
+    push(
+        text,
+        prefix,
+        &[
+            Piece::Text("    if (!"),
+            Piece::Name,
+            Piece::Text(
+                "_word(r, 'L', \"(list\", 5)) {\n        return false;\n    }\n    for (v->n = 0; *r->at != ')'; v->n++) {\n        if (!",
+            ),
+            Piece::Name,
+            Piece::Text("_byte(r, ' ') || !"),
+            Piece::Name,
+            Piece::Text("_room(r, v->n, "),
+            Piece::Number(most),
+            Piece::Text(") || !"),
+            Piece::Name,
+            Piece::Text("_read_"),
+            Piece::Letters(a),
+            Piece::Text(
+                "(r, &v->e[v->n])) {\n            return false;\n        }\n    }\n    r->at++;\n    return true;\n",
+            ),
+        ],
+    )?;
+    Ok(())
+}
+
+/// The writers of the types that the output has.
+fn push_writers(text: &mut String, prefix: &str, types: &[Ty], output: &Ty) -> Result<(), Memory>
+    ensures { IfOk result (λ _. string_bytes text.new ≡ string_bytes text.old
+        ++ writers_text prefix.now (type_of output.now) (map type_of types.now)) }
+{
+    for ty in types {
+        push_writer_if(text, prefix, ty, output)?;
     }
+    Ok(())
+}
+
+/// The writer of a type with parts that the output has.
+fn push_writer_if(text: &mut String, prefix: &str, ty: &Ty, output: &Ty) -> Result<(), Memory>
+    ensures { IfOk result (λ _. string_bytes text.new
+        ≡ string_bytes text.old ++ writer_if prefix.now (type_of output.now) (type_of ty.now)) }
+{
+    if has_parts(ty) && is_part(ty, output) {
+        push_writer(text, prefix, ty)?;
+    }
+    Ok(())
+}
+
+/// The writer of a type.
+fn push_writer(text: &mut String, prefix: &str, ty: &Ty) -> Result<(), Memory>
+    ensures { IfOk result (λ _. string_bytes text.new
+        ≡ string_bytes text.old ++ writer_text prefix.now (type_of ty.now)) }
+{
+    push(
+        text,
+        prefix,
+        &[
+            Piece::Text("\nstatic void "),
+            Piece::Name,
+            Piece::Text("_put_"),
+            Piece::Letters(ty),
+            Piece::Text("(const "),
+            Piece::Type(ty),
+            Piece::Text(" *v)\n{\n"),
+        ],
+    )?;
+    push_writing(text, prefix, ty)?;
+    push(text, prefix, &[Piece::Text("}\n")])?;
+    Ok(())
 }
 
 /// The lines of a writer.
-fn push_writing(text: &mut String, prefix: &str, ty: &Ty) -> Result<(), Memory> {
+fn push_writing(text: &mut String, prefix: &str, ty: &Ty) -> Result<(), Memory>
+    ensures { IfOk result (λ _. string_bytes text.new
+        ≡ string_bytes text.old ++ pieces_text prefix.now (writing_rows (type_of ty.now))) }
+{
     match ty {
-        Ty::Unit | Ty::Bool | Ty::Int => Ok(()),
-        Ty::Pair(a, b) => {
-            push_named(text, prefix, "    @_put(\"(pair \", 6);\n    @_put_")?;
-            push(text, prefix, &[Piece::Letters(a.get())])?;
-            push_named(text, prefix, "(&v->a);\n    @_put(\" \", 1);\n    @_put_")?;
-            push(text, prefix, &[Piece::Letters(b.get())])?;
-            push_named(text, prefix, "(&v->b);\n    @_put(\")\", 1);\n")
-        }
-        Ty::Event(a) => {
-            push_named(
-                text,
-                prefix,
-                "    if (v->is) {\n        @_put(\"(event \", 7);\n        @_put_",
-            )?;
-            push(text, prefix, &[Piece::Letters(a.get())])?;
-            push_named(
-                text,
-                prefix,
-                "(&v->v);\n        @_put(\")\", 1);\n    } else {\n        @_put(\"none\", 4);\n    }\n",
-            )
-        }
-        Ty::List(a) => {
-            push_named(
-                text,
-                prefix,
-                "    @_put(\"(list\", 5);\n    for (uint32_t i = 0; i < v->n; i++) {\n        @_put(\" \", 1);\n        @_put_",
-            )?;
-            push(text, prefix, &[Piece::Letters(a.get())])?;
-            push_named(text, prefix, "(&v->e[i]);\n    }\n    @_put(\")\", 1);\n")
-        }
+        Ty::Unit | Ty::Bool | Ty::Int => {}
+        Ty::Pair(a, b) => push_writing_pair(text, prefix, a.get(), b.get())?,
+        Ty::Event(a) => push_writing_event(text, prefix, a.get())?,
+        Ty::List(a) => push_writing_list(text, prefix, a.get())?,
     }
+    Ok(())
+}
+
+/// The lines of a writer of pairs.
+fn push_writing_pair<'a>(
+    text: &mut String,
+    prefix: &str,
+    a: &'a Ty,
+    b: &'a Ty,
+) -> Result<(), Memory>
+    ensures { IfOk result (λ _. string_bytes text.new
+        ≡ string_bytes text.old ++ pieces_text prefix.now (writing_rows (pair_ty (type_of a.now) (type_of b.now)))) }
+{
+    push(
+        text,
+        prefix,
+        &[
+            Piece::Text("    "),
+            Piece::Name,
+            Piece::Text("_put(\"(pair \", 6);\n    "),
+            Piece::Name,
+            Piece::Text("_put_"),
+            Piece::Letters(a),
+            Piece::Text("(&v->a);\n    "),
+            Piece::Name,
+            Piece::Text("_put(\" \", 1);\n    "),
+            Piece::Name,
+            Piece::Text("_put_"),
+            Piece::Letters(b),
+            Piece::Text("(&v->b);\n    "),
+            Piece::Name,
+            Piece::Text("_put(\")\", 1);\n"),
+        ],
+    )?;
+    Ok(())
+}
+
+/// The lines of a writer of events.
+fn push_writing_event(text: &mut String, prefix: &str, a: &Ty) -> Result<(), Memory>
+    ensures { IfOk result (λ _. string_bytes text.new
+        ≡ string_bytes text.old ++ pieces_text prefix.now (writing_rows (event_ty (type_of a.now)))) }
+{
+    push(
+        text,
+        prefix,
+        &[
+            Piece::Text("    if (v->is) {\n        "),
+            Piece::Name,
+            Piece::Text("_put(\"(event \", 7);\n        "),
+            Piece::Name,
+            Piece::Text("_put_"),
+            Piece::Letters(a),
+            Piece::Text("(&v->v);\n        "),
+            Piece::Name,
+            Piece::Text("_put(\")\", 1);\n    } else {\n        "),
+            Piece::Name,
+            Piece::Text("_put(\"none\", 4);\n    }\n"),
+        ],
+    )?;
+    Ok(())
+}
+
+/// The lines of a writer of lists.
+fn push_writing_list(text: &mut String, prefix: &str, a: &Ty) -> Result<(), Memory>
+    ensures { IfOk result (λ _. string_bytes text.new
+        ≡ string_bytes text.old ++ pieces_text prefix.now (writing_rows (list_ty (type_of a.now)))) }
+{
+    push(
+        text,
+        prefix,
+        &[
+            Piece::Text("    "),
+            Piece::Name,
+            Piece::Text("_put(\"(list\", 5);\n    for (uint32_t i = 0; i < v->n; i++) {\n        "),
+            Piece::Name,
+            Piece::Text("_put(\" \", 1);\n        "),
+            Piece::Name,
+            Piece::Text("_put_"),
+            Piece::Letters(a),
+            Piece::Text("(&v->e[i]);\n    }\n    "),
+            Piece::Name,
+            Piece::Text("_put(\")\", 1);\n"),
+        ],
+    )?;
+    Ok(())
 }

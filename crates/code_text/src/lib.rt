@@ -17,6 +17,7 @@ mod filter_text;
 mod function;
 mod kept;
 mod leaf;
+mod named;
 mod piece;
 mod row;
 mod scope;

@@ -1,9 +1,10 @@
 use Rattle.std.proofs.Common.{◌≡◌, ◌++◌, map, drop, string_bytes}
-use Rattle.code_text.specs.TypeText.{bound_of, helpers_text}
+use Rattle.sample_core.specs.TypeView.{type_of}
+use Rattle.code_text.specs.TypeText.{helpers_text}
 use Rattle.code_text.proofs.types.push_helpers.Given as goal
 
 -- what stands there, with the functions to come, is the whole
-abbrev pub invariant-loop-bound : goal.invariant-loop-bound
-invariant-loop-bound l =
-    string_bytes l.text ++ helpers_text l.prefix (map bound_of (drop l.bound-index l.bounds))
-    ≡ string_bytes l.initial.text ++ helpers_text l.prefix (map bound_of l.bounds)
+abbrev pub invariant-loop-ty : goal.invariant-loop-ty
+invariant-loop-ty l =
+    string_bytes l.text ++ helpers_text l.prefix (map type_of (drop l.ty-index l.types))
+    ≡ string_bytes l.initial.text ++ helpers_text l.prefix (map type_of l.types)

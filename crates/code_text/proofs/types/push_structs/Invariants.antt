@@ -1,9 +1,10 @@
 use Rattle.std.proofs.Common.{◌≡◌, ◌++◌, map, drop, string_bytes}
-use Rattle.code_text.specs.TypeText.{bound_of, structs_text}
+use Rattle.sample_core.specs.TypeView.{type_of}
+use Rattle.code_text.specs.TypeText.{structs_text}
 use Rattle.code_text.proofs.types.push_structs.Given as goal
 
 -- what stands there, with the structs to come, is the whole
-abbrev pub invariant-loop-bound : goal.invariant-loop-bound
-invariant-loop-bound l =
-    string_bytes l.text ++ structs_text l.prefix (map bound_of (drop l.bound-index l.bounds))
-    ≡ string_bytes l.initial.text ++ structs_text l.prefix (map bound_of l.bounds)
+abbrev pub invariant-loop-k : goal.invariant-loop-k
+invariant-loop-k l =
+    string_bytes l.text ++ structs_text l.prefix l.bounds l.k (map type_of (drop l.k l.types))
+    ≡ string_bytes l.initial.text ++ structs_text l.prefix l.bounds 0 (map type_of l.types)
