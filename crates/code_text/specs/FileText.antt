@@ -8,12 +8,13 @@ use Rattle.code_fits.specs.declared.layout.Program.{Program}
 use Rattle.code_text.specs.declared.file.Printed.{Printed}
 use Rattle.code_text.specs.declared.file.Printed.TheVariants as P
 use Rattle.code_text.specs.declared.file.Options as D
-use Rattle.code_text.specs.declared.file_text.TheConstants.{USE, INCLUDES, PROTOTYPES, POSIX, FILTER_INCLUDES, PLAIN_INCLUDES, NUMBERS, ENTRIES}
+use Rattle.code_text.specs.declared.file_text.TheConstants.{POSIX, FILTER_INCLUDES, PLAIN_INCLUDES}
 use Rattle.code_text.specs.Piece.{Piece, text, name, number, ty, spelt, pieces_text}
 use Rattle.code_text.specs.PieceView.{pieces_if}
-use Rattle.code_text.specs.NamedText.{named_text, with_each}
+use Rattle.code_text.specs.NamedText.{with_each}
 use Rattle.code_text.specs.TypeText.{structs_text, helpers_text}
 use Rattle.code_text.specs.ScopeText.{Named, Caller}
+use Rattle.code_text.specs.FixedText.{use_rows, opening_rows, prototype_rows, numbers_text, entries_text}
 use Rattle.code_text.specs.KeptText.{kept_rows}
 use Rattle.code_text.specs.FunctionText.{input_type, output_type, comment_rows, function_text}
 use Rattle.code_text.specs.FilterText.{filter_text}
@@ -36,13 +37,15 @@ options_in o =
 abbrev pub types_of : Named → List TypeTree
 types_of n = map type_of n.program.types.trees.items
 
--- what a function keeps, if it keeps something
-abbrev pub kept_text : Caller → List ℕ
-kept_text c =
-    if c.layout.keeps
-    then pieces_text c.named.prefix (text (codes "\n") ∷ [])
+-- what a function keeps, under a comment
+abbrev pub kept_struct : Caller → List ℕ
+kept_struct c =
+    pieces_text c.named.prefix (text (codes "\n") ∷ [])
     ++ (pieces_text c.named.prefix (comment_rows c) ++ pieces_text c.named.prefix (kept_rows c))
-    else []
+
+-- the same, if it keeps something
+abbrev pub kept_text : Caller → List ℕ
+kept_text c = if c.layout.keeps then kept_struct c else []
 
 module _ (n : Named) where
   -- function k with its layout
@@ -76,6 +79,12 @@ type_name T s =
     text (codes "\ntypedef ") ∷ ty T ∷ text (codes " ") ∷ name ∷ text s ∷ text (codes "; /* ")
     ∷ spelt T ∷ text (codes " */") ∷ []
 
+-- what POSIX has, where there is a filter
+abbrev pub posix_rows : Printed → List Piece
+posix_rows P.Filter = text POSIX.now ∷ []
+posix_rows P.Functions = []
+posix_rows P.Header = []
+
 -- the file of a program, of which c is the last function
 module _ (c : Caller) (o : Options) where
   -- the comment at the top: the types, the network's lines, how it is used, and its figures
@@ -94,13 +103,7 @@ module _ (c : Caller) (o : Options) where
   about_text =
       pieces_text o.prefix types_row
       ++ (with_each 10 (codes "\n * ") o.network
-      ++ (named_text o.prefix USE.now ++ pieces_text o.prefix figures_row))
-
-  -- what POSIX has, where there is a filter
-  abbrev pub posix_text : Printed → List ℕ
-  posix_text P.Filter = named_text o.prefix POSIX.now
-  posix_text P.Functions = []
-  posix_text P.Header = []
+      ++ (pieces_text o.prefix use_rows ++ pieces_text o.prefix figures_row))
 
   -- the struct of all that is kept: what the last function keeps
   abbrev pub stored_row : List Piece
@@ -121,37 +124,35 @@ module _ (c : Caller) (o : Options) where
   abbrev pub declarations_text : List ℕ
   declarations_text =
       about_text
-      ++ (posix_text o.printed
-      ++ (named_text o.prefix INCLUDES.now
+      ++ (pieces_text o.prefix (posix_rows o.printed)
+      ++ (pieces_text o.prefix opening_rows
       ++ (structs_text o.prefix c.named.program.bounds.items 0 (types_of c.named)
       ++ (all_kept c.named 0 c.named.program.functions.items
-      ++ (state_text ++ named_text o.prefix PROTOTYPES.now)))))
-
-  -- the call of the last function
-  abbrev pub entry_row : List Piece
-  entry_row =
-      number c.number
-      ∷ text
-      (if c.layout.keeps then codes "(&state->s, step, input);\n}\n"
-      else codes "(step, input);\n}\n")
-      ∷ []
+      ++ (state_text ++ pieces_text o.prefix prototype_rows)))))
 
   -- the functions: on numbers and types, of the network, and the two that a program calls
   abbrev pub definitions_text : List ℕ
   definitions_text =
-      named_text o.prefix NUMBERS.now
+      numbers_text o.prefix
       ++ (helpers_text o.prefix (types_of c.named)
       ++ (all_functions c.named 0 c.named.program.functions.items
-      ++ (named_text o.prefix ENTRIES.now ++ pieces_text o.prefix entry_row)))
+      ++ entries_text o.prefix c.number c.layout.keeps))
+
+  -- the functions, and what they stand on; the same with a filter
+  abbrev pub plain_text : List ℕ
+  plain_text = pieces_text o.prefix (text PLAIN_INCLUDES.now ∷ []) ++ definitions_text
+
+  abbrev pub filtered_text : List ℕ
+  filtered_text =
+      pieces_text o.prefix (text FILTER_INCLUDES.now ∷ [])
+      ++ (definitions_text
+      ++ filter_text o.prefix (types_of c.named) (input_type c) (output_type c) o.most)
 
   -- what stands behind the declarations
   abbrev pub printed_text : Printed → List ℕ
   printed_text P.Header = []
-  printed_text P.Functions = named_text o.prefix PLAIN_INCLUDES.now ++ definitions_text
-  printed_text P.Filter =
-      named_text o.prefix FILTER_INCLUDES.now
-      ++ (definitions_text
-      ++ filter_text o.prefix (types_of c.named) (input_type c) (output_type c) o.most)
+  printed_text P.Functions = plain_text
+  printed_text P.Filter = filtered_text
 
   abbrev pub file_text : List ℕ
   file_text = declarations_text ++ printed_text o.printed

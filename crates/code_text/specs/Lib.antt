@@ -6,6 +6,7 @@ pub mod LeafText
 pub mod CellText
 pub mod NamedText
 pub mod FilterText
+pub mod FixedText
 pub mod FileText
 pub mod ScopeText
 pub mod CollectionText

@@ -3,15 +3,14 @@
 ghost use Rattle.std.specs.Prelude.{◌≡◌, ◌++◌, IfOk, slice_get, string_bytes};
 ghost use Rattle.sample_core.specs.TypeView.{type_of};
 ghost use Rattle.code_text.specs.{Piece.pieces_text, ScopeText.caller_in, ScopeText.named_in};
-ghost use Rattle.code_text.specs.FileText.{about_text, all_functions, all_kept, c_of, declarations_text, definitions_text, entry_row, figures_row, file_of, file_text, function_at, kept_at, kept_text, options_in, posix_text, printed_text, state_text, stored_row, type_name, types_row};
+ghost use Rattle.code_text.specs.FileText.{about_text, all_functions, all_kept, c_of, declarations_text, definitions_text, figures_row, file_of, file_text, filtered_text, function_at, kept_at, kept_struct, kept_text, options_in, plain_text, posix_rows, printed_text, state_text, stored_row, type_name, types_row};
 
-use crate::file_text::{
-    ENTRIES, FILTER_INCLUDES, INCLUDES, NUMBERS, PLAIN_INCLUDES, POSIX, PROTOTYPES, USE,
-};
+use crate::file_text::{FILTER_INCLUDES, PLAIN_INCLUDES, POSIX};
 use crate::filter::push_filter;
+use crate::fixed::{push_entries, push_numbers, push_opening, push_prototypes, push_use};
 use crate::function::{push_comment, push_function};
 use crate::kept::push_kept;
-use crate::named::{push_named, push_with_each};
+use crate::named::push_with_each;
 use crate::piece::{Piece, push, push_if};
 use crate::scope::{Caller, Named};
 use crate::types::{push_helpers, push_structs};
@@ -114,25 +113,43 @@ fn push_printed(
 {
     match options.printed {
         Printed::Header => {}
-        Printed::Functions => {
-            push_named(text, options.prefix, PLAIN_INCLUDES)?;
-            push_definitions(alloc, text, last, options)?;
-        }
-        Printed::Filter => {
-            push_named(text, options.prefix, FILTER_INCLUDES)?;
-            push_definitions(alloc, text, last, options)?;
-            push_filter(
-                text,
-                options.prefix,
-                last.named.program.types.trees.as_slice(),
-                (
-                    last.named.ty(last.layout.input),
-                    last.named.ty(last.layout.output),
-                ),
-                options.most,
-            )?;
-        }
+        Printed::Functions => push_plain(alloc, text, last, options)?,
+        Printed::Filter => push_filtered(alloc, text, last, options)?,
     }
+    Ok(())
+}
+
+/// The functions, and what they stand on.
+fn push_plain(
+    alloc: Global,
+    text: &mut String,
+    last: Caller<'_>,
+    options: Options<'_>,
+) -> Result<(), Memory>
+    ensures { IfOk result (λ _. string_bytes text.new
+        ≡ string_bytes text.old ++ plain_text (caller_in last.entry) (options_in options.entry)) }
+{
+    push(text, options.prefix, &[Piece::Text(PLAIN_INCLUDES)])?;
+    push_definitions(alloc, text, last, options)?;
+    Ok(())
+}
+
+/// The same with a filter.
+fn push_filtered(
+    alloc: Global,
+    text: &mut String,
+    last: Caller<'_>,
+    options: Options<'_>,
+) -> Result<(), Memory>
+    ensures { IfOk result (λ _. string_bytes text.new
+        ≡ string_bytes text.old ++ filtered_text (caller_in last.entry) (options_in options.entry)) }
+{
+    let types = last.named.program.types.trees.as_slice();
+    let input = last.named.ty(last.layout.input);
+    let output = last.named.ty(last.layout.output);
+    push(text, options.prefix, &[Piece::Text(FILTER_INCLUDES)])?;
+    push_definitions(alloc, text, last, options)?;
+    push_filter(text, options.prefix, types, input, output, options.most)?;
     Ok(())
 }
 
@@ -147,7 +164,7 @@ fn push_declarations(
 {
     push_about(text, last, options)?;
     push_posix(text, options)?;
-    push_named(text, options.prefix, INCLUDES)?;
+    push_opening(text, options.prefix)?;
     push_structs(
         text,
         options.prefix,
@@ -156,17 +173,17 @@ fn push_declarations(
     )?;
     push_all_kept(text, last.named)?;
     push_state(text, last, options)?;
-    push_named(text, options.prefix, PROTOTYPES)?;
+    push_prototypes(text, options.prefix)?;
     Ok(())
 }
 
 /// What POSIX has, where there is a filter.
 fn push_posix(text: &mut String, options: Options<'_>) -> Result<(), Memory>
     ensures { IfOk result (λ _. string_bytes text.new
-        ≡ string_bytes text.old ++ posix_text (options_in options.entry) options.entry.printed) }
+        ≡ string_bytes text.old ++ pieces_text options.entry.prefix.now (posix_rows options.entry.printed)) }
 {
     match options.printed {
-        Printed::Filter => push_named(text, options.prefix, POSIX)?,
+        Printed::Filter => push(text, options.prefix, &[Piece::Text(POSIX)])?,
         Printed::Functions | Printed::Header => {}
     }
     Ok(())
@@ -179,7 +196,7 @@ fn push_about(text: &mut String, last: Caller<'_>, options: Options<'_>) -> Resu
 {
     push_types(text, last, options)?;
     push_with_each(text, '\n', "\n * ", options.network)?;
-    push_named(text, options.prefix, USE)?;
+    push_use(text, options.prefix)?;
     push_figures(text, last, options)?;
     Ok(())
 }
@@ -270,10 +287,19 @@ fn push_kept_of(text: &mut String, caller: Caller<'_>) -> Result<(), Memory>
         ≡ string_bytes text.old ++ kept_text (caller_in caller.entry)) }
 {
     if caller.layout.keeps {
-        push(text, caller.named.prefix, &[Piece::Text("\n")])?;
-        push_comment(text, caller)?;
-        push_kept(text, caller)?;
+        push_kept_struct(text, caller)?;
     }
+    Ok(())
+}
+
+/// What a function keeps, under a comment.
+fn push_kept_struct(text: &mut String, caller: Caller<'_>) -> Result<(), Memory>
+    ensures { IfOk result (λ _. string_bytes text.new
+        ≡ string_bytes text.old ++ kept_struct (caller_in caller.entry)) }
+{
+    push(text, caller.named.prefix, &[Piece::Text("\n")])?;
+    push_comment(text, caller)?;
+    push_kept(text, caller)?;
     Ok(())
 }
 
@@ -357,15 +383,14 @@ fn push_definitions(
     ensures { IfOk result (λ _. string_bytes text.new
         ≡ string_bytes text.old ++ definitions_text (caller_in last.entry) (options_in options.entry)) }
 {
-    push_named(text, options.prefix, NUMBERS)?;
+    push_numbers(text, options.prefix)?;
     push_helpers(
         text,
         options.prefix,
         last.named.program.types.trees.as_slice(),
     )?;
     push_all_functions(alloc, text, last.named)?;
-    push_named(text, options.prefix, ENTRIES)?;
-    push_entry(text, last, options)?;
+    push_entries(text, options.prefix, last.number, last.layout.keeps)?;
     Ok(())
 }
 
@@ -404,25 +429,5 @@ fn push_function_at<'a>(
             },
         )?;
     }
-    Ok(())
-}
-
-/// The call of the last function.
-fn push_entry(text: &mut String, last: Caller<'_>, options: Options<'_>) -> Result<(), Memory>
-    ensures { IfOk result (λ _. string_bytes text.new ≡ string_bytes text.old
-        ++ pieces_text options.entry.prefix.now (entry_row (caller_in last.entry) (options_in options.entry))) }
-{
-    push(
-        text,
-        options.prefix,
-        &[
-            Piece::Number(last.number),
-            Piece::Text(if last.layout.keeps {
-                "(&state->s, step, input);\n}\n"
-            } else {
-                "(step, input);\n}\n"
-            }),
-        ],
-    )?;
     Ok(())
 }

@@ -10,21 +10,22 @@ use crate::named::push_named;
 use crate::piece::{Piece, push};
 use sample_core::{Memory, Ty, same_type};
 
-/// The filter of a network of an input and an output type, whose input's lists have at most so many elements.
+/// The filter of a network, whose input's lists have at most so many elements.
 pub(crate) fn push_filter(
     text: &mut String,
     prefix: &str,
     types: &[Ty],
-    of: (&Ty, &Ty),
+    input: &Ty,
+    output: &Ty,
     most: usize,
 ) -> Result<(), Memory>
     ensures { IfOk result (λ _. string_bytes text.new ≡ string_bytes text.old
-        ++ filter_text prefix.now (map type_of types.now) (type_of of.entry.0.now) (type_of of.entry.1.now) most) }
+        ++ filter_text prefix.now (map type_of types.now) (type_of input.now) (type_of output.now) most) }
 {
     push_named(text, prefix, HEAD)?;
-    push_readers(text, prefix, types, of.0, most)?;
-    push_writers(text, prefix, types, of.1)?;
-    push_sample(text, prefix, of.0, of.1)?;
+    push_readers(text, prefix, types, input, most)?;
+    push_writers(text, prefix, types, output)?;
+    push_sample(text, prefix, input, output)?;
     push_named(text, prefix, TAIL)?;
     Ok(())
 }

@@ -14,6 +14,7 @@ mod file;
 mod file_text;
 mod filter;
 mod filter_text;
+mod fixed;
 mod function;
 mod kept;
 mod leaf;
