@@ -17,6 +17,7 @@ use Rattle.net_code.specs.declared.statement.Function.TheVariants as F
 use Rattle.net_code.specs.Running.{Body}
 use Rattle.net_code.specs.CodeView.{rows_of}
 use Rattle.code_text.specs.Piece.{Piece, text, name, number, ty, spelt, reg, pieces_text}
+use Rattle.code_text.specs.PieceView.{pieces_if}
 use Rattle.code_text.specs.LeafText.{Leaf, leaf_text}
 use Rattle.code_text.specs.CellText.{Declared}
 use Rattle.code_text.specs.ScopeText.{Caller, type_at, arguments_text, unused_line}
@@ -72,19 +73,15 @@ abbrev pub chosen_type : TypeTree → TypeTree
 chosen_type (pair_ty A (event_ty B)) = B
 chosen_type T = unit_ty
 
--- whether nothing but this row answers
-abbrev pub is_always : Guard → Bool
-is_always G.Always = true
-is_always g = false
+-- whether a row answers under a condition
+abbrev pub is_guarded : Guard → Bool
+is_guarded G.Always = false
+is_guarded g = true
 
--- what stands before the lines of a row that answers, and behind them
+-- what stands before the lines of a row that answers
 abbrev pub exit_indent : Bool → List ℕ
-exit_indent true = codes "    "
-exit_indent false = codes "        "
-
-abbrev pub exit_end : Bool → List Piece
-exit_end true = []
-exit_end false = text (codes "    }\n") ∷ []
+exit_indent true = codes "        "
+exit_indent false = codes "    "
 
 -- how many registers a row sets, and of how many values it gives a type
 abbrev pub sets : Statement → ℕ
@@ -135,12 +132,16 @@ module _ (c : Caller) where
       leaf_text c.named.prefix (leaf_at i false (chosen_type input_type) e)
   leaf_of_text i a = []
 
+  -- that of row i
+  abbrev pub leaf_in_text : ℕ → Statement → List ℕ
+  leaf_in_text i (S.Set a) = leaf_of_text i a
+  leaf_in_text i (S.Exit g a) = leaf_of_text i a
+  leaf_in_text i (S.Do e) = []
+
   -- those of rows, from number i on
   abbrev pub leaves_text : ℕ → Body → List ℕ
   leaves_text i [] = []
-  leaves_text i (S.Set a ∷ ss) = leaf_of_text i a ++ leaves_text (suc i) ss
-  leaves_text i (S.Exit g a ∷ ss) = leaf_of_text i a ++ leaves_text (suc i) ss
-  leaves_text i (S.Do e ∷ ss) = leaves_text (suc i) ss
+  leaves_text i (s ∷ ss) = leaf_in_text i s ++ leaves_text (suc i) ss
 
   -- row i sets register k, of type T
   abbrev pub set_text : ℕ → ℕ → TypeTree → Action → List ℕ
@@ -153,14 +154,14 @@ module _ (c : Caller) where
   exit_text i T g a =
       pieces_text c.named.prefix (guard_row g)
       ++ (action_text c
-      (record { value = text (codes "y"); kind = T; indent = text (exit_indent (is_always g)) }) i a
+      (record { value = text (codes "y"); kind = T; indent = text (exit_indent (is_guarded g)) }) i a
       ++ (pieces_text c.named.prefix
-      (text (exit_indent (is_always g)) ∷ text (codes "return y;\n") ∷ [])
-      ++ pieces_text c.named.prefix (exit_end (is_always g))))
+      (text (exit_indent (is_guarded g)) ∷ text (codes "return y;\n") ∷ [])
+      ++ pieces_text c.named.prefix (pieces_if (is_guarded g) (text (codes "    }\n") ∷ []))))
 
-  -- row i, behind k registers and n values
+  -- row i, where register k is the next to be set, and value n the next of which a type is given
   abbrev pub row_text : ℕ → ℕ → ℕ → Statement → List ℕ
-  row_text i k n (S.Set a) = set_text i (suc k) (value_type n) a
+  row_text i k n (S.Set a) = set_text i k (value_type n) a
   row_text i k n (S.Exit g a) = exit_text i (value_type n) g a
   row_text i k n (S.Do e) = effect_text c e
 
@@ -171,20 +172,24 @@ module _ (c : Caller) where
       row_text i k n s ++ rows_text (suc i) (k + sets s) (n + gives s) ss
 
   -- the head of a function
-  abbrev pub head_rows : List Piece
-  head_rows =
-      text (codes "static ") ∷ ty output_type ∷ text (codes " ") ∷ name ∷ text (codes "_f")
-      ∷ number c.number ∷ text (codes "(") ∷ []
+  abbrev pub head_text : List ℕ
+  head_text =
+      pieces_text c.named.prefix
+      (text (codes "static ") ∷ ty output_type ∷ text (codes " ") ∷ name ∷ text (codes "_f")
+      ∷ number c.number ∷ text (codes "(") ∷ [])
+      ++ (arguments_text c ++ pieces_text c.named.prefix (text (codes ")") ∷ []))
+
+  -- a function's lines, between braces
+  abbrev pub lines_text : Body → List ℕ
+  lines_text rows =
+      pieces_text c.named.prefix (text (codes "\n{\n") ∷ [])
+      ++ (unused_line c
+      ++ (rows_text 0 1 0 rows
+      ++ pieces_text c.named.prefix (text (codes "}\n") ∷ [])))
 
   -- a function, behind those of its leaves
   abbrev pub function_text : List ℕ
   function_text =
       pieces_text c.named.prefix (text (codes "\n") ∷ [])
       ++ (pieces_text c.named.prefix comment_rows
-      ++ (leaves_text 0 (rows_of c.function)
-      ++ (pieces_text c.named.prefix head_rows
-      ++ (arguments_text c
-      ++ (pieces_text c.named.prefix (text (codes ")\n{\n") ∷ [])
-      ++ (unused_line c
-      ++ (rows_text 0 0 0 (rows_of c.function)
-      ++ pieces_text c.named.prefix (text (codes "}\n") ∷ []))))))))
+      ++ (leaves_text 0 (rows_of c.function) ++ (head_text ++ lines_text (rows_of c.function))))

@@ -55,33 +55,60 @@ module _ (c : Caller) where
   abbrev pub taken_fields : List Piece
   taken_fields = text (codes "    bool taken;\n") ∷ own_field (codes "by;\n")
 
+  -- what a cell counts, and its value
+  abbrev pub counted_fields : List ℕ → List Piece
+  counted_fields counts = text counts ∷ own_field (codes "value;\n")
+
+  -- a queue with room for q values
+  abbrev pub queue_fields : ℕ → List Piece
+  queue_fields q =
+      text (codes "    uint64_t now;\n    uint32_t head;\n    uint32_t size;\n")
+      ∷ (own_field (codes "out;\n")
+      ++ (text (codes "    uint64_t at[") ∷ number q ∷ text (codes "];\n")
+      ∷ (own_field (codes "value[") ++ number q ∷ text (codes "];\n") ∷ [])))
+
   -- a cell
   abbrev pub cell_fields : Form → List Piece
   cell_fields M.IPre = own_field (codes "value;\n")
   cell_fields M.Hold = own_field (codes "value;\n")
   cell_fields M.AccumBy = own_field (codes "value;\n")
-  cell_fields (M.After q) =
-      text (codes "    bool over;\n    int64_t left;\n") ∷ own_field (codes "value;\n")
-  cell_fields (M.Repeatedly q) = text (codes "    int64_t left;\n") ∷ own_field (codes "value;\n")
+  cell_fields (M.After q) = counted_fields (codes "    bool over;\n    int64_t left;\n")
+  cell_fields (M.Repeatedly q) = counted_fields (codes "    int64_t left;\n")
   cell_fields M.Time = text (codes "    int64_t time;\n") ∷ []
   cell_fields M.Integral = text (codes "    int64_t sum;\n    int64_t before;\n") ∷ []
-  cell_fields (M.Delay q) =
-      text (codes "    uint64_t now;\n    uint32_t head;\n    uint32_t size;\n")
-      ∷ own_field (codes "out;\n")
-      ++ (text (codes "    uint64_t at[") ∷ number q ∷ text (codes "];\n") ∷ own_field (codes "value[")
-      ++ number q ∷ text (codes "];\n") ∷ [])
+  cell_fields (M.Delay q) = queue_fields q
+
+  -- a loop of f
+  abbrev pub loop_fields : ℕ → List Piece
+  loop_fields f = own_field (codes "fed;\n") ++ part_field f (codes "looped")
 
   -- a switch of f into t
   abbrev pub switch_fields : ℕ → ℕ → List Piece
   switch_fields f t =
       taken_fields ++ (part_field f (codes "front") ++ part_field t (codes "taker"))
 
-  -- a switch that has frozen what it watches, with a watcher e
-  abbrev pub freezing_fields : List Piece → ℕ → ℕ → List Piece
-  freezing_fields watched e t =
-      taken_fields
-      ++ (text (codes "    int64_t frozen_at;\n") ∷ watched
+  -- a switch that freezes what it watches
+  abbrev pub freezing_fields : List Piece
+  freezing_fields = taken_fields ++ text (codes "    int64_t frozen_at;\n") ∷ []
+
+  -- of f into t, with the watcher e
+  abbrev pub k_switch_fields : ℕ → ℕ → ℕ → List Piece
+  k_switch_fields f e t =
+      freezing_fields
+      ++ ((part_field f (codes "watched") ++ part_field f (codes "frozen"))
       ++ (part_field e (codes "watcher") ++ part_field t (codes "resumer")))
+
+  -- what members keep that are watched, and what they kept when they were frozen
+  abbrev pub frozen_fields : List ℕ → List Piece
+  frozen_fields fs =
+      pieces_if (keeps_any c.named fs)
+      (stores_field (codes "watched;\n") ++ stores_field (codes "frozen;\n"))
+
+  -- of members into t, with the watcher e
+  abbrev pub p_switch_fields : List ℕ → ℕ → ℕ → List Piece
+  p_switch_fields fs e t =
+      freezing_fields
+      ++ (frozen_fields fs ++ (part_field e (codes "watcher") ++ part_field t (codes "resumer")))
 
   -- a collection: its members on one of two sides
   abbrev pub collection_fields : List Piece
@@ -95,7 +122,7 @@ module _ (c : Caller) where
   fields_of (F.Seq f g) = part_field f (codes "one") ++ part_field g (codes "other")
   fields_of (F.First f) = part_field f (codes "all")
   fields_of (F.Par fs) = stores_field (codes "all;\n")
-  fields_of (F.Loop e f) = own_field (codes "fed;\n") ++ part_field f (codes "looped")
+  fields_of (F.Loop e f) = loop_fields f
   fields_of (F.Cell form e) = cell_fields form
   fields_of (F.Clock form) = cell_fields form
   fields_of (F.Accum e z) = own_field (codes "value;\n")
@@ -103,12 +130,8 @@ module _ (c : Caller) where
   fields_of (F.DSwitch f t) = switch_fields f t
   fields_of (F.RSwitch f t) = switch_fields f t
   fields_of (F.DrSwitch f t) = switch_fields f t
-  fields_of (F.KSwitch f e t) =
-      freezing_fields (part_field f (codes "watched") ++ part_field f (codes "frozen")) e t
-  fields_of (F.PSwitch r fs e t) =
-      freezing_fields
-      (pieces_if (keeps_any c.named fs.items) (stores_field (codes "watched;\n") ++ stores_field (codes "frozen;\n")))
-      e t
+  fields_of (F.KSwitch f e t) = k_switch_fields f e t
+  fields_of (F.PSwitch r fs e t) = p_switch_fields fs.items e t
   fields_of (F.Old k f n m) = part_field f (codes "all")
   fields_of F.Same = []
   fields_of (F.InitialOut e f) = part_field f (codes "all")
@@ -126,8 +149,9 @@ module _ (c : Caller) where
   abbrev pub turn_rows : List ℕ → ℕ → List Piece
   turn_rows fs t =
       struct_head (codes "_m")
-      ++ (text (codes "    uint32_t origin;\n") ∷ own_field (codes "by;\n")
-      ++ (member_fields 0 fs ++ (part_field t (codes "taker") ++ text (codes "};\n") ∷ [])))
+      ++ (text (codes "    uint32_t origin;\n")
+      ∷ (own_field (codes "by;\n")
+      ++ (member_fields 0 fs ++ (part_field t (codes "taker") ++ text (codes "};\n") ∷ []))))
 
   -- a struct that a function's own has in it
   abbrev pub members_rows : Function → List Piece

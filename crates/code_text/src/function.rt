@@ -1,10 +1,18 @@
 // The C of a function: its leaves, and its rows.
 
+ghost use Rattle.std.specs.Prelude.{◌≡◌, ◌≤◌, ◌++◌, IfOk, map, string_bytes};
+ghost use Rattle.sample_core.specs.{TypeTree.pair_ty, TypeView.type_of};
+ghost use Rattle.net_code.specs.CodeView.{rows_of};
+ghost use Rattle.code_text.specs.{Piece.pieces_text, ScopeText.caller_in, ScopeText.named_in, ScopeText.type_at};
+ghost use Rattle.code_text.specs.LeafText.{leaf_text};
+ghost use Rattle.code_text.specs.CollectionText.{type_in};
+ghost use Rattle.code_text.specs.FunctionText.{accumulated_type, cell_word, chosen_type, comment_rows, exit_indent, exit_text, function_text, gives, head_text, is_guarded, leaf_at, leaf_in_text, leaf_of_text, leaves_text, lines_text, position_rows, row_text, rows_text, set_text, sets, value_type, word_of};
+
 use crate::declared::Declared;
 use crate::leaf::{Leaf, push_leaf};
-use crate::piece::{Piece, push};
-use crate::row::{leaf_of, push_action, push_effect, push_guard};
-use crate::scope::{Caller, push_arguments, push_unused};
+use crate::piece::{Piece, push, push_if};
+use crate::row::{push_action, push_effect, push_guard};
+use crate::scope::{Caller, Named, push_arguments, push_unused};
 use cell_core::Form;
 use leaf_code::compile_expr;
 use leaf_core::Expr;
@@ -13,39 +21,48 @@ use sample_core::{Memory, Ty, TyChild};
 use std::alloc::Global;
 
 /// What a function is, above its struct and its lines.
-pub(crate) fn push_comment(text: &mut String, caller: Caller<'_>) -> Result<(), Memory> {
-    let prefix = caller.named.prefix;
+pub(crate) fn push_comment(text: &mut String, caller: Caller<'_>) -> Result<(), Memory>
+    ensures { IfOk result (λ _. string_bytes text.new ≡ string_bytes text.old
+        ++ pieces_text caller.entry.named.prefix.now (comment_rows (caller_in caller.entry))) }
+{
+    let word = word_of(caller.function);
+    let input = caller.named.ty(caller.layout.input);
+    let output = caller.named.ty(caller.layout.output);
     push(
         text,
-        prefix,
-        &[
-            Piece::Text("/* "),
-            Piece::Text(word_of(caller.function)),
-            Piece::Text(" at (at"),
-        ],
+        caller.named.prefix,
+        &[Piece::Text("/* "), Piece::Text(word), Piece::Text(" at (at")],
     )?;
-    for k in caller.layout.position.as_slice() {
-        push(
-            text,
-            prefix,
-            &[Piece::Text(" "), Piece::Number(*k as usize)],
-        )?;
-    }
+    push_position(text, caller.named.prefix, caller.layout.position.as_slice())?;
     push(
         text,
-        prefix,
+        caller.named.prefix,
         &[
             Piece::Text("): "),
-            Piece::Spelt(&caller.layout.input),
+            Piece::Spelt(input),
             Piece::Text(" -> "),
-            Piece::Spelt(&caller.layout.output),
+            Piece::Spelt(output),
             Piece::Text(" */\n"),
         ],
-    )
+    )?;
+    Ok(())
+}
+
+/// The numbers of a position.
+fn push_position(text: &mut String, prefix: &str, position: &[u32]) -> Result<(), Memory>
+    ensures { IfOk result (λ _. string_bytes text.new
+        ≡ string_bytes text.old ++ pieces_text prefix.now (position_rows position.now)) }
+{
+    for k in position {
+        push(text, prefix, &[Piece::Text(" "), Piece::Number(*k as usize)])?;
+    }
+    Ok(())
 }
 
 /// The word of a function's form.
-fn word_of(function: &Function) -> &'static str {
+fn word_of(function: &Function) -> &'static str
+    ensures { result.now ≡ word_of function.now }
+{
     match function {
         Function::Arr(_) => "arr",
         Function::Seq(..) => ">>>",
@@ -68,7 +85,9 @@ fn word_of(function: &Function) -> &'static str {
 }
 
 /// The word of a cell's form.
-fn cell_word(form: Form) -> &'static str {
+fn cell_word(form: Form) -> &'static str
+    ensures { result.now ≡ cell_word form }
+{
     match form {
         Form::IPre => "iPre",
         Form::Delay(_) => "delay",
@@ -82,22 +101,31 @@ fn cell_word(form: Form) -> &'static str {
 }
 
 /// A function, behind those of its leaves.
-pub(crate) fn push_function(
-    alloc: Global,
-    text: &mut String,
-    caller: Caller<'_>,
-) -> Result<(), Memory> {
-    let prefix = caller.named.prefix;
+pub(crate) fn push_function(alloc: Global, text: &mut String, caller: Caller<'_>) -> Result<(), Memory>
+    ensures { IfOk result (λ _. string_bytes text.new
+        ≡ string_bytes text.old ++ function_text (caller_in caller.entry)) }
+{
     let rows = caller.function.rows(alloc)?;
-    push(text, prefix, &[Piece::Text("\n")])?;
+    push(text, caller.named.prefix, &[Piece::Text("\n")])?;
     push_comment(text, caller)?;
     push_leaves(alloc, text, caller, rows.as_slice())?;
+    push_head(text, caller)?;
+    push_lines(text, caller, rows.as_slice())?;
+    Ok(())
+}
+
+/// The head of a function.
+fn push_head(text: &mut String, caller: Caller<'_>) -> Result<(), Memory>
+    ensures { IfOk result (λ _. string_bytes text.new
+        ≡ string_bytes text.old ++ head_text (caller_in caller.entry)) }
+{
+    let output = caller.named.ty(caller.layout.output);
     push(
         text,
-        prefix,
+        caller.named.prefix,
         &[
             Piece::Text("static "),
-            Piece::Type(&caller.layout.output),
+            Piece::Type(output),
             Piece::Text(" "),
             Piece::Name,
             Piece::Text("_f"),
@@ -106,31 +134,85 @@ pub(crate) fn push_function(
         ],
     )?;
     push_arguments(text, caller)?;
-    push(text, prefix, &[Piece::Text(")\n{\n")])?;
+    push(text, caller.named.prefix, &[Piece::Text(")")])?;
+    Ok(())
+}
+
+/// A function's lines, between braces.
+fn push_lines(text: &mut String, caller: Caller<'_>, rows: &[Statement]) -> Result<(), Memory>
+    ensures { IfOk result (λ _. string_bytes text.new
+        ≡ string_bytes text.old ++ lines_text (caller_in caller.entry) rows.now) }
+{
+    push(text, caller.named.prefix, &[Piece::Text("\n{\n")])?;
     push_unused(text, caller)?;
-    push_rows(text, caller, rows.as_slice())?;
-    push(text, prefix, &[Piece::Text("}\n")])
+    push_rows(text, caller, rows)?;
+    push(text, caller.named.prefix, &[Piece::Text("}\n")])?;
+    Ok(())
 }
 
 /// The rows, each of which sets the next register, answers or keeps something.
-fn push_rows(text: &mut String, caller: Caller<'_>, rows: &[Statement]) -> Result<(), Memory> {
-    let mut registers = 0usize;
-    let mut values = caller.layout.values.as_slice().iter();
+fn push_rows(text: &mut String, caller: Caller<'_>, rows: &[Statement]) -> Result<(), Memory>
+    ensures { IfOk result (λ _. string_bytes text.new
+        ≡ string_bytes text.old ++ rows_text (caller_in caller.entry) 0 1 0 rows.now) }
+{
+    let mut register = 1usize;
+    let mut value = 0usize;
     for (row, statement) in rows.iter().enumerate() {
-        match statement {
-            Statement::Set(action) => {
-                registers = registers.saturating_add(1);
-                let ty = values.next().unwrap_or(&caller.layout.output);
-                push_set(text, caller, (row, registers), ty, action)?;
-            }
-            Statement::Exit(guard, action) => {
-                let ty = values.next().unwrap_or(&caller.layout.output);
-                push_exit(text, caller, row, ty, (*guard, action))?;
-            }
-            Statement::Do(effect) => push_effect(text, caller, *effect)?,
-        }
+        push_row(text, caller, (row, register, value), statement)?;
+        register += sets(statement);
+        value += gives(statement);
     }
     Ok(())
+}
+
+/// How many registers a row sets.
+fn sets(statement: &Statement) -> usize
+    ensures value { result ≡ sets statement.now }
+    ensures few { result ≤ 1 }
+{
+    match statement {
+        Statement::Set(_) => 1,
+        Statement::Exit(..) | Statement::Do(_) => 0,
+    }
+}
+
+/// Of how many values a row gives the type.
+fn gives(statement: &Statement) -> usize
+    ensures value { result ≡ gives statement.now }
+    ensures few { result ≤ 1 }
+{
+    match statement {
+        Statement::Set(_) | Statement::Exit(..) => 1,
+        Statement::Do(_) => 0,
+    }
+}
+
+/// A row by its number, with the numbers of the next register and value.
+fn push_row(
+    text: &mut String,
+    caller: Caller<'_>,
+    at: (usize, usize, usize),
+    statement: &Statement,
+) -> Result<(), Memory>
+    ensures { IfOk result (λ _. string_bytes text.new ≡ string_bytes text.old
+        ++ row_text (caller_in caller.entry) at.0 at.1 at.2 statement.now) }
+{
+    match statement {
+        Statement::Set(action) => push_set(text, caller, (at.0, at.1), value_type(caller, at.2), action)?,
+        Statement::Exit(guard, action) => push_exit(text, caller, at.0, value_type(caller, at.2), (*guard, action))?,
+        Statement::Do(effect) => push_effect(text, caller, *effect)?,
+    }
+    Ok(())
+}
+
+/// The type of a row's value.
+fn value_type<'a>(caller: Caller<'a>, k: usize) -> &'a Ty
+    ensures { type_of result.now ≡ value_type (caller_in caller.entry) k }
+{
+    match caller.layout.values.as_slice().get(k) {
+        Some(ty) => caller.named.ty(*ty),
+        None => caller.named.ty(caller.layout.output),
+    }
 }
 
 /// A row that sets a register.
@@ -140,10 +222,12 @@ fn push_set(
     at: (usize, usize),
     ty: &Ty,
     action: &Action,
-) -> Result<(), Memory> {
-    let name = Piece::Reg(at.1);
+) -> Result<(), Memory>
+    ensures { IfOk result (λ _. string_bytes text.new ≡ string_bytes text.old
+        ++ set_text (caller_in caller.entry) at.0 at.1 (type_of ty.now) action.now) }
+{
     let declared = Declared {
-        name,
+        name: Piece::Reg(at.1),
         ty,
         row: at.0,
         indent: "    ",
@@ -152,8 +236,9 @@ fn push_set(
     push(
         text,
         caller.named.prefix,
-        &[Piece::Text("    (void)"), name, Piece::Text(";\n")],
-    )
+        &[Piece::Text("    (void)"), Piece::Reg(at.1), Piece::Text(";\n")],
+    )?;
+    Ok(())
 }
 
 /// A row that answers.
@@ -163,28 +248,44 @@ fn push_exit(
     row: usize,
     ty: &Ty,
     exit: (Guard, &Action),
-) -> Result<(), Memory> {
-    let (guard, action) = exit;
-    let is_always = matches!(guard, Guard::Always);
-    let indent = if is_always { "    " } else { "        " };
-    push_guard(text, caller.named.prefix, guard)?;
+) -> Result<(), Memory>
+    ensures { IfOk result (λ _. string_bytes text.new ≡ string_bytes text.old
+        ++ exit_text (caller_in caller.entry) row (type_of ty.now) exit.0 exit.1.now) }
+{
+    let guarded = is_guarded(exit.0);
+    let indent = exit_indent(guarded);
     let declared = Declared {
         name: Piece::Text("y"),
         ty,
         row,
         indent,
     };
-    push_action(text, caller, declared, action)?;
+    push_guard(text, caller.named.prefix, exit.0)?;
+    push_action(text, caller, declared, exit.1)?;
     push(
         text,
         caller.named.prefix,
         &[Piece::Text(indent), Piece::Text("return y;\n")],
     )?;
-    if is_always {
-        Ok(())
-    } else {
-        push(text, caller.named.prefix, &[Piece::Text("    }\n")])
+    push_if(text, caller.named.prefix, guarded, &[Piece::Text("    }\n")])?;
+    Ok(())
+}
+
+/// Whether a row answers under a condition.
+fn is_guarded(guard: Guard) -> bool
+    ensures { result ≡ is_guarded guard }
+{
+    match guard {
+        Guard::Always => false,
+        Guard::NoEvent(_) | Guard::Taken => true,
     }
+}
+
+/// What stands before the lines of a row that answers.
+fn exit_indent(is_guarded: bool) -> &'static str
+    ensures { result.now ≡ exit_indent is_guarded }
+{
+    if is_guarded { "        " } else { "    " }
 }
 
 /// The functions of the leaves in rows.
@@ -193,14 +294,30 @@ fn push_leaves(
     text: &mut String,
     caller: Caller<'_>,
     rows: &[Statement],
-) -> Result<(), Memory> {
+) -> Result<(), Memory>
+    ensures { IfOk result (λ _. string_bytes text.new
+        ≡ string_bytes text.old ++ leaves_text (caller_in caller.entry) 0 rows.now) }
+{
     for (row, statement) in rows.iter().enumerate() {
-        match statement {
-            Statement::Set(action) | Statement::Exit(_, action) => {
-                push_leaf_of(alloc, text, caller, row, action)?;
-            }
-            Statement::Do(_) => {}
-        }
+        push_leaf_in(alloc, text, caller, row, statement)?;
+    }
+    Ok(())
+}
+
+/// The function of the leaf in a row, if it has one.
+fn push_leaf_in(
+    alloc: Global,
+    text: &mut String,
+    caller: Caller<'_>,
+    row: usize,
+    statement: &Statement,
+) -> Result<(), Memory>
+    ensures { IfOk result (λ _. string_bytes text.new
+        ≡ string_bytes text.old ++ leaf_in_text (caller_in caller.entry) row statement.now) }
+{
+    match statement {
+        Statement::Set(action) | Statement::Exit(_, action) => push_leaf_of(alloc, text, caller, row, action)?,
+        Statement::Do(_) => {}
     }
     Ok(())
 }
@@ -212,20 +329,29 @@ fn push_leaf_of(
     caller: Caller<'_>,
     row: usize,
     action: &Action,
-) -> Result<(), Memory> {
-    match leaf_of(action) {
-        Some(e) => {
-            let input = leaf_input(alloc, caller, action)?;
-            push_leaf_at(
-                alloc,
-                text,
-                caller,
-                (row, matches!(action, Action::Constant(_))),
-                (&input, e),
-            )
+) -> Result<(), Memory>
+    ensures { IfOk result (λ _. string_bytes text.new
+        ≡ string_bytes text.old ++ leaf_of_text (caller_in caller.entry) row action.now) }
+{
+    let input = caller.named.ty(caller.layout.input);
+    match action {
+        Action::Leaf(e, _) => push_leaf_at(alloc, text, caller, (row, false), (input, e))?,
+        Action::Constant(e) => push_leaf_at(alloc, text, caller, (row, true), (&Ty::Unit, e))?,
+        Action::Routed(e, _, _) => {
+            let ty = pair_of(alloc, input, &Ty::Int)?;
+            push_leaf_at(alloc, text, caller, (row, false), (&ty, e))?;
         }
-        None => Ok(()),
+        Action::Accumulate(e, _, _) => {
+            let ty = accumulated_type(alloc, caller.named, caller.layout.kept, input)?;
+            push_leaf_at(alloc, text, caller, (row, false), (&ty, e))?;
+        }
+        Action::Collect(e, _, _) => {
+            let ty = chosen_type(alloc, input)?;
+            push_leaf_at(alloc, text, caller, (row, false), (&ty, e))?;
+        }
+        _ => {}
     }
+    Ok(())
 }
 
 /// The function of a leaf in a row, at an input of a type.
@@ -235,9 +361,12 @@ fn push_leaf_at(
     caller: Caller<'_>,
     at: (usize, bool),
     leaf: (&Ty, &Expr),
-) -> Result<(), Memory> {
-    let params = caller.layout.params.as_slice();
-    let code = compile_expr(alloc, params, leaf.0, leaf.1)?;
+) -> Result<(), Memory>
+    ensures { IfOk result (λ _. string_bytes text.new ≡ string_bytes text.old
+        ++ leaf_text caller.entry.named.prefix.now (leaf_at (caller_in caller.entry) at.0 at.1 (type_of leaf.0.now) leaf.1.now)) }
+{
+    let params = types_of(alloc, caller.named, caller.layout.params.as_slice())?;
+    let code = compile_expr(alloc, params.as_slice(), leaf.0, leaf.1)?;
     push_leaf(
         text,
         caller.named.prefix,
@@ -246,27 +375,48 @@ fn push_leaf_at(
             row: at.0,
             input: leaf.0,
             is_constant: at.1,
-            params,
+            params: params.as_slice(),
             code: &code,
         },
-    )
+    )?;
+    Ok(())
 }
 
-/// The type of a leaf's input.
-fn leaf_input(alloc: Global, caller: Caller<'_>, action: &Action) -> Result<Ty, Memory> {
-    let input = &caller.layout.input;
-    match action {
-        Action::Leaf(..) => input.try_copy(alloc),
-        Action::Routed(..) => pair_of(alloc, input, &Ty::Int),
-        Action::Accumulate(..) => match (&caller.layout.kept, input) {
-            (Some(kept), Ty::Event(value)) => pair_of(alloc, kept, value.get()),
-            _ => Ok(Ty::Unit),
-        },
-        Action::Collect(..) => match input {
-            Ty::Pair(_, event) => match event.get() {
-                Ty::Event(value) => value.get().try_copy(alloc),
-                _ => Ok(Ty::Unit),
-            },
+/// The types of these numbers.
+fn types_of(alloc: Global, named: Named<'_>, numbers: &[usize]) -> Result<Vec<Ty>, Memory>
+    ensures { IfOk result (λ types. map type_of types.items ≡ map (type_at (named_in named.entry)) numbers.now) }
+{
+    let mut types = Vec::new(alloc);
+    for number in numbers {
+        let ty = named.ty(*number).try_copy(alloc)?;
+        types.push(ty)?;
+    }
+    Ok(types)
+}
+
+/// The type of what an `accumBy` runs its expression at.
+fn accumulated_type(
+    alloc: Global,
+    named: Named<'_>,
+    kept: Option<usize>,
+    input: &Ty,
+) -> Result<Ty, Memory>
+    ensures { IfOk result (λ ty. type_of ty
+        ≡ accumulated_type (type_in (named_in named.entry) kept) (type_of input.now)) }
+{
+    match (kept, input) {
+        (Some(kept), Ty::Event(value)) => pair_of(alloc, named.ty(kept), value.get()),
+        _ => Ok(Ty::Unit),
+    }
+}
+
+/// The type of what a collection runs its expression at.
+fn chosen_type(alloc: Global, input: &Ty) -> Result<Ty, Memory>
+    ensures { IfOk result (λ ty. type_of ty ≡ chosen_type (type_of input.now)) }
+{
+    match input {
+        Ty::Pair(_, event) => match event.get() {
+            Ty::Event(value) => value.get().try_copy(alloc),
             _ => Ok(Ty::Unit),
         },
         _ => Ok(Ty::Unit),
@@ -274,7 +424,9 @@ fn leaf_input(alloc: Global, caller: Caller<'_>, action: &Action) -> Result<Ty, 
 }
 
 /// The type of pairs of two types.
-fn pair_of(alloc: Global, first: &Ty, second: &Ty) -> Result<Ty, Memory> {
+fn pair_of(alloc: Global, first: &Ty, second: &Ty) -> Result<Ty, Memory>
+    ensures { IfOk result (λ ty. type_of ty ≡ pair_ty (type_of first.now) (type_of second.now)) }
+{
     let first = TyChild::new(alloc, first.try_copy(alloc)?)?;
     let second = TyChild::new(alloc, second.try_copy(alloc)?)?;
     Ok(Ty::Pair(first, second))

@@ -1,56 +1,76 @@
 // The C of what functions keep: a struct each.
 
-use crate::piece::{Piece, push};
+ghost use Rattle.std.specs.Prelude.{◌≡◌, ◌++◌, IfOk, string_bytes};
+ghost use Rattle.code_text.specs.Piece.{pieces_text};
+ghost use Rattle.code_text.specs.ScopeText.{caller_in};
+ghost use Rattle.code_text.specs.KeptText.{cell_fields, collection_fields, counted_fields, fields_of, freezing_fields, frozen_fields, k_switch_fields, kept_rows, loop_fields, member_field, member_fields, members_rows, own_field, p_switch_fields, part_field, queue_fields, stores_field, stores_rows, struct_head, switch_fields, taken_fields, turn_rows};
+
+use crate::piece::{Piece, push, push_if};
 use crate::row::keeps_any;
-use crate::scope::{Caller, members_of};
+use crate::scope::Caller;
 use cell_core::Form;
 use net_code::Function;
-use sample_core::{Memory, Ty};
+use sample_core::Memory;
 
 /// The structs of a function that keeps something.
-pub(crate) fn push_kept(text: &mut String, caller: Caller<'_>) -> Result<(), Memory> {
-    if !caller.layout.keeps {
-        return Ok(());
+pub(crate) fn push_kept(text: &mut String, caller: Caller<'_>) -> Result<(), Memory>
+    ensures { IfOk result (λ _. string_bytes text.new ≡ string_bytes text.old
+        ++ pieces_text caller.entry.named.prefix.now (kept_rows (caller_in caller.entry))) }
+{
+    if caller.layout.keeps {
+        push_members(text, caller)?;
+        push_struct(text, caller, "_s")?;
+        push_fields(text, caller)?;
+        push(text, caller.named.prefix, &[Piece::Text("};\n")])?;
     }
-    push_members(text, caller)?;
-    push(
-        text,
-        caller.named.prefix,
-        &[
-            Piece::Text("struct "),
-            Piece::Name,
-            Piece::Text("_s"),
-            Piece::Number(caller.number),
-            Piece::Text(" {\n"),
-        ],
-    )?;
-    push_fields(text, caller)?;
-    push(text, caller.named.prefix, &[Piece::Text("};\n")])
+    Ok(())
 }
 
-/// The struct of what members keep, or of a member of a collection.
-fn push_members(text: &mut String, caller: Caller<'_>) -> Result<(), Memory> {
-    let prefix = caller.named.prefix;
+/// A struct that a function's own has in it.
+fn push_members(text: &mut String, caller: Caller<'_>) -> Result<(), Memory>
+    ensures { IfOk result (λ _. string_bytes text.new ≡ string_bytes text.old
+        ++ pieces_text caller.entry.named.prefix.now (members_rows (caller_in caller.entry) caller.entry.function.now)) }
+{
     match caller.function {
-        Function::Par(fs) | Function::PSwitch(_, fs, _, _) if keeps_any(caller, fs.as_slice()) => {
-            push_struct(text, caller, "_w")?;
-            push_each(text, caller)?;
-            push(text, prefix, &[Piece::Text("};\n")])
-        }
-        Function::Collection(_, _, t) => {
-            push_struct(text, caller, "_m")?;
-            push(text, prefix, &[Piece::Text("    uint32_t origin;\n")])?;
-            push_by(text, caller, "by;\n")?;
-            push_each(text, caller)?;
-            push_part(text, caller, *t, "taker")?;
-            push(text, prefix, &[Piece::Text("};\n")])
-        }
-        _ => Ok(()),
+        Function::Par(fs) | Function::PSwitch(_, fs, _, _) => push_stores(text, caller, fs.as_slice())?,
+        Function::Collection(fs, _, t) => push_turn(text, caller, fs.as_slice(), *t)?,
+        _ => {}
     }
+    Ok(())
 }
 
-/// The beginning of a struct.
-fn push_struct(text: &mut String, caller: Caller<'_>, kind: &str) -> Result<(), Memory> {
+/// The struct of what members keep, if they keep anything.
+fn push_stores(text: &mut String, caller: Caller<'_>, members: &[usize]) -> Result<(), Memory>
+    ensures { IfOk result (λ _. string_bytes text.new ≡ string_bytes text.old
+        ++ pieces_text caller.entry.named.prefix.now (stores_rows (caller_in caller.entry) members.now)) }
+{
+    if keeps_any(caller.named, members) {
+        push_struct(text, caller, "_w")?;
+        push_each(text, caller, members)?;
+        push(text, caller.named.prefix, &[Piece::Text("};\n")])?;
+    }
+    Ok(())
+}
+
+/// The struct of a member of a collection.
+fn push_turn(text: &mut String, caller: Caller<'_>, members: &[usize], t: usize) -> Result<(), Memory>
+    ensures { IfOk result (λ _. string_bytes text.new ≡ string_bytes text.old
+        ++ pieces_text caller.entry.named.prefix.now (turn_rows (caller_in caller.entry) members.now t)) }
+{
+    push_struct(text, caller, "_m")?;
+    push(text, caller.named.prefix, &[Piece::Text("    uint32_t origin;\n")])?;
+    push_own(text, caller, "by;\n")?;
+    push_each(text, caller, members)?;
+    push_part(text, caller, t, "taker")?;
+    push(text, caller.named.prefix, &[Piece::Text("};\n")])?;
+    Ok(())
+}
+
+/// The beginning of a struct of the function.
+fn push_struct(text: &mut String, caller: Caller<'_>, kind: &str) -> Result<(), Memory>
+    ensures { IfOk result (λ _. string_bytes text.new ≡ string_bytes text.old
+        ++ pieces_text caller.entry.named.prefix.now (struct_head (caller_in caller.entry) kind.now)) }
+{
     push(
         text,
         caller.named.prefix,
@@ -61,39 +81,54 @@ fn push_struct(text: &mut String, caller: Caller<'_>, kind: &str) -> Result<(), 
             Piece::Number(caller.number),
             Piece::Text(" {\n"),
         ],
-    )
+    )?;
+    Ok(())
 }
 
 /// What each member keeps, which keeps something.
-fn push_each(text: &mut String, caller: Caller<'_>) -> Result<(), Memory> {
-    for (i, member) in members_of(caller.function).iter().enumerate() {
-        if caller.named.keeps(*member) {
-            push(
-                text,
-                caller.named.prefix,
-                &[
-                    Piece::Text("    struct "),
-                    Piece::Name,
-                    Piece::Text("_s"),
-                    Piece::Number(*member),
-                    Piece::Text(" m"),
-                    Piece::Number(i),
-                    Piece::Text(";\n"),
-                ],
-            )?;
-        }
+fn push_each(text: &mut String, caller: Caller<'_>, members: &[usize]) -> Result<(), Memory>
+    ensures { IfOk result (λ _. string_bytes text.new ≡ string_bytes text.old
+        ++ pieces_text caller.entry.named.prefix.now (member_fields (caller_in caller.entry) 0 members.now)) }
+{
+    for (i, member) in members.iter().enumerate() {
+        push_member(text, caller, i, *member)?;
     }
     Ok(())
 }
 
-/// A field for what a called function keeps, if it keeps something.
-fn push_part(text: &mut String, caller: Caller<'_>, k: usize, field: &str) -> Result<(), Memory> {
-    if !caller.named.keeps(k) {
-        return Ok(());
-    }
-    push(
+/// What member i keeps, if it keeps something.
+fn push_member(text: &mut String, caller: Caller<'_>, i: usize, member: usize) -> Result<(), Memory>
+    ensures { IfOk result (λ _. string_bytes text.new ≡ string_bytes text.old
+        ++ pieces_text caller.entry.named.prefix.now (member_field (caller_in caller.entry) i member)) }
+{
+    let keeps = caller.named.keeps(member);
+    push_if(
         text,
         caller.named.prefix,
+        keeps,
+        &[
+            Piece::Text("    struct "),
+            Piece::Name,
+            Piece::Text("_s"),
+            Piece::Number(member),
+            Piece::Text(" m"),
+            Piece::Number(i),
+            Piece::Text(";\n"),
+        ],
+    )?;
+    Ok(())
+}
+
+/// What a called function keeps, if it keeps something.
+fn push_part(text: &mut String, caller: Caller<'_>, k: usize, field: &str) -> Result<(), Memory>
+    ensures { IfOk result (λ _. string_bytes text.new ≡ string_bytes text.old
+        ++ pieces_text caller.entry.named.prefix.now (part_field (caller_in caller.entry) k field.now)) }
+{
+    let keeps = caller.named.keeps(k);
+    push_if(
+        text,
+        caller.named.prefix,
+        keeps,
         &[
             Piece::Text("    struct "),
             Piece::Name,
@@ -103,98 +138,77 @@ fn push_part(text: &mut String, caller: Caller<'_>, k: usize, field: &str) -> Re
             Piece::Text(field),
             Piece::Text(";\n"),
         ],
-    )
-}
-
-/// A field of the type of the value that the function keeps itself.
-fn push_by(text: &mut String, caller: Caller<'_>, field: &str) -> Result<(), Memory> {
-    match &caller.layout.kept {
-        Some(ty) => push_field(text, caller, ty, field),
-        None => Ok(()),
-    }
-}
-
-/// A field of a type.
-fn push_field(text: &mut String, caller: Caller<'_>, ty: &Ty, field: &str) -> Result<(), Memory> {
-    push(
-        text,
-        caller.named.prefix,
-        &[
-            Piece::Text("    "),
-            Piece::Type(ty),
-            Piece::Text(" "),
-            Piece::Text(field),
-        ],
-    )
-}
-
-/// A line.
-fn push_line(text: &mut String, line: &str) -> Result<(), Memory> {
-    text.push_str(line)?;
+    )?;
     Ok(())
 }
 
-/// The fields of a function.
-fn push_fields(text: &mut String, caller: Caller<'_>) -> Result<(), Memory> {
-    match caller.function {
-        Function::Seq(f, g) => {
-            push_part(text, caller, *f, "one")?;
-            push_part(text, caller, *g, "other")
+/// The value that the function keeps itself, if there is one.
+fn push_own(text: &mut String, caller: Caller<'_>, field: &str) -> Result<(), Memory>
+    ensures { IfOk result (λ _. string_bytes text.new ≡ string_bytes text.old
+        ++ pieces_text caller.entry.named.prefix.now (own_field (caller_in caller.entry) field.now)) }
+{
+    match caller.layout.kept {
+        Some(k) => {
+            let ty = caller.named.ty(k);
+            push(
+                text,
+                caller.named.prefix,
+                &[Piece::Text("    "), Piece::Type(ty), Piece::Text(" "), Piece::Text(field)],
+            )?;
         }
+        None => {}
+    }
+    Ok(())
+}
+
+/// What a function keeps.
+fn push_fields(text: &mut String, caller: Caller<'_>) -> Result<(), Memory>
+    ensures { IfOk result (λ _. string_bytes text.new ≡ string_bytes text.old
+        ++ pieces_text caller.entry.named.prefix.now (fields_of (caller_in caller.entry) caller.entry.function.now)) }
+{
+    match caller.function {
+        Function::Arr(_) | Function::Same => {}
+        Function::Seq(f, g) => push_parts(text, caller, (*f, "one"), (*g, "other"))?,
         Function::First(f)
         | Function::InitialOut(_, f)
         | Function::InitialIn(_, f)
-        | Function::Old(_, f, _, _) => push_part(text, caller, *f, "all"),
-        Function::Par(_) => push_stores(text, caller, "all;\n"),
-        Function::Loop(_, f) => {
-            push_by(text, caller, "fed;\n")?;
-            push_part(text, caller, *f, "looped")
-        }
-        Function::Cell(form, _) | Function::Clock(form) => push_cell(text, caller, *form),
-        Function::Accum(_, _) => push_by(text, caller, "value;\n"),
+        | Function::Old(_, f, _, _) => push_part(text, caller, *f, "all")?,
+        Function::Par(_) => push_store(text, caller, "all;\n")?,
+        Function::Loop(_, f) => push_loop(text, caller, *f)?,
+        Function::Cell(form, _) | Function::Clock(form) => push_cell(text, caller, *form)?,
+        Function::Accum(_, _) => push_own(text, caller, "value;\n")?,
         Function::Switch(f, t)
         | Function::DSwitch(f, t)
         | Function::RSwitch(f, t)
-        | Function::DrSwitch(f, t) => {
-            push_taken(text, caller)?;
-            push_part(text, caller, *f, "front")?;
-            push_part(text, caller, *t, "taker")
-        }
-        Function::KSwitch(f, e, t) => {
-            push_taken(text, caller)?;
-            push_line(text, "    int64_t frozen_at;\n")?;
-            push_part(text, caller, *f, "watched")?;
-            push_part(text, caller, *f, "frozen")?;
-            push_part(text, caller, *e, "watcher")?;
-            push_part(text, caller, *t, "resumer")
-        }
-        Function::PSwitch(_, fs, e, t) => {
-            push_taken(text, caller)?;
-            push_line(text, "    int64_t frozen_at;\n")?;
-            if keeps_any(caller, fs.as_slice()) {
-                push_stores(text, caller, "watched;\n")?;
-                push_stores(text, caller, "frozen;\n")?;
-            }
-            push_part(text, caller, *e, "watcher")?;
-            push_part(text, caller, *t, "resumer")
-        }
-        Function::Collection(..) => push(
-            text,
-            caller.named.prefix,
-            &[
-                Piece::Text("    uint32_t count;\n    uint32_t side;\n    struct "),
-                Piece::Name,
-                Piece::Text("_m"),
-                Piece::Number(caller.number),
-                Piece::Text(" m[2][64];\n"),
-            ],
-        ),
-        Function::Arr(_) | Function::Same => Ok(()),
+        | Function::DrSwitch(f, t) => push_switch(text, caller, *f, *t)?,
+        Function::KSwitch(f, e, t) => push_k_switch(text, caller, (*f, *e, *t))?,
+        Function::PSwitch(_, fs, e, t) => push_p_switch(text, caller, fs.as_slice(), *e, *t)?,
+        Function::Collection(..) => push_collection(text, caller)?,
     }
+    Ok(())
 }
 
-/// What members keep.
-fn push_stores(text: &mut String, caller: Caller<'_>, field: &str) -> Result<(), Memory> {
+/// Two called functions.
+fn push_parts(
+    text: &mut String,
+    caller: Caller<'_>,
+    one: (usize, &str),
+    other: (usize, &str),
+) -> Result<(), Memory>
+    ensures { IfOk result (λ _. string_bytes text.new ≡ string_bytes text.old
+        ++ pieces_text caller.entry.named.prefix.now
+        (part_field (caller_in caller.entry) one.0 one.1.now ++ part_field (caller_in caller.entry) other.0 other.1.now)) }
+{
+    push_part(text, caller, one.0, one.1)?;
+    push_part(text, caller, other.0, other.1)?;
+    Ok(())
+}
+
+/// What members keep, in one field.
+fn push_store(text: &mut String, caller: Caller<'_>, field: &str) -> Result<(), Memory>
+    ensures { IfOk result (λ _. string_bytes text.new ≡ string_bytes text.old
+        ++ pieces_text caller.entry.named.prefix.now (stores_field (caller_in caller.entry) field.now)) }
+{
     push(
         text,
         caller.named.prefix,
@@ -206,50 +220,156 @@ fn push_stores(text: &mut String, caller: Caller<'_>, field: &str) -> Result<(),
             Piece::Text(" "),
             Piece::Text(field),
         ],
-    )
+    )?;
+    Ok(())
+}
+
+/// What is fed back, and the function in the loop.
+fn push_loop(text: &mut String, caller: Caller<'_>, f: usize) -> Result<(), Memory>
+    ensures { IfOk result (λ _. string_bytes text.new ≡ string_bytes text.old
+        ++ pieces_text caller.entry.named.prefix.now (loop_fields (caller_in caller.entry) f)) }
+{
+    push_own(text, caller, "fed;\n")?;
+    push_part(text, caller, f, "looped")?;
+    Ok(())
 }
 
 /// Whether something has taken over, and by which value.
-fn push_taken(text: &mut String, caller: Caller<'_>) -> Result<(), Memory> {
-    push_line(text, "    bool taken;\n")?;
-    push_by(text, caller, "by;\n")
+fn push_taken(text: &mut String, caller: Caller<'_>) -> Result<(), Memory>
+    ensures { IfOk result (λ _. string_bytes text.new ≡ string_bytes text.old
+        ++ pieces_text caller.entry.named.prefix.now (taken_fields (caller_in caller.entry))) }
+{
+    push(text, caller.named.prefix, &[Piece::Text("    bool taken;\n")])?;
+    push_own(text, caller, "by;\n")?;
+    Ok(())
+}
+
+/// A switch of f into t.
+fn push_switch(text: &mut String, caller: Caller<'_>, f: usize, t: usize) -> Result<(), Memory>
+    ensures { IfOk result (λ _. string_bytes text.new ≡ string_bytes text.old
+        ++ pieces_text caller.entry.named.prefix.now (switch_fields (caller_in caller.entry) f t)) }
+{
+    push_taken(text, caller)?;
+    push_parts(text, caller, (f, "front"), (t, "taker"))?;
+    Ok(())
+}
+
+/// A switch of f into t, which freezes f, with the watcher e.
+fn push_k_switch(text: &mut String, caller: Caller<'_>, all: (usize, usize, usize)) -> Result<(), Memory>
+    ensures { IfOk result (λ _. string_bytes text.new ≡ string_bytes text.old
+        ++ pieces_text caller.entry.named.prefix.now (k_switch_fields (caller_in caller.entry) all.0 all.1 all.2)) }
+{
+    push_freezing(text, caller)?;
+    push_parts(text, caller, (all.0, "watched"), (all.0, "frozen"))?;
+    push_parts(text, caller, (all.1, "watcher"), (all.2, "resumer"))?;
+    Ok(())
+}
+
+/// A switch of members into t, which freezes them, with the watcher e.
+fn push_p_switch(
+    text: &mut String,
+    caller: Caller<'_>,
+    members: &[usize],
+    e: usize,
+    t: usize,
+) -> Result<(), Memory>
+    ensures { IfOk result (λ _. string_bytes text.new ≡ string_bytes text.old
+        ++ pieces_text caller.entry.named.prefix.now (p_switch_fields (caller_in caller.entry) members.now e t)) }
+{
+    push_freezing(text, caller)?;
+    push_frozen(text, caller, members)?;
+    push_parts(text, caller, (e, "watcher"), (t, "resumer"))?;
+    Ok(())
+}
+
+/// Whether something has taken over, by which value, and when something was frozen.
+fn push_freezing(text: &mut String, caller: Caller<'_>) -> Result<(), Memory>
+    ensures { IfOk result (λ _. string_bytes text.new ≡ string_bytes text.old
+        ++ pieces_text caller.entry.named.prefix.now (freezing_fields (caller_in caller.entry))) }
+{
+    push_taken(text, caller)?;
+    push(text, caller.named.prefix, &[Piece::Text("    int64_t frozen_at;\n")])?;
+    Ok(())
+}
+
+/// What watched members keep, and what they kept when they were frozen, if they keep anything.
+fn push_frozen(text: &mut String, caller: Caller<'_>, members: &[usize]) -> Result<(), Memory>
+    ensures { IfOk result (λ _. string_bytes text.new ≡ string_bytes text.old
+        ++ pieces_text caller.entry.named.prefix.now (frozen_fields (caller_in caller.entry) members.now)) }
+{
+    if keeps_any(caller.named, members) {
+        push_store(text, caller, "watched;\n")?;
+        push_store(text, caller, "frozen;\n")?;
+    }
+    Ok(())
+}
+
+/// A collection: its members, on one of two sides.
+fn push_collection(text: &mut String, caller: Caller<'_>) -> Result<(), Memory>
+    ensures { IfOk result (λ _. string_bytes text.new ≡ string_bytes text.old
+        ++ pieces_text caller.entry.named.prefix.now (collection_fields (caller_in caller.entry))) }
+{
+    push(
+        text,
+        caller.named.prefix,
+        &[
+            Piece::Text("    uint32_t count;\n    uint32_t side;\n    struct "),
+            Piece::Name,
+            Piece::Text("_m"),
+            Piece::Number(caller.number),
+            Piece::Text(" m[2][64];\n"),
+        ],
+    )?;
+    Ok(())
 }
 
 /// What a cell keeps.
-fn push_cell(text: &mut String, caller: Caller<'_>, form: Form) -> Result<(), Memory> {
+fn push_cell(text: &mut String, caller: Caller<'_>, form: Form) -> Result<(), Memory>
+    ensures { IfOk result (λ _. string_bytes text.new ≡ string_bytes text.old
+        ++ pieces_text caller.entry.named.prefix.now (cell_fields (caller_in caller.entry) form)) }
+{
     match form {
-        Form::IPre | Form::Hold | Form::AccumBy => push_by(text, caller, "value;\n"),
-        Form::After(_) => {
-            push_line(text, "    bool over;\n    int64_t left;\n")?;
-            push_by(text, caller, "value;\n")
-        }
-        Form::Repeatedly(_) => {
-            push_line(text, "    int64_t left;\n")?;
-            push_by(text, caller, "value;\n")
-        }
-        Form::Time => push_line(text, "    int64_t time;\n"),
-        Form::Integral => push_line(text, "    int64_t sum;\n    int64_t before;\n"),
-        Form::Delay(q) => {
-            push_line(
-                text,
-                "    uint64_t now;\n    uint32_t head;\n    uint32_t size;\n",
-            )?;
-            push_by(text, caller, "out;\n")?;
-            push(
-                text,
-                caller.named.prefix,
-                &[
-                    Piece::Text("    uint64_t at["),
-                    Piece::Number(q as usize),
-                    Piece::Text("];\n"),
-                ],
-            )?;
-            push_by(text, caller, "value[")?;
-            push(
-                text,
-                caller.named.prefix,
-                &[Piece::Number(q as usize), Piece::Text("];\n")],
-            )
-        }
+        Form::IPre | Form::Hold | Form::AccumBy => push_own(text, caller, "value;\n")?,
+        Form::After(_) => push_counted(text, caller, "    bool over;\n    int64_t left;\n")?,
+        Form::Repeatedly(_) => push_counted(text, caller, "    int64_t left;\n")?,
+        Form::Time => push(text, caller.named.prefix, &[Piece::Text("    int64_t time;\n")])?,
+        Form::Integral => push(
+            text,
+            caller.named.prefix,
+            &[Piece::Text("    int64_t sum;\n    int64_t before;\n")],
+        )?,
+        Form::Delay(q) => push_queue(text, caller, q as usize)?,
     }
+    Ok(())
+}
+
+/// What a cell counts, and its value.
+fn push_counted(text: &mut String, caller: Caller<'_>, counts: &str) -> Result<(), Memory>
+    ensures { IfOk result (λ _. string_bytes text.new ≡ string_bytes text.old
+        ++ pieces_text caller.entry.named.prefix.now (counted_fields (caller_in caller.entry) counts.now)) }
+{
+    push(text, caller.named.prefix, &[Piece::Text(counts)])?;
+    push_own(text, caller, "value;\n")?;
+    Ok(())
+}
+
+/// A queue with room for q values.
+fn push_queue(text: &mut String, caller: Caller<'_>, q: usize) -> Result<(), Memory>
+    ensures { IfOk result (λ _. string_bytes text.new ≡ string_bytes text.old
+        ++ pieces_text caller.entry.named.prefix.now (queue_fields (caller_in caller.entry) q)) }
+{
+    push(
+        text,
+        caller.named.prefix,
+        &[Piece::Text("    uint64_t now;\n    uint32_t head;\n    uint32_t size;\n")],
+    )?;
+    push_own(text, caller, "out;\n")?;
+    push(
+        text,
+        caller.named.prefix,
+        &[Piece::Text("    uint64_t at["), Piece::Number(q), Piece::Text("];\n")],
+    )?;
+    push_own(text, caller, "value[")?;
+    push(text, caller.named.prefix, &[Piece::Number(q), Piece::Text("];\n")])?;
+    Ok(())
 }
