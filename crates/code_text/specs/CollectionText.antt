@@ -86,13 +86,17 @@ module _ (c : Caller) (d : Declared) where
       (record { function = f; part = part; moment = codes "at"; input = text (codes "&") ∷ reg k ∷ text (codes ".a") ∷ []; scope = scope; by = codes "&m->by" })
       ++ pieces_text c.named.prefix (text (codes "; break;\n") ∷ []))
 
+  -- that of the written member i, function f
+  abbrev pub case_text : ℕ → ℕ → ℕ → List ℕ
+  case_text k i f =
+      pieces_text c.named.prefix
+      (d.indent ∷ text (codes "    case ") ∷ number i ∷ text (codes ": ") ∷ [])
+      ++ turn_text f (text (codes "&m->m") ∷ number i ∷ []) C.Same k
+
   -- those of the written members, from number i on
   abbrev pub cases_text : ℕ → ℕ → List ℕ → List ℕ
   cases_text k i [] = []
-  cases_text k i (f ∷ fs) =
-      pieces_text c.named.prefix
-      (d.indent ∷ text (codes "    case ") ∷ number i ∷ text (codes ": ") ∷ [])
-      ++ (turn_text f (text (codes "&m->m") ∷ number i ∷ []) C.Same k ++ cases_text k (suc i) fs)
+  cases_text k i (f ∷ fs) = case_text k i f ++ cases_text k (suc i) fs
 
   -- each member answers: those that start now at the moment 0
   abbrev pub turns_head : List Piece

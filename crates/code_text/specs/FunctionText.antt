@@ -58,9 +58,10 @@ word_of (F.InitialIn e f) = codes ">--"
 word_of (F.Collection fs e t) = codes "rpSwitchB"
 
 -- the numbers of a position
-abbrev pub position_rows : List ℕ → List Piece
-position_rows [] = []
-position_rows (k ∷ ks) = text (codes " ") ∷ number k ∷ position_rows ks
+abbrev pub position_text : List ℕ → List ℕ → List ℕ
+position_text P [] = []
+position_text P (k ∷ ks) =
+    pieces_text P (text (codes " ") ∷ number k ∷ []) ++ position_text P ks
 
 -- the type of what an `accumBy` runs its expression at: what is accumulated, and what an event
 -- carries
@@ -107,12 +108,14 @@ module _ (c : Caller) where
   value_type n = type_at c.named (get_or c.layout.values.items n c.layout.output)
 
   -- what stands above a function's struct and its lines
-  abbrev pub comment_rows : List Piece
-  comment_rows =
-      text (codes "/* ") ∷ text (word_of c.function) ∷ text (codes " at (at")
-      ∷ position_rows c.layout.position.items
-      ++ text (codes "): ") ∷ spelt input_type ∷ text (codes " -> ") ∷ spelt output_type
-      ∷ text (codes " */\n") ∷ []
+  abbrev pub comment_text : List ℕ
+  comment_text =
+      pieces_text c.named.prefix
+      (text (codes "/* ") ∷ text (word_of c.function) ∷ text (codes " at (at") ∷ [])
+      ++ (position_text c.named.prefix c.layout.position.items
+      ++ pieces_text c.named.prefix
+      (text (codes "): ") ∷ spelt input_type ∷ text (codes " -> ") ∷ spelt output_type
+      ∷ text (codes " */\n") ∷ []))
 
   -- the leaf in row i, an expression at an input of type A
   abbrev pub leaf_at : ℕ → Bool → TypeTree → Expr → Leaf
@@ -191,5 +194,5 @@ module _ (c : Caller) where
   abbrev pub function_text : List ℕ
   function_text =
       pieces_text c.named.prefix (text (codes "\n") ∷ [])
-      ++ (pieces_text c.named.prefix comment_rows
+      ++ (comment_text
       ++ (leaves_text 0 (rows_of c.function) ++ (head_text ++ lines_text (rows_of c.function))))

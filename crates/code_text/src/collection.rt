@@ -2,8 +2,8 @@
 
 ghost use Rattle.std.specs.Prelude.{◌≡◌, ◌++◌, IfOk, map, string_bytes};
 ghost use Rattle.code_text.specs.{Piece.pieces_text, PieceView.piece_of};
-ghost use Rattle.code_text.specs.{CellText.declared_in, ScopeText.caller_in, ScopeText.members};
-ghost use Rattle.code_text.specs.CollectionText.{beginning_text, cases_text, choice_text, chosen_rows, collection_text, kept_type, letters_row, turn_text, turns_head, turns_text, written_text};
+ghost use Rattle.code_text.specs.{CellText.declared_in, ScopeText.caller_in};
+ghost use Rattle.code_text.specs.CollectionText.{beginning_text, case_text, cases_text, choice_text, chosen_rows, collection_text, kept_type, letters_row, turn_text, turns_head, turns_text, written_text};
 
 use crate::declared::Declared;
 use crate::piece::{Piece, push};
@@ -39,7 +39,8 @@ fn push_beginning(
     ensures { IfOk result (λ _. string_bytes text.new
         ≡ string_bytes text.old ++ beginning_text (caller_in caller.entry) (declared_in declared.entry)) }
 {
-    let count = members_of(caller.function).len();
+    let members = members_of(caller.function);
+    let count = members.len();
     push(
         text,
         caller.named.prefix,
@@ -141,7 +142,8 @@ fn push_chosen(text: &mut String, caller: Caller<'_>, declared: Declared<'_>) ->
         ++ pieces_text caller.entry.named.prefix.now (chosen_rows (caller_in caller.entry) (declared_in declared.entry))) }
 {
     let indent = Piece::Text(declared.indent);
-    let count = members_of(caller.function).len();
+    let members = members_of(caller.function);
+    let count = members.len();
     push(
         text,
         caller.named.prefix,
@@ -201,25 +203,24 @@ fn push_turns(
     ensures { IfOk result (λ _. string_bytes text.new ≡ string_bytes text.old
         ++ turns_text (caller_in caller.entry) (declared_in declared.entry) t k) }
 {
-    let indent = Piece::Text(declared.indent);
+    let members = members_of(caller.function);
     push_turns_head(text, caller, declared)?;
-    push_cases(text, caller, declared, k)?;
+    push_cases(text, caller, declared, members, k)?;
     push(
         text,
         caller.named.prefix,
-        &[indent, Piece::Text("    default: ")],
+        &[Piece::Text(declared.indent), Piece::Text("    default: ")],
     )?;
-    push_turn(
-        text,
-        caller,
-        declared,
-        (t, &[Piece::Text("&m->taker")]),
-        (k, Scope::Value),
-    )?;
+    push_answer(text, caller, declared, t, &[Piece::Text("&m->taker")], (k, Scope::Value))?;
     push(
         text,
         caller.named.prefix,
-        &[indent, Piece::Text("    }\n"), indent, Piece::Text("}\n")],
+        &[
+            Piece::Text(declared.indent),
+            Piece::Text("    }\n"),
+            Piece::Text(declared.indent),
+            Piece::Text("}\n"),
+        ],
     )?;
     Ok(())
 }
@@ -263,55 +264,63 @@ fn push_cases(
     text: &mut String,
     caller: Caller<'_>,
     declared: Declared<'_>,
+    members: &[usize],
     k: usize,
 ) -> Result<(), Memory>
     ensures { IfOk result (λ _. string_bytes text.new ≡ string_bytes text.old
-        ++ cases_text (caller_in caller.entry) (declared_in declared.entry) k 0 (members (caller_in caller.entry).function)) }
+        ++ cases_text (caller_in caller.entry) (declared_in declared.entry) k 0 members.now) }
 {
-    for (i, member) in members_of(caller.function).iter().enumerate() {
-        push(
-            text,
-            caller.named.prefix,
-            &[
-                Piece::Text(declared.indent),
-                Piece::Text("    case "),
-                Piece::Number(i),
-                Piece::Text(": "),
-            ],
-        )?;
-        push_turn(
-            text,
-            caller,
-            declared,
-            (*member, &[Piece::Text("&m->m"), Piece::Number(i)]),
-            (k, Scope::Same),
-        )?;
+    for (i, member) in members.iter().enumerate() {
+        push_case(text, caller, declared, (i, *member), k)?;
     }
     Ok(())
 }
 
-/// The answer of one member: its function and its part, at the left of a register.
-fn push_turn(
+/// The answer of a written member, by its number and its function.
+fn push_case(
     text: &mut String,
     caller: Caller<'_>,
     declared: Declared<'_>,
-    member: (usize, &[Piece<'_>]),
-    at: (usize, Scope),
+    member: (usize, usize),
+    k: usize,
 ) -> Result<(), Memory>
     ensures { IfOk result (λ _. string_bytes text.new ≡ string_bytes text.old
-        ++ turn_text (caller_in caller.entry) (declared_in declared.entry) member.entry.0 (map piece_of member.entry.1.now) at.1 at.0) }
+        ++ case_text (caller_in caller.entry) (declared_in declared.entry) k member.0 member.1) }
 {
     push(
         text,
         caller.named.prefix,
-        &[declared.name, Piece::Text(".e[i] = ")],
+        &[
+            Piece::Text(declared.indent),
+            Piece::Text("    case "),
+            Piece::Number(member.0),
+            Piece::Text(": "),
+        ],
     )?;
+    let part = [Piece::Text("&m->m"), Piece::Number(member.0)];
+    push_answer(text, caller, declared, member.1, &part, (k, Scope::Same))?;
+    Ok(())
+}
+
+/// The answer of a function on its part, at the left of a register.
+fn push_answer(
+    text: &mut String,
+    caller: Caller<'_>,
+    declared: Declared<'_>,
+    f: usize,
+    part: &[Piece<'_>],
+    at: (usize, Scope),
+) -> Result<(), Memory>
+    ensures { IfOk result (λ _. string_bytes text.new ≡ string_bytes text.old
+        ++ turn_text (caller_in caller.entry) (declared_in declared.entry) f (map piece_of part.now) at.1 at.0) }
+{
+    push(text, caller.named.prefix, &[declared.name, Piece::Text(".e[i] = ")])?;
     push_call(
         text,
         caller,
         Call {
-            function: member.0,
-            part: member.1,
+            function: f,
+            part,
             moment: "at",
             input: &[Piece::Text("&"), Piece::Reg(at.0), Piece::Text(".a")],
             scope: at.1,

@@ -3,10 +3,10 @@
 ghost use Rattle.std.specs.Prelude.{◌≡◌, ◌≤◌, ◌++◌, IfOk, map, string_bytes};
 ghost use Rattle.sample_core.specs.{TypeTree.pair_ty, TypeView.type_of};
 ghost use Rattle.net_code.specs.CodeView.{rows_of};
-ghost use Rattle.code_text.specs.{Piece.pieces_text, ScopeText.caller_in, ScopeText.named_in, ScopeText.type_at};
+ghost use Rattle.code_text.specs.{ScopeText.caller_in, ScopeText.named_in, ScopeText.type_at};
 ghost use Rattle.code_text.specs.LeafText.{leaf_text};
 ghost use Rattle.code_text.specs.CollectionText.{type_in};
-ghost use Rattle.code_text.specs.FunctionText.{accumulated_type, cell_word, chosen_type, comment_rows, exit_indent, exit_text, function_text, gives, head_text, is_guarded, leaf_at, leaf_in_text, leaf_of_text, leaves_text, lines_text, position_rows, row_text, rows_text, set_text, sets, value_type, word_of};
+ghost use Rattle.code_text.specs.FunctionText.{accumulated_type, cell_word, chosen_type, comment_text, exit_indent, exit_text, function_text, gives, head_text, is_guarded, leaf_at, leaf_in_text, leaf_of_text, leaves_text, lines_text, position_text, row_text, rows_text, set_text, sets, value_type, word_of};
 
 use crate::declared::Declared;
 use crate::leaf::{Leaf, push_leaf};
@@ -22,8 +22,8 @@ use std::alloc::Global;
 
 /// What a function is, above its struct and its lines.
 pub(crate) fn push_comment(text: &mut String, caller: Caller<'_>) -> Result<(), Memory>
-    ensures { IfOk result (λ _. string_bytes text.new ≡ string_bytes text.old
-        ++ pieces_text caller.entry.named.prefix.now (comment_rows (caller_in caller.entry))) }
+    ensures { IfOk result (λ _. string_bytes text.new
+        ≡ string_bytes text.old ++ comment_text (caller_in caller.entry)) }
 {
     let word = word_of(caller.function);
     let input = caller.named.ty(caller.layout.input);
@@ -51,7 +51,7 @@ pub(crate) fn push_comment(text: &mut String, caller: Caller<'_>) -> Result<(), 
 /// The numbers of a position.
 fn push_position(text: &mut String, prefix: &str, position: &[u32]) -> Result<(), Memory>
     ensures { IfOk result (λ _. string_bytes text.new
-        ≡ string_bytes text.old ++ pieces_text prefix.now (position_rows position.now)) }
+        ≡ string_bytes text.old ++ position_text prefix.now position.now) }
 {
     for k in position {
         push(text, prefix, &[Piece::Text(" "), Piece::Number(*k as usize)])?;
@@ -199,7 +199,7 @@ fn push_row(
 {
     match statement {
         Statement::Set(action) => push_set(text, caller, (at.0, at.1), value_type(caller, at.2), action)?,
-        Statement::Exit(guard, action) => push_exit(text, caller, at.0, value_type(caller, at.2), (*guard, action))?,
+        Statement::Exit(guard, action) => push_exit(text, caller, at.0, value_type(caller, at.2), *guard, action)?,
         Statement::Do(effect) => push_effect(text, caller, *effect)?,
     }
     Ok(())
@@ -247,12 +247,13 @@ fn push_exit(
     caller: Caller<'_>,
     row: usize,
     ty: &Ty,
-    exit: (Guard, &Action),
+    guard: Guard,
+    action: &Action,
 ) -> Result<(), Memory>
     ensures { IfOk result (λ _. string_bytes text.new ≡ string_bytes text.old
-        ++ exit_text (caller_in caller.entry) row (type_of ty.now) exit.0 exit.1.now) }
+        ++ exit_text (caller_in caller.entry) row (type_of ty.now) guard action.now) }
 {
-    let guarded = is_guarded(exit.0);
+    let guarded = is_guarded(guard);
     let indent = exit_indent(guarded);
     let declared = Declared {
         name: Piece::Text("y"),
@@ -260,8 +261,8 @@ fn push_exit(
         row,
         indent,
     };
-    push_guard(text, caller.named.prefix, exit.0)?;
-    push_action(text, caller, declared, exit.1)?;
+    push_guard(text, caller.named.prefix, guard)?;
+    push_action(text, caller, declared, action)?;
     push(
         text,
         caller.named.prefix,
@@ -335,19 +336,19 @@ fn push_leaf_of(
 {
     let input = caller.named.ty(caller.layout.input);
     match action {
-        Action::Leaf(e, _) => push_leaf_at(alloc, text, caller, (row, false), (input, e))?,
-        Action::Constant(e) => push_leaf_at(alloc, text, caller, (row, true), (&Ty::Unit, e))?,
+        Action::Leaf(e, _) => push_leaf_at(alloc, text, caller, (row, false), input, e)?,
+        Action::Constant(e) => push_leaf_at(alloc, text, caller, (row, true), &Ty::Unit, e)?,
         Action::Routed(e, _, _) => {
             let ty = pair_of(alloc, input, &Ty::Int)?;
-            push_leaf_at(alloc, text, caller, (row, false), (&ty, e))?;
+            push_leaf_at(alloc, text, caller, (row, false), &ty, e)?;
         }
         Action::Accumulate(e, _, _) => {
             let ty = accumulated_type(alloc, caller.named, caller.layout.kept, input)?;
-            push_leaf_at(alloc, text, caller, (row, false), (&ty, e))?;
+            push_leaf_at(alloc, text, caller, (row, false), &ty, e)?;
         }
         Action::Collect(e, _, _) => {
             let ty = chosen_type(alloc, input)?;
-            push_leaf_at(alloc, text, caller, (row, false), (&ty, e))?;
+            push_leaf_at(alloc, text, caller, (row, false), &ty, e)?;
         }
         _ => {}
     }
@@ -360,20 +361,21 @@ fn push_leaf_at(
     text: &mut String,
     caller: Caller<'_>,
     at: (usize, bool),
-    leaf: (&Ty, &Expr),
+    input: &Ty,
+    e: &Expr,
 ) -> Result<(), Memory>
     ensures { IfOk result (λ _. string_bytes text.new ≡ string_bytes text.old
-        ++ leaf_text caller.entry.named.prefix.now (leaf_at (caller_in caller.entry) at.0 at.1 (type_of leaf.0.now) leaf.1.now)) }
+        ++ leaf_text caller.entry.named.prefix.now (leaf_at (caller_in caller.entry) at.0 at.1 (type_of input.now) e.now)) }
 {
     let params = types_of(alloc, caller.named, caller.layout.params.as_slice())?;
-    let code = compile_expr(alloc, params.as_slice(), leaf.0, leaf.1)?;
+    let code = compile_expr(alloc, params.as_slice(), input, e)?;
     push_leaf(
         text,
         caller.named.prefix,
         Leaf {
             function: caller.number,
             row: at.0,
-            input: leaf.0,
+            input,
             is_constant: at.1,
             params: params.as_slice(),
             code: &code,
