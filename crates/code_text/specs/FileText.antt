@@ -15,8 +15,8 @@ use Rattle.code_text.specs.NamedText.{with_each}
 use Rattle.code_text.specs.TypeText.{structs_text, helpers_text}
 use Rattle.code_text.specs.ScopeText.{Named, Caller}
 use Rattle.code_text.specs.FixedText.{use_rows, opening_rows, prototype_rows, numbers_text, entries_text}
-use Rattle.code_text.specs.KeptText.{kept_rows}
-use Rattle.code_text.specs.FunctionText.{input_type, output_type, comment_rows, function_text}
+use Rattle.code_text.specs.KeptText.{own_structs}
+use Rattle.code_text.specs.FunctionText.{input_type, output_type, comment_text, function_text}
 use Rattle.code_text.specs.FilterText.{filter_text}
 
 -- how a network's C is printed: the prefix of its names, what of it, how many elements the lists of
@@ -41,7 +41,7 @@ types_of n = map type_of n.program.types.trees.items
 abbrev pub kept_struct : Caller → List ℕ
 kept_struct c =
     pieces_text c.named.prefix (text (codes "\n") ∷ [])
-    ++ (pieces_text c.named.prefix (comment_rows c) ++ pieces_text c.named.prefix (kept_rows c))
+    ++ (comment_text c ++ own_structs c)
 
 -- the same, if it keeps something
 abbrev pub kept_text : Caller → List ℕ
