@@ -157,18 +157,21 @@ module _ (c : Caller) (o : Options) where
   abbrev pub file_text : List ℕ
   file_text = declarations_text ++ printed_text o.printed
 
--- the file where function k is the last one; nothing where there is none
-abbrev pub file_at : Named → Options → ℕ → Option Function → Option Layout → List ℕ
-file_at n o k (Some f) (Some L) = file_text (caller n k f L) o
-file_at n o k (Some f) None = []
-file_at n o k None L = []
+-- the file where f, function k, is the last one, if it has a layout
+abbrev pub last_at : Named → Options → ℕ → Function → Option Layout → List ℕ
+last_at n o k f None = []
+last_at n o k f (Some L) = file_text (caller n k f L) o
+
+-- the file where function k is the last one, if there is such a function
+abbrev pub file_at : Named → Options → ℕ → Option Function → List ℕ
+file_at n o k None = []
+file_at n o k (Some f) = last_at n o k f (slice_get n.program.layouts.items k)
 
 -- the file of a program
 abbrev pub file_of : Named → Options → List ℕ
 file_of n o =
     file_at n o (length n.program.functions.items - 1)
     (slice_get n.program.functions.items (length n.program.functions.items - 1))
-    (slice_get n.program.layouts.items (length n.program.functions.items - 1))
 
 -- the C of a program
 abbrev pub c_of : Program → Options → List ℕ

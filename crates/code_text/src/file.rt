@@ -3,7 +3,7 @@
 ghost use Rattle.std.specs.Prelude.{◌≡◌, ◌++◌, IfOk, slice_get, string_bytes};
 ghost use Rattle.sample_core.specs.TypeView.{type_of};
 ghost use Rattle.code_text.specs.{Piece.pieces_text, ScopeText.caller_in, ScopeText.named_in};
-ghost use Rattle.code_text.specs.FileText.{about_text, all_functions, all_kept, c_of, declarations_text, definitions_text, figures_row, file_of, file_text, filtered_text, function_at, kept_at, kept_struct, kept_text, options_in, plain_text, posix_rows, printed_text, state_text, stored_row, type_name, types_row};
+ghost use Rattle.code_text.specs.FileText.{about_text, all_functions, all_kept, c_of, declarations_text, definitions_text, figures_row, file_of, file_text, filtered_text, function_at, kept_at, kept_struct, kept_text, last_at, options_in, plain_text, posix_rows, printed_text, state_text, stored_row, type_name, types_row};
 
 use crate::file_text::{FILTER_INCLUDES, PLAIN_INCLUDES, POSIX};
 use crate::filter::push_filter;
@@ -67,10 +67,27 @@ fn push_program(
         ≡ string_bytes text.old ++ file_of (named_in named.entry) (options_in options.entry)) }
 {
     let number = named.program.functions.len().saturating_sub(1);
-    let function = named.program.functions.as_slice().get(number);
-    let layout = named.program.layouts.as_slice().get(number);
-    match (function, layout) {
-        (Some(function), Some(layout)) => push_file(
+    if let Some(function) = named.program.functions.as_slice().get(number) {
+        push_last(alloc, text, named, (number, function), options)?;
+    }
+    Ok(())
+}
+
+/// The file of a program, whose last function is this one, by its number.
+fn push_last<'a>(
+    alloc: Global,
+    text: &mut String,
+    named: Named<'a>,
+    last: (usize, &'a Function),
+    options: Options<'_>,
+) -> Result<(), Memory>
+    ensures { IfOk result (λ _. string_bytes text.new ≡ string_bytes text.old
+        ++ last_at (named_in named.entry) (options_in options.entry) last.entry.0 last.entry.1.now
+        (slice_get named.entry.program.now.layouts.items last.entry.0)) }
+{
+    let (number, function) = last;
+    if let Some(layout) = named.program.layouts.as_slice().get(number) {
+        push_file(
             alloc,
             text,
             Caller {
@@ -80,8 +97,7 @@ fn push_program(
                 layout,
             },
             options,
-        )?,
-        _ => {}
+        )?;
     }
     Ok(())
 }
