@@ -57,12 +57,15 @@ module _ (code : CodeLaw) (leaves : LeafCodeLaw) (t : TypedNetwork) (fs : List F
       ∙ ap (λ n. stream_of n xs) is.1
 
 pub compiled_files : CodeLaw → LeafCodeLaw → WithinLaw → SameStreamLaw → CompiledFilesLaw
-compiled_files code leaves within same told words what text asks (inl h) = absurd (no_help words what asks h)
-compiled_files code leaves within same told words what text asks (inr h) =
-    let again : request_in words ≡ Some h.what = h.asks in
-    let one : h.what ≡ what = cc in
-    go what (subst (λ w. Meets told w (J.Print text)) one h.meets)
+compiled_files code leaves within same told words what (J.Run t) asks h = tt
+compiled_files code leaves within same told words what (J.PrintAndRefuse text line) asks h = tt
+compiled_files code leaves within same told words what (J.Print text) asks (inl h) = absurd (no_help words what asks h)
+compiled_files code leaves within same told words what (J.Print text) asks (inr h) =
+    go what (subst (λ w. Meets told w (J.Print text)) (same_request (sym h.asks ∙ asks)) h.meets)
   where
+    same_request : {A : Type 0} {x y : A} → Some x ≡ Some y → x ≡ y
+    same_request e = cc
+
     go : (what : RequestTree) → Meets told what (J.Print text) → CompilesAsAsked told what (string_bytes text)
     go (types name) m = tt
     go (run name) m = tt

@@ -18,6 +18,7 @@ use Rattle.cert_check.specs.Derives.{Derives}
 use Rattle.command_line.specs.CommandLine.{PrintingWords, RequestTree, compile, compile_checked, request_in}
 use Rattle.yampa_run.specs.Compiled.{PrintsC}
 use Rattle.yampa_run.specs.Preparation.{IsNetworkIn, IsRequested, KnownFiles}
+use Rattle.yampa_run.specs.declared.preparation.Job.{Job}
 use Rattle.yampa_run.specs.declared.preparation.Job.TheVariants as J
 
 -- the functions are code that outputs a network's stream meaning on samples of its input type, from
@@ -51,7 +52,7 @@ pub record CompilesChecked (source_file target_file certificate : List ℕ) (wor
   pub prints : PrintsC target words text
   pub outputs : OutputsStream source prints.prints.program.functions.items
 
--- the text is the C that is asked for, where the bytes of the files that are named are told
+-- the text is the C that is asked for, if C is, where the bytes of the files that are named are told
 abbrev pub CompilesAsAsked : KnownFiles → RequestTree → List ℕ → Type 0
 CompilesAsAsked told (compile words name) text = (file : List ℕ) → told name ≡ Some file
     → CompilesFile file words text
@@ -61,8 +62,13 @@ CompilesAsAsked told (compile_checked words names) text =
     → CompilesChecked source_file target_file certificate words text
 CompilesAsAsked told _ text = ⊤
 
--- where `prepare` answers a text for words that ask for C, that text is the C
+-- the job is to print that text, if it is to print
+abbrev pub PrintsAsAsked : KnownFiles → RequestTree → Job → Type 0
+PrintsAsAsked told what (J.Print text) = CompilesAsAsked told what (string_bytes text)
+PrintsAsAsked told what (J.Run t) = ⊤
+PrintsAsAsked told what (J.PrintAndRefuse text line) = ⊤
+
+-- where the words ask for C, and a text is to be printed, that text is the C
 abbrev pub CompiledFilesLaw : Type 0
-CompiledFilesLaw = (told : KnownFiles) (words : List (List ℕ)) (what : RequestTree) (text : String)
-    → request_in words ≡ Some what → IsRequested told words (J.Print text)
-    → CompilesAsAsked told what (string_bytes text)
+CompiledFilesLaw = (told : KnownFiles) (words : List (List ℕ)) (what : RequestTree) (job : Job)
+    → request_in words ≡ Some what → IsRequested told words job → PrintsAsAsked told what job
