@@ -303,12 +303,12 @@ fn push_case(
 }
 
 /// The answer of a function on its part, at the left of a register.
-fn push_answer(
+fn push_answer<'a>(
     text: &mut String,
     caller: Caller<'_>,
     declared: Declared<'_>,
     f: usize,
-    part: &[Piece<'_>],
+    part: &'a [Piece<'a>],
     at: (usize, Scope),
 ) -> Result<(), Memory>
     ensures { IfOk result (λ _. string_bytes text.new ≡ string_bytes text.old

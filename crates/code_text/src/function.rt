@@ -106,11 +106,12 @@ pub(crate) fn push_function(alloc: Global, text: &mut String, caller: Caller<'_>
         ≡ string_bytes text.old ++ function_text (caller_in caller.entry)) }
 {
     let rows = caller.function.rows(alloc)?;
+    let statements = rows.as_slice();
     push(text, caller.named.prefix, &[Piece::Text("\n")])?;
     push_comment(text, caller)?;
-    push_leaves(alloc, text, caller, rows.as_slice())?;
+    push_leaves(alloc, text, caller, statements)?;
     push_head(text, caller)?;
-    push_lines(text, caller, rows.as_slice())?;
+    push_lines(text, caller, statements)?;
     Ok(())
 }
 
