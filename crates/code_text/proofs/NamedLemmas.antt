@@ -1,5 +1,6 @@
 -- A text is what stands before its first mark m, that, and what stands behind it.
-use Rattle.std.proofs.Common.{◌≡◌, ◌<◌, ◌==◌, ◌+◌, ◌++◌, ℕ, suc, Bool, true, false, cond, not, List, [], ◌∷◌, length, take, drop, refl, ap, arith}
+use Rattle.std.proofs.Common.{◌≡◌, ◌<◌, ◌==◌, ◌+◌, ◌++◌, ℕ, suc, Bool, true, false, cond, not, List, [], ◌∷◌, length, take, drop, Option, Some, None, Bor, refl, sym, ap, ◌∙◌, arith, append_assoc}
+use Rattle.std.proofs.lemmas.Str.Pattern.{IsSplitOnceResult, split_once_first}
 use Rattle.std.specs.List.{before_first, after_first, position_or_len}
 use Rattle.code_text.specs.NamedText.{with_each}
 
@@ -37,3 +38,26 @@ pub each_same : (m : ℕ) (t bs : List ℕ) → position_or_len (λ b. b == m) b
 unfolding position_or_len
 each_same m t [] l = refl
 each_same m t (c ∷ cs) l = same_here m t c cs (position_or_len (λ b. b == m) cs) (c == m) (each_same m t cs) l
+
+-- what `split_once` gives of a text, where it finds a mark and where it finds none
+module _ (m : ℕ) (t rest : List ℕ) (r : Option (Bor (List ℕ) × Bor (List ℕ))) (split : IsSplitOnceResult m rest r) (ascii : m < 128) where
+  pub each_step : (x : Bor (List ℕ) × Bor (List ℕ)) → r ≡ Some x
+      → with_each m t rest ≡ x.0.now ++ (t ++ with_each m t x.1.now)
+  each_step x is =
+      let (inside, front, back) = rw is at (split_once_first m rest r split ascii) in
+      rw (front, back) (each_split m t rest inside)
+
+  pub each_last : r ≡ None → with_each m t rest ≡ rest
+  each_last is =
+      let none = rw is at (split_once_first m rest r split ascii) in
+      each_same m t rest none
+
+-- what is printed up to a mark, and in its place, with the rest
+pub each_printed : (o before t a b w e : List ℕ) → a ≡ o ++ before → b ≡ a ++ t
+    → e ≡ before ++ (t ++ w) → b ++ w ≡ o ++ e
+each_printed o before t a b w e h1 h2 h3 =
+    rw (h2, h1, h3, append_assoc (o ++ before) t w, append_assoc o before (t ++ w))
+
+-- what is printed behind the last mark
+pub each_ended : (o rest e n whole : List ℕ) → n ≡ o ++ rest → e ≡ rest → o ++ e ≡ whole → n ≡ whole
+each_ended o rest e n whole h1 h2 h3 = h1 ∙ ap (λ s. o ++ s) (sym h2) ∙ h3

@@ -2,6 +2,7 @@
 
 ghost use Rattle.std.specs.Prelude.{◌≡◌, ◌++◌, IfOk, map, string_bytes};
 ghost use Rattle.sample_core.specs.{TypeTree.event_ty, TypeTree.list_ty, TypeTree.pair_ty, TypeView.type_of};
+ghost use Rattle.leaf_core.specs.TypeLimits.{same_tree};
 ghost use Rattle.code_text.specs.Piece.{pieces_text};
 ghost use Rattle.code_text.specs.FilterText.{filter_text, has_parts, is_part, reader_head, reader_if, reader_text, readers_text, reading_rows, sample_rows, writer_head, writer_if, writer_text, writers_text, writing_rows};
 
@@ -68,18 +69,22 @@ fn push_sample<'a>(
     Ok(())
 }
 
+/// Whether two types are the same.
+fn is_same(a: &Ty, b: &Ty) -> bool
+    ensures { result ≡ same_tree (type_of a.now) (type_of b.now) }
+{
+    same_type(a, b)
+}
+
 /// Whether a type is this one or a part of it.
 #[cycle(is_part)]
 fn is_part(ty: &Ty, whole: &Ty) -> bool
     ensures { result ≡ is_part (type_of ty.now) (type_of whole.now) }
 {
-    if same_type(ty, whole) {
-        return true;
-    }
     match whole {
-        Ty::Unit | Ty::Bool | Ty::Int => false,
-        Ty::Pair(a, b) => is_part(ty, a.get()) || is_part(ty, b.get()),
-        Ty::Event(a) | Ty::List(a) => is_part(ty, a.get()),
+        Ty::Unit | Ty::Bool | Ty::Int => is_same(ty, whole),
+        Ty::Pair(a, b) => is_same(ty, whole) || is_part(ty, a.get()) || is_part(ty, b.get()),
+        Ty::Event(a) | Ty::List(a) => is_same(ty, whole) || is_part(ty, a.get()),
     }
 }
 
