@@ -98,7 +98,7 @@ module _ (c : Caller) (d : Declared) where
   cases_text k i [] = []
   cases_text k i (f ∷ fs) = case_text k i f ++ cases_text k (suc i) fs
 
-  -- each member answers: those that start now at the moment 0
+  -- each member answers, those that start now at the moment 0
   abbrev pub turns_head : List Piece
   turns_head =
       d.indent ∷ d.value ∷ text (codes ".n = s->count;\n")
@@ -108,15 +108,20 @@ module _ (c : Caller) (d : Declared) where
       ∷ d.indent ∷ text (codes "    const int64_t at = (i < kept) ? dt : 0;\n")
       ∷ d.indent ∷ text (codes "    switch (m->origin) {\n") ∷ []
 
-  -- a member that isn't written is one of function t
+  -- that of a member that isn't written: of function t, by its own value
+  abbrev pub default_text : ℕ → ℕ → List ℕ
+  default_text t k =
+      pieces_text c.named.prefix (d.indent ∷ text (codes "    default: ") ∷ [])
+      ++ turn_text t (text (codes "&m->taker") ∷ []) C.Value k
+
+  -- those of all members
   abbrev pub turns_text : ℕ → ℕ → List ℕ
   turns_text t k =
       pieces_text c.named.prefix turns_head
       ++ (cases_text k 0 (members c.function)
-      ++ (pieces_text c.named.prefix (d.indent ∷ text (codes "    default: ") ∷ [])
-      ++ (turn_text t (text (codes "&m->taker") ∷ []) C.Value k
+      ++ (default_text t k
       ++ pieces_text c.named.prefix
-      (d.indent ∷ text (codes "    }\n") ∷ d.indent ∷ text (codes "}\n") ∷ []))))
+      (d.indent ∷ text (codes "    }\n") ∷ d.indent ∷ text (codes "}\n") ∷ [])))
 
   -- the answers of a collection, in a row, of the members and of function t, at register k
   abbrev pub collection_text : ℕ → ℕ → ℕ → List ℕ

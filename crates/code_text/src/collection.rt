@@ -1,9 +1,9 @@
 // The C of `rpSwitchB`.
 
-ghost use Rattle.std.specs.Prelude.{◌≡◌, ◌++◌, IfOk, map, string_bytes};
-ghost use Rattle.code_text.specs.{Piece.pieces_text, PieceView.piece_of};
+ghost use Rattle.std.specs.Prelude.{◌≡◌, ◌++◌, IfOk, string_bytes};
+ghost use Rattle.code_text.specs.Piece.{pieces_text};
 ghost use Rattle.code_text.specs.{CellText.declared_in, ScopeText.caller_in};
-ghost use Rattle.code_text.specs.CollectionText.{beginning_text, case_text, cases_text, choice_text, chosen_rows, collection_text, kept_type, letters_row, turn_text, turns_head, turns_text, written_text};
+ghost use Rattle.code_text.specs.CollectionText.{beginning_text, case_text, cases_text, choice_text, chosen_rows, collection_text, default_text, kept_type, letters_row, turns_head, turns_text, written_text};
 
 use crate::declared::Declared;
 use crate::piece::{Piece, push};
@@ -206,12 +206,7 @@ fn push_turns(
     let members = members_of(caller.function);
     push_turns_head(text, caller, declared)?;
     push_cases(text, caller, declared, members, k)?;
-    push(
-        text,
-        caller.named.prefix,
-        &[Piece::Text(declared.indent), Piece::Text("    default: ")],
-    )?;
-    push_answer(text, caller, declared, t, &[Piece::Text("&m->taker")], (k, Scope::Value))?;
+    push_default(text, caller, declared, t, k)?;
     push(
         text,
         caller.named.prefix,
@@ -297,33 +292,49 @@ fn push_case(
             Piece::Text(": "),
         ],
     )?;
-    let part = [Piece::Text("&m->m"), Piece::Number(member.0)];
-    push_answer(text, caller, declared, member.1, &part, (k, Scope::Same))?;
-    Ok(())
-}
-
-/// The answer of a function on its part, at the left of a register.
-fn push_answer<'a>(
-    text: &mut String,
-    caller: Caller<'_>,
-    declared: Declared<'_>,
-    f: usize,
-    part: &'a [Piece<'a>],
-    at: (usize, Scope),
-) -> Result<(), Memory>
-    ensures { IfOk result (λ _. string_bytes text.new ≡ string_bytes text.old
-        ++ turn_text (caller_in caller.entry) (declared_in declared.entry) f (map piece_of part.now) at.1 at.0) }
-{
     push(text, caller.named.prefix, &[declared.name, Piece::Text(".e[i] = ")])?;
     push_call(
         text,
         caller,
         Call {
-            function: f,
-            part,
+            function: member.1,
+            part: &[Piece::Text("&m->m"), Piece::Number(member.0)],
             moment: "at",
-            input: &[Piece::Text("&"), Piece::Reg(at.0), Piece::Text(".a")],
-            scope: at.1,
+            input: &[Piece::Text("&"), Piece::Reg(k), Piece::Text(".a")],
+            scope: Scope::Same,
+            by: "&m->by",
+        },
+    )?;
+    push(text, caller.named.prefix, &[Piece::Text("; break;\n")])?;
+    Ok(())
+}
+
+/// The answer of a member of function t, by its own value.
+fn push_default(
+    text: &mut String,
+    caller: Caller<'_>,
+    declared: Declared<'_>,
+    t: usize,
+    k: usize,
+) -> Result<(), Memory>
+    ensures { IfOk result (λ _. string_bytes text.new ≡ string_bytes text.old
+        ++ default_text (caller_in caller.entry) (declared_in declared.entry) t k) }
+{
+    push(
+        text,
+        caller.named.prefix,
+        &[Piece::Text(declared.indent), Piece::Text("    default: ")],
+    )?;
+    push(text, caller.named.prefix, &[declared.name, Piece::Text(".e[i] = ")])?;
+    push_call(
+        text,
+        caller,
+        Call {
+            function: t,
+            part: &[Piece::Text("&m->taker")],
+            moment: "at",
+            input: &[Piece::Text("&"), Piece::Reg(k), Piece::Text(".a")],
+            scope: Scope::Value,
             by: "&m->by",
         },
     )?;

@@ -1,5 +1,7 @@
-use Rattle.code_text.proofs.Joined.{joined_two}
+use Rattle.code_text.proofs.Joined.{joined_four}
 use Rattle.code_text.proofs.collection.push_case.Goals as goal
 
 pub returns : goal.returns
-returns c = joined_two _ _ _ _ _ c.in_ok-push.ensures c.in_ok-push_answer.ensures
+returns c =
+    joined_four _ _ _ _ _ _ _ _ _ c.in_ok-push.ensures c.in_ok-push-2.ensures
+    c.in_ok-push_call.ensures c.in_ok-push-3.ensures
