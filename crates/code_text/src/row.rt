@@ -1,6 +1,6 @@
 // The C of a function's rows.
 
-ghost use Rattle.std.specs.Prelude.{◌≡◌, ◌++◌, IfOk, [], length, map, option_map, string_bytes};
+ghost use Rattle.std.specs.Prelude.{◌≡◌, ◌++◌, IfOk, [], length, map, option_copied, string_bytes};
 ghost use Rattle.sample_core.specs.TypeView.{type_of};
 ghost use Rattle.code_text.specs.{CellText.declared_in, CellText.zeros_row, Piece.pieces_text, Piece.reg, PieceView.piece_of};
 ghost use Rattle.code_text.specs.ScopeText.{caller_in, members, named_in};
@@ -569,7 +569,7 @@ pub(crate) fn push_guard(text: &mut String, prefix: &str, guard: Guard) -> Resul
 
 /// The expression of an action: `None` where it has none.
 pub(crate) fn leaf_of(action: &Action) -> Option<&Expr>
-    ensures { option_map (λ e. e.now) result ≡ expression_in action.now }
+    ensures { option_copied result ≡ expression_in action.now }
 {
     match action {
         Action::Leaf(e, _)

@@ -266,7 +266,7 @@ fn push_same(text: &mut String, caller: Caller<'_>) -> Result<(), Memory>
     ensures { IfOk result (λ _. string_bytes text.new
         ≡ string_bytes text.old ++ same_scope (caller_in caller.entry)) }
 {
-    push_params(text, caller.named.prefix, caller.layout.params.len())?;
+    push_params(text, caller.named.prefix, caller.layout.params.as_slice().len())?;
     push_olds(text, caller.named, caller.layout.olds.as_slice())?;
     Ok(())
 }
@@ -287,7 +287,7 @@ fn push_taken(text: &mut String, caller: Caller<'_>, scope: Scope, by: &str) -> 
     ensures { IfOk result (λ _. string_bytes text.new
         ≡ string_bytes text.old ++ taken_scope (caller_in caller.entry) scope by.now) }
 {
-    push_params(text, caller.named.prefix, caller.layout.params.len())?;
+    push_params(text, caller.named.prefix, caller.layout.params.as_slice().len())?;
     push(text, caller.named.prefix, &[Piece::Text(", "), Piece::Text(by)])?;
     push_olds(text, caller.named, caller.layout.olds.as_slice())?;
     push_frozen(text, caller, scope)?;
@@ -415,7 +415,7 @@ pub(crate) fn push_leaf_call(text: &mut String, caller: Caller<'_>, row: usize, 
         ],
     )?;
     push(text, prefix, input)?;
-    push_params(text, prefix, caller.layout.params.len())?;
+    push_params(text, prefix, caller.layout.params.as_slice().len())?;
     push(text, prefix, &[Piece::Text(")")])?;
     Ok(())
 }
