@@ -87,14 +87,15 @@ input_in c (Some L) = type_at c.named L.input
 abbrev pub input_of : Caller → ℕ → TypeTree
 input_of c k = input_in c (slice_get c.named.program.layouts.items k)
 
--- the letters of a type, and of what the event carries
-abbrev pub letters_of : Named → Option ℕ → TypeTree → List Piece
-letters_of n (Some k) (event_ty A) = letter (type_at n k) ∷ letter A ∷ []
-letters_of n k T = []
+-- the letters of a type, and of what an event of the other carries
+abbrev pub letters_of : TypeTree → TypeTree → List Piece
+letters_of V (event_ty A) = letter V ∷ letter A ∷ []
+letters_of V T = []
 
--- the letters of the type that is accumulated, and of what the event carries
-abbrev pub accumulator_letters : Caller → List Piece
-accumulator_letters c = letters_of c.named c.layout.kept (type_at c.named c.layout.input)
+-- the letters of the type that is accumulated, if there is one, and of what the event carries
+abbrev pub letters_in : Caller → Option ℕ → List Piece
+letters_in c None = []
+letters_in c (Some k) = letters_of (type_at c.named k) (type_at c.named c.layout.input)
 
 -- whether one of these functions keeps anything
 abbrev pub keeps_any : Named → List ℕ → Bool
@@ -184,7 +185,7 @@ module _ (c : Caller) where
       ++ (pieces_text c.named.prefix
       (d.indent ∷ text (codes "if (dt == 0) { s->value = ") ∷ reg j ∷ text (codes "; }\n") ∷ d.indent
       ∷ text (codes "if (") ∷ reg k ∷ text (codes ".is) { struct ") ∷ name ∷ text (codes "_p") ∷ [])
-      ++ (pieces_text c.named.prefix (accumulator_letters c)
+      ++ (pieces_text c.named.prefix (letters_in c c.layout.kept)
       ++ (pieces_text c.named.prefix
       (text (codes " i; i.a = s->value; i.b = ") ∷ reg k ∷ text (codes ".v; s->value = ") ∷ [])
       ++ (leaf_call_text c r (text (codes "&i") ∷ [])

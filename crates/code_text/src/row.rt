@@ -4,7 +4,7 @@ ghost use Rattle.std.specs.Prelude.{◌≡◌, ◌++◌, IfOk, [], length, map, 
 ghost use Rattle.sample_core.specs.TypeView.{type_of};
 ghost use Rattle.code_text.specs.{CellText.declared_in, CellText.zeros_row, Piece.pieces_text, Piece.reg, PieceView.piece_of};
 ghost use Rattle.code_text.specs.ScopeText.{caller_in, members, named_in};
-ghost use Rattle.code_text.specs.RowText.{accumulation_text, accumulator_letters, action_text, answers_text, cell_rows, declaration_text, each_text, each_texts, effect_text, freezing_text, going_text, expression_in, guard_row, input_of, member_call_text, moment_text, pair_row, part_call_text, part_text, resumption_text, routed_text, routed_texts, value_text};
+ghost use Rattle.code_text.specs.RowText.{accumulation_text, action_text, answers_text, cell_rows, declaration_text, each_text, each_texts, effect_text, freezing_text, going_text, expression_in, guard_row, input_of, letters_in, letters_of, member_call_text, moment_text, pair_row, part_call_text, part_text, resumption_text, routed_text, routed_texts, value_text};
 ghost use Rattle.code_text.specs.RowText.{keeps_any as any_keeps, keeps_watched as watched_keeps};
 
 use crate::cell::{push_after, push_delay, push_hold, push_i_pre, push_integral, push_repeatedly, push_time};
@@ -92,7 +92,8 @@ fn push_value(text: &mut String, caller: Caller<'_>, row: usize, action: &Action
     match action {
         Action::Register(k) => push(text, prefix, &[Piece::Reg(*k)])?,
         Action::Left(k) => push(text, prefix, &[Piece::Reg(*k), Piece::Text(".a")])?,
-        Action::Right(k) | Action::Beside(k) => push(text, prefix, &[Piece::Reg(*k), Piece::Text(".b")])?,
+        Action::Right(k) => push(text, prefix, &[Piece::Reg(*k), Piece::Text(".b")])?,
+        Action::Beside(k) => push(text, prefix, &[Piece::Reg(*k), Piece::Text(".b")])?,
         Action::Leaf(_, k) => push_leaf_call(text, caller, row, &[Piece::At(*k)])?,
         Action::Constant(_) => push_leaf_call(text, caller, row, &[Piece::Text("0")])?,
         Action::FirstOr(j, k) => push(
@@ -434,23 +435,31 @@ fn push_accumulation(text: &mut String, caller: Caller<'_>, declared: Declared<'
     Ok(())
 }
 
-/// The letters of the type that is accumulated, and of what an event carries.
+/// The letters of the type that is accumulated, and of what the event carries.
 fn push_accumulator_letters(text: &mut String, caller: Caller<'_>) -> Result<(), Memory>
     ensures { IfOk result (λ _. string_bytes text.new ≡ string_bytes text.old
-        ++ pieces_text caller.entry.named.prefix.now (accumulator_letters (caller_in caller.entry))) }
+        ++ pieces_text caller.entry.named.prefix.now (letters_in (caller_in caller.entry) caller.entry.layout.now.kept)) }
 {
-    let Some(kept) = caller.layout.kept else {
-        return Ok(());
-    };
-    let kept = caller.named.ty(kept);
-    match caller.named.ty(caller.layout.input) {
+    match caller.layout.kept {
+        Some(kept) => {
+            let kept = caller.named.ty(kept);
+            let input = caller.named.ty(caller.layout.input);
+            push_letters_of(text, caller.named.prefix, kept, input)?;
+        }
+        None => {}
+    }
+    Ok(())
+}
+
+/// The letters of a type, and of what an event of the other carries.
+fn push_letters_of(text: &mut String, prefix: &str, kept: &Ty, input: &Ty) -> Result<(), Memory>
+    ensures { IfOk result (λ _. string_bytes text.new ≡ string_bytes text.old
+        ++ pieces_text prefix.now (letters_of (type_of kept.now) (type_of input.now))) }
+{
+    match input {
         Ty::Event(value) => {
             let value = value.get();
-            push(
-                text,
-                caller.named.prefix,
-                &[Piece::Letters(kept), Piece::Letters(value)],
-            )?;
+            push(text, prefix, &[Piece::Letters(kept), Piece::Letters(value)])?;
         }
         _ => {}
     }
