@@ -108,18 +108,18 @@ keeps_watched n (F.KSwitch f e t) = keeps n f
 keeps_watched n f = keeps_any n (members f)
 
 module _ (c : Caller) where
-  -- a call of function f on a part, at register k
-  abbrev pub part_call_text : ℕ → Part → When → Scope → ℕ → List ℕ
-  part_call_text f part when scope k =
-      call_text c (called f (text (part_text part) ∷ []) when (at k ∷ []) scope)
+  -- a call of function f on a part, at a moment and an input
+  abbrev pub part_call_text : ℕ → Part → When → Scope → List Piece → List ℕ
+  part_call_text f part when scope input =
+      call_text c (called f (text (part_text part) ∷ []) when input scope)
 
   -- what goes on: t by the value that has taken over, or f
   abbrev pub going_text : ℕ → ℕ → ℕ → List ℕ
   going_text f t k =
       pieces_text c.named.prefix (text (codes "s->taken ? ") ∷ [])
-      ++ (part_call_text t P.Taker W.Now C.Value k
+      ++ (part_call_text t P.Taker W.Now C.Value (at k ∷ [])
       ++ (pieces_text c.named.prefix (text (codes " : ") ∷ [])
-      ++ part_call_text f P.Front W.Now C.Same k))
+      ++ part_call_text f P.Front W.Now C.Same (at k ∷ [])))
 
   -- an action that is one expression, in row r
   abbrev pub value_text : ℕ → Action → List ℕ
@@ -135,7 +135,7 @@ module _ (c : Caller) where
   value_text r (A.FedOr j) =
       pieces_text c.named.prefix
       (text (codes "(dt == 0) ? ") ∷ reg j ∷ text (codes " : s->fed") ∷ [])
-  value_text r (A.Call f scope part when k) = part_call_text f part when scope k
+  value_text r (A.Call f scope part when k) = part_call_text f part when scope (at k ∷ [])
   value_text r (A.GoesOn f t k) = going_text f t k
   value_text r a = []
 

@@ -115,17 +115,17 @@ fn push_value(text: &mut String, caller: Caller<'_>, row: usize, action: &Action
                 Piece::Text(" : s->fed"),
             ],
         )?,
-        Action::Call(f, scope, part, when, k) => push_part_call(text, caller, (*f, *part, *when), *scope, *k)?,
+        Action::Call(f, scope, part, when, k) => push_part_call(text, caller, (*f, *part, *when), *scope, &[Piece::At(*k)])?,
         Action::GoesOn(f, t, k) => push_going_on(text, caller, *f, *t, *k)?,
         _ => {}
     }
     Ok(())
 }
 
-/// A call of a function on a part, at register k.
-fn push_part_call(text: &mut String, caller: Caller<'_>, called: (usize, Part, When), scope: Scope, k: usize) -> Result<(), Memory>
+/// A call of a function on a part, at a moment and an input.
+fn push_part_call(text: &mut String, caller: Caller<'_>, called: (usize, Part, When), scope: Scope, input: &[Piece<'_>]) -> Result<(), Memory>
     ensures { IfOk result (λ _. string_bytes text.new ≡ string_bytes text.old
-        ++ part_call_text (caller_in caller.entry) called.0 called.1 called.2 scope k) }
+        ++ part_call_text (caller_in caller.entry) called.0 called.1 called.2 scope (map piece_of input.now)) }
 {
     let part = address_of(called.1);
     let moment = moment_of(called.2);
@@ -136,7 +136,7 @@ fn push_part_call(text: &mut String, caller: Caller<'_>, called: (usize, Part, W
             function: called.0,
             part: &[Piece::Text(part)],
             moment,
-            input: &[Piece::At(k)],
+            input,
             scope,
             by: "&s->by",
         },
@@ -150,9 +150,9 @@ fn push_going_on(text: &mut String, caller: Caller<'_>, f: usize, t: usize, k: u
         ≡ string_bytes text.old ++ going_text (caller_in caller.entry) f t k) }
 {
     push(text, caller.named.prefix, &[Piece::Text("s->taken ? ")])?;
-    push_part_call(text, caller, (t, Part::Taker, When::Now), Scope::Value, k)?;
+    push_part_call(text, caller, (t, Part::Taker, When::Now), Scope::Value, &[Piece::At(k)])?;
     push(text, caller.named.prefix, &[Piece::Text(" : ")])?;
-    push_part_call(text, caller, (f, Part::Front, When::Now), Scope::Same, k)?;
+    push_part_call(text, caller, (f, Part::Front, When::Now), Scope::Same, &[Piece::At(k)])?;
     Ok(())
 }
 
@@ -335,7 +335,7 @@ fn push_routed_of(text: &mut String, caller: Caller<'_>, declared: Declared<'_>,
 }
 
 /// The routed answer of a member with its number.
-fn push_routed_at(text: &mut String, caller: Caller<'_>, declared: Declared<'_>, at: (Part, usize), member: (usize, usize)) -> Result<(), Memory>
+fn push_routed_at<'a>(text: &mut String, caller: Caller<'a>, declared: Declared<'a>, at: (Part, usize), member: (usize, usize)) -> Result<(), Memory>
     ensures { IfOk result (λ _. string_bytes text.new ≡ string_bytes text.old
         ++ routed_text (caller_in caller.entry) (declared_in declared.entry) declared.entry.row at.0 at.1 member.0 member.1) }
 {
