@@ -2,8 +2,8 @@
 
 ghost use Rattle.std.specs.Prelude.{◌≡◌, ◌++◌, IfOk, length, map, string_bytes};
 ghost use Rattle.sample_core.specs.TypeView.{type_of};
-ghost use Rattle.code_text.specs.{LeafText.params_text, LeafText.unused_params_text, Piece.pieces_text, PieceView.piece_of};
-ghost use Rattle.code_text.specs.ScopeText.{arguments_text, call_in, call_text, caller_in, first_params, first_scope, frozen_member, frozen_members, frozen_of, frozen_text, frozen_watched, keeps, leaf_call_text, members, named_in, old_argument, old_arguments, passed_old, passed_olds, same_scope, scope_text, taken_scope, type_at, unused_line, unused_old, unused_olds};
+ghost use Rattle.code_text.specs.{LeafText.params_text, Piece.pieces_text, PieceView.piece_of};
+ghost use Rattle.code_text.specs.ScopeText.{arguments_text, call_in, call_text, caller_in, first_params, first_scope, frozen_member, frozen_members, frozen_of, frozen_text, frozen_watched, keeps, leaf_call_text, members, named_in, old_argument, old_arguments, passed_old, passed_olds, same_scope, scope_text, taken_scope, type_at, unused_line, unused_old, unused_olds, unused_params};
 
 use crate::piece::{Piece, push, push_if};
 use code_fits::{Layout, Program};
@@ -171,21 +171,21 @@ pub(crate) fn push_unused(text: &mut String, caller: Caller<'_>) -> Result<(), M
     push(text, prefix, &[Piece::Text("    ")])?;
     push_if(text, prefix, caller.layout.keeps, &[Piece::Text("(void)s; ")])?;
     push(text, prefix, &[Piece::Text("(void)dt; (void)x;")])?;
-    push_unused_params(text, caller.named, caller.layout.params.as_slice())?;
+    push_unused_params(text, prefix, caller.layout.params.as_slice().len())?;
     push_unused_olds(text, caller.named, caller.layout.olds.as_slice())?;
     push(text, prefix, &[Piece::Text("\n")])?;
     Ok(())
 }
 
-/// Parameters that may stay unused.
-fn push_unused_params(text: &mut String, named: Named<'_>, params: &[usize]) -> Result<(), Memory>
-    ensures { IfOk result (λ _. string_bytes text.new ≡ string_bytes text.old
-        ++ unused_params_text named.entry.prefix.now 0 (map (type_at (named_in named.entry)) params.now)) }
+/// The first so many parameters, which may stay unused.
+fn push_unused_params(text: &mut String, prefix: &str, count: usize) -> Result<(), Memory>
+    ensures { IfOk result (λ _. string_bytes text.new
+        ≡ string_bytes text.old ++ unused_params prefix.now count) }
 {
-    for (k, _) in params.iter().enumerate() {
+    for k in 0..count {
         push(
             text,
-            named.prefix,
+            prefix,
             &[Piece::Text(" (void)p"), Piece::Number(k), Piece::Text(";")],
         )?;
     }

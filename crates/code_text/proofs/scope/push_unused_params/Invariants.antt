@@ -1,12 +1,8 @@
-use Rattle.std.proofs.Common.{◌≡◌, ◌++◌, drop, map, string_bytes}
-use Rattle.code_text.specs.LeafText.{unused_params_text}
-use Rattle.code_text.specs.ScopeText.{named_in, type_at}
+use Rattle.std.proofs.Common.{◌≡◌, ◌++◌, string_bytes}
+use Rattle.code_text.specs.ScopeText.{unused_params}
 use Rattle.code_text.proofs.scope.push_unused_params.Given as goal
 
--- what stands there, with the parameters to come, is the whole
+-- the first k stand there
 abbrev pub invariant-loop-k : goal.invariant-loop-k
 invariant-loop-k l =
-    string_bytes l.text
-    ++ unused_params_text l.named.prefix.now l.k (map (type_at (named_in l.named)) (drop l.k l.params))
-    ≡ string_bytes l.initial.text
-    ++ unused_params_text l.named.prefix.now 0 (map (type_at (named_in l.named)) l.params)
+    string_bytes l.text ≡ string_bytes l.initial.text ++ unused_params l.prefix l.k
