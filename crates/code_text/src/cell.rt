@@ -9,7 +9,13 @@ use crate::piece::{Piece, push};
 use sample_core::Memory;
 
 /// `iPre`.
-pub(crate) fn push_i_pre<'a>(text: &mut String, prefix: &str, declared: Declared<'a>, c: Piece<'a>, x: Piece<'a>) -> Result<(), Memory>
+pub(crate) fn push_i_pre<'a>(
+    text: &mut String,
+    prefix: &str,
+    declared: Declared<'a>,
+    c: Piece<'a>,
+    x: Piece<'a>,
+) -> Result<(), Memory>
     ensures { IfOk result (λ _. string_bytes text.new ≡ string_bytes text.old
         ++ pieces_text prefix.now (i_pre_rows (declared_in declared.entry) (piece_of c.entry) (piece_of x.entry))) }
 {
@@ -36,7 +42,13 @@ pub(crate) fn push_i_pre<'a>(text: &mut String, prefix: &str, declared: Declared
 }
 
 /// `hold`.
-pub(crate) fn push_hold<'a>(text: &mut String, prefix: &str, declared: Declared<'a>, c: Piece<'a>, x: Piece<'a>) -> Result<(), Memory>
+pub(crate) fn push_hold<'a>(
+    text: &mut String,
+    prefix: &str,
+    declared: Declared<'a>,
+    c: Piece<'a>,
+    x: Piece<'a>,
+) -> Result<(), Memory>
     ensures { IfOk result (λ _. string_bytes text.new ≡ string_bytes text.old
         ++ pieces_text prefix.now (hold_rows (declared_in declared.entry) (piece_of c.entry) (piece_of x.entry))) }
 {
@@ -67,7 +79,13 @@ pub(crate) fn push_hold<'a>(text: &mut String, prefix: &str, declared: Declared<
 }
 
 /// `after`.
-pub(crate) fn push_after<'a>(text: &mut String, prefix: &str, declared: Declared<'a>, q: usize, c: Piece<'a>) -> Result<(), Memory>
+pub(crate) fn push_after<'a>(
+    text: &mut String,
+    prefix: &str,
+    declared: Declared<'a>,
+    q: usize,
+    c: Piece<'a>,
+) -> Result<(), Memory>
     ensures { IfOk result (λ _. string_bytes text.new ≡ string_bytes text.old
         ++ pieces_text prefix.now (after_rows (declared_in declared.entry) q (piece_of c.entry))) }
 {
@@ -102,7 +120,13 @@ pub(crate) fn push_after<'a>(text: &mut String, prefix: &str, declared: Declared
 }
 
 /// `repeatedly`.
-pub(crate) fn push_repeatedly<'a>(text: &mut String, prefix: &str, declared: Declared<'a>, q: usize, c: Piece<'a>) -> Result<(), Memory>
+pub(crate) fn push_repeatedly<'a>(
+    text: &mut String,
+    prefix: &str,
+    declared: Declared<'a>,
+    q: usize,
+    c: Piece<'a>,
+) -> Result<(), Memory>
     ensures { IfOk result (λ _. string_bytes text.new ≡ string_bytes text.old
         ++ pieces_text prefix.now (repeatedly_rows (declared_in declared.entry) q (piece_of c.entry))) }
 {
@@ -143,7 +167,11 @@ pub(crate) fn push_repeatedly<'a>(text: &mut String, prefix: &str, declared: Dec
 }
 
 /// `time`.
-pub(crate) fn push_time<'a>(text: &mut String, prefix: &str, declared: Declared<'a>) -> Result<(), Memory>
+pub(crate) fn push_time<'a>(
+    text: &mut String,
+    prefix: &str,
+    declared: Declared<'a>,
+) -> Result<(), Memory>
     ensures { IfOk result (λ _. string_bytes text.new ≡ string_bytes text.old
         ++ pieces_text prefix.now (time_rows (declared_in declared.entry))) }
 {
@@ -168,7 +196,12 @@ pub(crate) fn push_time<'a>(text: &mut String, prefix: &str, declared: Declared<
 }
 
 /// `integral`.
-pub(crate) fn push_integral<'a>(text: &mut String, prefix: &str, declared: Declared<'a>, x: Piece<'a>) -> Result<(), Memory>
+pub(crate) fn push_integral<'a>(
+    text: &mut String,
+    prefix: &str,
+    declared: Declared<'a>,
+    x: Piece<'a>,
+) -> Result<(), Memory>
     ensures { IfOk result (λ _. string_bytes text.new ≡ string_bytes text.old
         ++ pieces_text prefix.now (integral_rows (declared_in declared.entry) (piece_of x.entry))) }
 {
@@ -199,7 +232,14 @@ pub(crate) fn push_integral<'a>(text: &mut String, prefix: &str, declared: Decla
 }
 
 /// `delay`: a queue of the samples that are younger than q.
-pub(crate) fn push_delay<'a>(text: &mut String, prefix: &str, declared: Declared<'a>, q: usize, c: Piece<'a>, x: Piece<'a>) -> Result<(), Memory>
+pub(crate) fn push_delay<'a>(
+    text: &mut String,
+    prefix: &str,
+    declared: Declared<'a>,
+    q: usize,
+    c: Piece<'a>,
+    x: Piece<'a>,
+) -> Result<(), Memory>
     ensures { IfOk result (λ _. string_bytes text.new ≡ string_bytes text.old
         ++ pieces_text prefix.now (delay_rows (declared_in declared.entry) q (piece_of c.entry) (piece_of x.entry))) }
 {

@@ -96,7 +96,11 @@ fn push_input(text: &mut String, prefix: &str, leaf: Leaf<'_>) -> Result<(), Mem
         push(
             text,
             prefix,
-            &[Piece::Text("const "), Piece::Type(leaf.input), Piece::Text(" *x")],
+            &[
+                Piece::Text("const "),
+                Piece::Type(leaf.input),
+                Piece::Text(" *x"),
+            ],
         )?;
     }
     Ok(())
@@ -341,14 +345,23 @@ fn push_value(
         ≡ string_bytes text.old ++ pieces_text prefix.now (value_row (register_type (leaf_in leaf.entry)) (operation_of operation.now))) }
 {
     match operation {
-        Operation::Param(k) => push(text, prefix, &[Piece::Text("*p"), Piece::Number(*k as usize)])?,
+        Operation::Param(k) => push(
+            text,
+            prefix,
+            &[Piece::Text("*p"), Piece::Number(*k as usize)],
+        )?,
         Operation::Literal(literal) => push_literal(text, prefix, *literal)?,
         Operation::Left(i) => push(text, prefix, &[Piece::Reg(*i), Piece::Text(".a")])?,
         Operation::Right(i) => push(text, prefix, &[Piece::Reg(*i), Piece::Text(".b")])?,
         Operation::Neg(i) => push(
             text,
             prefix,
-            &[Piece::Name, Piece::Text("_neg("), Piece::Reg(*i), Piece::Text(")")],
+            &[
+                Piece::Name,
+                Piece::Text("_neg("),
+                Piece::Reg(*i),
+                Piece::Text(")"),
+            ],
         )?,
         Operation::Add(i, j) => push_call_two(text, prefix, "_add(", *i, *j)?,
         Operation::Sub(i, j) => push_call_two(text, prefix, "_sub(", *i, *j)?,
@@ -377,53 +390,53 @@ fn push_value(
         Operation::Equal(i, j) => {
             let letters = letters_at(leaf, *i);
             push(
-            text,
-            prefix,
-            &[
-                Piece::Name,
-                Piece::Text("_same_"),
-                letters,
-                Piece::Text("("),
-                Piece::At(*i),
-                Piece::Text(", "),
-                Piece::At(*j),
-                Piece::Text(")"),
-            ],
-        )?;
+                text,
+                prefix,
+                &[
+                    Piece::Name,
+                    Piece::Text("_same_"),
+                    letters,
+                    Piece::Text("("),
+                    Piece::At(*i),
+                    Piece::Text(", "),
+                    Piece::At(*j),
+                    Piece::Text(")"),
+                ],
+            )?;
         }
         Operation::Carried(i) => {
             let letters = letters_at(leaf, *i);
             push(
-            text,
-            prefix,
-            &[
-                Piece::Name,
-                Piece::Text("_value_"),
-                letters,
-                Piece::Text("("),
-                Piece::At(*i),
-                Piece::Text(")"),
-            ],
-        )?;
+                text,
+                prefix,
+                &[
+                    Piece::Name,
+                    Piece::Text("_value_"),
+                    letters,
+                    Piece::Text("("),
+                    Piece::At(*i),
+                    Piece::Text(")"),
+                ],
+            )?;
         }
         Operation::Nth(i, j, d) => {
             let letters = letters_at(leaf, *i);
             push(
-            text,
-            prefix,
-            &[
-                Piece::Name,
-                Piece::Text("_nth_"),
-                letters,
-                Piece::Text("("),
-                Piece::At(*i),
-                Piece::Text(", "),
-                Piece::Reg(*j),
-                Piece::Text(", "),
-                Piece::At(*d),
-                Piece::Text(")"),
-            ],
-        )?;
+                text,
+                prefix,
+                &[
+                    Piece::Name,
+                    Piece::Text("_nth_"),
+                    letters,
+                    Piece::Text("("),
+                    Piece::At(*i),
+                    Piece::Text(", "),
+                    Piece::Reg(*j),
+                    Piece::Text(", "),
+                    Piece::At(*d),
+                    Piece::Text(")"),
+                ],
+            )?;
         }
         _ => {}
     }

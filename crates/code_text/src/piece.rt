@@ -45,7 +45,12 @@ pub(crate) fn push(text: &mut String, prefix: &str, pieces: &[Piece<'_>]) -> Res
 }
 
 /// Adds pieces to the end of the text, where that holds.
-pub(crate) fn push_if(text: &mut String, prefix: &str, holds: bool, pieces: &[Piece<'_>]) -> Result<(), Memory>
+pub(crate) fn push_if(
+    text: &mut String,
+    prefix: &str,
+    holds: bool,
+    pieces: &[Piece<'_>],
+) -> Result<(), Memory>
     ensures { IfOk result (λ _. string_bytes text.new
         ≡ string_bytes text.old ++ pieces_text prefix.now (pieces_if holds (map piece_of pieces.now))) }
 {

@@ -7,7 +7,9 @@ ghost use Rattle.code_text.specs.ScopeText.{caller_in, members, named_in};
 ghost use Rattle.code_text.specs.RowText.{accumulation_text, action_text, answers_text, cell_rows, declaration_text, each_text, each_texts, effect_text, freezing_text, going_text, expression_in, guard_row, input_of, letters_in, letters_of, member_call_text, moment_text, pair_row, part_call_text, part_text, resumption_text, routed_text, routed_texts, value_text};
 ghost use Rattle.code_text.specs.RowText.{keeps_any as any_keeps, keeps_watched as watched_keeps};
 
-use crate::cell::{push_after, push_delay, push_hold, push_i_pre, push_integral, push_repeatedly, push_time};
+use crate::cell::{
+    push_after, push_delay, push_hold, push_i_pre, push_integral, push_repeatedly, push_time,
+};
 use crate::collection::push_collection;
 use crate::declared::Declared;
 use crate::piece::{Piece, push, push_if};
@@ -45,7 +47,12 @@ fn moment_of(when: When) -> &'static str
 }
 
 /// The lines that declare a value as an action's.
-pub(crate) fn push_action(text: &mut String, caller: Caller<'_>, declared: Declared<'_>, action: &Action) -> Result<(), Memory>
+pub(crate) fn push_action(
+    text: &mut String,
+    caller: Caller<'_>,
+    declared: Declared<'_>,
+    action: &Action,
+) -> Result<(), Memory>
     ensures { IfOk result (λ _. string_bytes text.new ≡ string_bytes text.old
         ++ action_text (caller_in caller.entry) (declared_in declared.entry) declared.entry.row action.now) }
 {
@@ -53,7 +60,13 @@ pub(crate) fn push_action(text: &mut String, caller: Caller<'_>, declared: Decla
         Action::Pair(j, k) => push_pair(text, caller.named.prefix, declared, *j, *k)?,
         Action::Each(part, k) => push_each(text, caller, declared, *part, *k)?,
         Action::Routed(_, part, k) => push_routed(text, caller, declared, *part, *k)?,
-        Action::Cell(form, j, k) => push_cell(text, caller.named.prefix, declared, *form, (*j, *k))?,
+        Action::Cell(form, j, k) => push_cell(
+            text,
+            caller.named.prefix,
+            declared,
+            *form,
+            (*j, *k),
+        )?,
         Action::Accumulate(_, j, k) => push_accumulation(text, caller, declared, *j, *k)?,
         Action::Collect(_, t, k) => push_collection(text, caller, declared, *t, *k)?,
         other => push_declaration(text, caller, declared, other)?,
@@ -62,7 +75,12 @@ pub(crate) fn push_action(text: &mut String, caller: Caller<'_>, declared: Decla
 }
 
 /// The line that declares a value as an action's that is one expression.
-fn push_declaration(text: &mut String, caller: Caller<'_>, declared: Declared<'_>, action: &Action) -> Result<(), Memory>
+fn push_declaration(
+    text: &mut String,
+    caller: Caller<'_>,
+    declared: Declared<'_>,
+    action: &Action,
+) -> Result<(), Memory>
     ensures { IfOk result (λ _. string_bytes text.new ≡ string_bytes text.old
         ++ declaration_text (caller_in caller.entry) (declared_in declared.entry) declared.entry.row action.now) }
 {
@@ -84,7 +102,12 @@ fn push_declaration(text: &mut String, caller: Caller<'_>, declared: Declared<'_
 }
 
 /// An action that is one expression.
-fn push_value(text: &mut String, caller: Caller<'_>, row: usize, action: &Action) -> Result<(), Memory>
+fn push_value(
+    text: &mut String,
+    caller: Caller<'_>,
+    row: usize,
+    action: &Action,
+) -> Result<(), Memory>
     ensures { IfOk result (λ _. string_bytes text.new ≡ string_bytes text.old
         ++ value_text (caller_in caller.entry) row action.now) }
 {
@@ -115,7 +138,13 @@ fn push_value(text: &mut String, caller: Caller<'_>, row: usize, action: &Action
                 Piece::Text(" : s->fed"),
             ],
         )?,
-        Action::Call(f, scope, part, when, k) => push_part_call(text, caller, (*f, *part, *when), *scope, &[Piece::At(*k)])?,
+        Action::Call(f, scope, part, when, k) => push_part_call(
+            text,
+            caller,
+            (*f, *part, *when),
+            *scope,
+            &[Piece::At(*k)],
+        )?,
         Action::GoesOn(f, t, k) => push_going_on(text, caller, *f, *t, *k)?,
         _ => {}
     }
@@ -123,7 +152,13 @@ fn push_value(text: &mut String, caller: Caller<'_>, row: usize, action: &Action
 }
 
 /// A call of a function on a part, at a moment and an input.
-fn push_part_call(text: &mut String, caller: Caller<'_>, called: (usize, Part, When), scope: Scope, input: &[Piece<'_>]) -> Result<(), Memory>
+fn push_part_call(
+    text: &mut String,
+    caller: Caller<'_>,
+    called: (usize, Part, When),
+    scope: Scope,
+    input: &[Piece<'_>],
+) -> Result<(), Memory>
     ensures { IfOk result (λ _. string_bytes text.new ≡ string_bytes text.old
         ++ part_call_text (caller_in caller.entry) called.0 called.1 called.2 scope (map piece_of input.now)) }
 {
@@ -145,19 +180,43 @@ fn push_part_call(text: &mut String, caller: Caller<'_>, called: (usize, Part, W
 }
 
 /// What goes on: t by the value that has taken over, or f.
-fn push_going_on(text: &mut String, caller: Caller<'_>, f: usize, t: usize, k: usize) -> Result<(), Memory>
+fn push_going_on(
+    text: &mut String,
+    caller: Caller<'_>,
+    f: usize,
+    t: usize,
+    k: usize,
+) -> Result<(), Memory>
     ensures { IfOk result (λ _. string_bytes text.new
         ≡ string_bytes text.old ++ going_text (caller_in caller.entry) f t k) }
 {
     push(text, caller.named.prefix, &[Piece::Text("s->taken ? ")])?;
-    push_part_call(text, caller, (t, Part::Taker, When::Now), Scope::Value, &[Piece::At(k)])?;
+    push_part_call(
+        text,
+        caller,
+        (t, Part::Taker, When::Now),
+        Scope::Value,
+        &[Piece::At(k)],
+    )?;
     push(text, caller.named.prefix, &[Piece::Text(" : ")])?;
-    push_part_call(text, caller, (f, Part::Front, When::Now), Scope::Same, &[Piece::At(k)])?;
+    push_part_call(
+        text,
+        caller,
+        (f, Part::Front, When::Now),
+        Scope::Same,
+        &[Piece::At(k)],
+    )?;
     Ok(())
 }
 
 /// The lines of a cell, which begins as register j, at register k.
-fn push_cell(text: &mut String, prefix: &str, declared: Declared<'_>, form: Form, at: (usize, usize)) -> Result<(), Memory>
+fn push_cell(
+    text: &mut String,
+    prefix: &str,
+    declared: Declared<'_>,
+    form: Form,
+    at: (usize, usize),
+) -> Result<(), Memory>
     ensures { IfOk result (λ _. string_bytes text.new ≡ string_bytes text.old
         ++ pieces_text prefix.now (cell_rows (declared_in declared.entry) form (reg at.0) (reg at.1))) }
 {
@@ -177,7 +236,13 @@ fn push_cell(text: &mut String, prefix: &str, declared: Declared<'_>, form: Form
 }
 
 /// A pair of registers.
-fn push_pair(text: &mut String, prefix: &str, declared: Declared<'_>, j: usize, k: usize) -> Result<(), Memory>
+fn push_pair(
+    text: &mut String,
+    prefix: &str,
+    declared: Declared<'_>,
+    j: usize,
+    k: usize,
+) -> Result<(), Memory>
     ensures { IfOk result (λ _. string_bytes text.new ≡ string_bytes text.old
         ++ pieces_text prefix.now (pair_row (declared_in declared.entry) j k)) }
 {
@@ -204,7 +269,11 @@ fn push_pair(text: &mut String, prefix: &str, declared: Declared<'_>, j: usize, 
 }
 
 /// A declared value, all of whose bytes are 0.
-pub(crate) fn push_zeros(text: &mut String, prefix: &str, declared: Declared<'_>) -> Result<(), Memory>
+pub(crate) fn push_zeros(
+    text: &mut String,
+    prefix: &str,
+    declared: Declared<'_>,
+) -> Result<(), Memory>
     ensures { IfOk result (λ _. string_bytes text.new ≡ string_bytes text.old
         ++ pieces_text prefix.now (zeros_row (declared_in declared.entry) [])) }
 {
@@ -227,7 +296,12 @@ pub(crate) fn push_zeros(text: &mut String, prefix: &str, declared: Declared<'_>
 }
 
 /// A list with room for so many answers.
-fn push_answers(text: &mut String, prefix: &str, declared: Declared<'_>, count: usize) -> Result<(), Memory>
+fn push_answers(
+    text: &mut String,
+    prefix: &str,
+    declared: Declared<'_>,
+    count: usize,
+) -> Result<(), Memory>
     ensures { IfOk result (λ _. string_bytes text.new ≡ string_bytes text.old
         ++ answers_text prefix.now (declared_in declared.entry) count) }
 {
@@ -247,7 +321,13 @@ fn push_answers(text: &mut String, prefix: &str, declared: Declared<'_>, count: 
 }
 
 /// The answers of the members, each at register k.
-fn push_each(text: &mut String, caller: Caller<'_>, declared: Declared<'_>, part: Part, k: usize) -> Result<(), Memory>
+fn push_each(
+    text: &mut String,
+    caller: Caller<'_>,
+    declared: Declared<'_>,
+    part: Part,
+    k: usize,
+) -> Result<(), Memory>
     ensures { IfOk result (λ _. string_bytes text.new ≡ string_bytes text.old
         ++ (answers_text caller.entry.named.prefix.now (declared_in declared.entry) (length (members caller.entry.function.now))
         ++ each_texts (caller_in caller.entry) (declared_in declared.entry) part k 0 (members caller.entry.function.now))) }
@@ -259,7 +339,13 @@ fn push_each(text: &mut String, caller: Caller<'_>, declared: Declared<'_>, part
 }
 
 /// The answers of these members.
-fn push_each_of(text: &mut String, caller: Caller<'_>, declared: Declared<'_>, at: (Part, usize), members: &[usize]) -> Result<(), Memory>
+fn push_each_of(
+    text: &mut String,
+    caller: Caller<'_>,
+    declared: Declared<'_>,
+    at: (Part, usize),
+    members: &[usize],
+) -> Result<(), Memory>
     ensures { IfOk result (λ _. string_bytes text.new ≡ string_bytes text.old
         ++ each_texts (caller_in caller.entry) (declared_in declared.entry) at.0 at.1 0 members.now) }
 {
@@ -270,7 +356,13 @@ fn push_each_of(text: &mut String, caller: Caller<'_>, declared: Declared<'_>, a
 }
 
 /// The answer of a member with its number.
-fn push_each_at(text: &mut String, caller: Caller<'_>, declared: Declared<'_>, at: (Part, usize), member: (usize, usize)) -> Result<(), Memory>
+fn push_each_at(
+    text: &mut String,
+    caller: Caller<'_>,
+    declared: Declared<'_>,
+    at: (Part, usize),
+    member: (usize, usize),
+) -> Result<(), Memory>
     ensures { IfOk result (λ _. string_bytes text.new ≡ string_bytes text.old
         ++ each_text (caller_in caller.entry) (declared_in declared.entry) at.0 at.1 member.0 member.1) }
 {
@@ -291,7 +383,13 @@ fn push_each_at(text: &mut String, caller: Caller<'_>, declared: Declared<'_>, a
 }
 
 /// The call of a member with its number.
-fn push_member_call(text: &mut String, caller: Caller<'_>, part: Part, member: (usize, usize), input: &[Piece<'_>]) -> Result<(), Memory>
+fn push_member_call(
+    text: &mut String,
+    caller: Caller<'_>,
+    part: Part,
+    member: (usize, usize),
+    input: &[Piece<'_>],
+) -> Result<(), Memory>
     ensures { IfOk result (λ _. string_bytes text.new ≡ string_bytes text.old
         ++ member_call_text (caller_in caller.entry) part member.0 member.1 (map piece_of input.now)) }
 {
@@ -301,7 +399,11 @@ fn push_member_call(text: &mut String, caller: Caller<'_>, part: Part, member: (
         caller,
         Call {
             function: member.1,
-            part: &[Piece::Text(address), Piece::Text(".m"), Piece::Number(member.0)],
+            part: &[
+                Piece::Text(address),
+                Piece::Text(".m"),
+                Piece::Number(member.0),
+            ],
             moment: "dt",
             input,
             scope: Scope::Same,
@@ -312,7 +414,13 @@ fn push_member_call(text: &mut String, caller: Caller<'_>, part: Part, member: (
 }
 
 /// The answers of the members, each at the leaf's value at register k and its number.
-fn push_routed(text: &mut String, caller: Caller<'_>, declared: Declared<'_>, part: Part, k: usize) -> Result<(), Memory>
+fn push_routed(
+    text: &mut String,
+    caller: Caller<'_>,
+    declared: Declared<'_>,
+    part: Part,
+    k: usize,
+) -> Result<(), Memory>
     ensures { IfOk result (λ _. string_bytes text.new ≡ string_bytes text.old
         ++ (answers_text caller.entry.named.prefix.now (declared_in declared.entry) (length (members caller.entry.function.now))
         ++ routed_texts (caller_in caller.entry) (declared_in declared.entry) declared.entry.row part k 0 (members caller.entry.function.now))) }
@@ -324,7 +432,13 @@ fn push_routed(text: &mut String, caller: Caller<'_>, declared: Declared<'_>, pa
 }
 
 /// The routed answers of these members.
-fn push_routed_of(text: &mut String, caller: Caller<'_>, declared: Declared<'_>, at: (Part, usize), members: &[usize]) -> Result<(), Memory>
+fn push_routed_of(
+    text: &mut String,
+    caller: Caller<'_>,
+    declared: Declared<'_>,
+    at: (Part, usize),
+    members: &[usize],
+) -> Result<(), Memory>
     ensures { IfOk result (λ _. string_bytes text.new ≡ string_bytes text.old
         ++ routed_texts (caller_in caller.entry) (declared_in declared.entry) declared.entry.row at.0 at.1 0 members.now) }
 {
@@ -335,7 +449,13 @@ fn push_routed_of(text: &mut String, caller: Caller<'_>, declared: Declared<'_>,
 }
 
 /// The routed answer of a member with its number.
-fn push_routed_at<'a>(text: &mut String, caller: Caller<'a>, declared: Declared<'a>, at: (Part, usize), member: (usize, usize)) -> Result<(), Memory>
+fn push_routed_at<'a>(
+    text: &mut String,
+    caller: Caller<'a>,
+    declared: Declared<'a>,
+    at: (Part, usize),
+    member: (usize, usize),
+) -> Result<(), Memory>
     ensures { IfOk result (λ _. string_bytes text.new ≡ string_bytes text.old
         ++ routed_text (caller_in caller.entry) (declared_in declared.entry) declared.entry.row at.0 at.1 member.0 member.1) }
 {
@@ -388,7 +508,13 @@ fn input_type<'a>(caller: Caller<'a>, k: usize) -> &'a Ty
 }
 
 /// The accumulator of an `accumBy`, which begins as register j, at the event in register k.
-fn push_accumulation(text: &mut String, caller: Caller<'_>, declared: Declared<'_>, j: usize, k: usize) -> Result<(), Memory>
+fn push_accumulation(
+    text: &mut String,
+    caller: Caller<'_>,
+    declared: Declared<'_>,
+    j: usize,
+    k: usize,
+) -> Result<(), Memory>
     ensures { IfOk result (λ _. string_bytes text.new ≡ string_bytes text.old
         ++ accumulation_text (caller_in caller.entry) (declared_in declared.entry) declared.entry.row j k) }
 {
@@ -467,13 +593,21 @@ fn push_letters_of(text: &mut String, prefix: &str, kept: &Ty, input: &Ty) -> Re
 }
 
 /// The lines of an effect.
-pub(crate) fn push_effect(text: &mut String, caller: Caller<'_>, effect: Effect) -> Result<(), Memory>
+pub(crate) fn push_effect(
+    text: &mut String,
+    caller: Caller<'_>,
+    effect: Effect,
+) -> Result<(), Memory>
     ensures { IfOk result (λ _. string_bytes text.new
         ≡ string_bytes text.old ++ effect_text (caller_in caller.entry) effect) }
 {
     let prefix = caller.named.prefix;
     match effect {
-        Effect::Clear => push(text, prefix, &[Piece::Text("    if (dt == 0) { s->taken = false; }\n")])?,
+        Effect::Clear => push(
+            text,
+            prefix,
+            &[Piece::Text("    if (dt == 0) { s->taken = false; }\n")],
+        )?,
         Effect::Take(k) => push(
             text,
             prefix,
@@ -488,7 +622,11 @@ pub(crate) fn push_effect(text: &mut String, caller: Caller<'_>, effect: Effect)
         Effect::Feed(k) => push(
             text,
             prefix,
-            &[Piece::Text("    s->fed = "), Piece::Reg(k), Piece::Text(";\n")],
+            &[
+                Piece::Text("    s->fed = "),
+                Piece::Reg(k),
+                Piece::Text(";\n"),
+            ],
         )?,
         Effect::Freeze => push_freezing(text, caller)?,
         Effect::Resume(k) => push_resumption(text, caller, k)?,
@@ -502,7 +640,11 @@ fn push_freezing(text: &mut String, caller: Caller<'_>) -> Result<(), Memory>
     ensures { IfOk result (λ _. string_bytes text.new
         ≡ string_bytes text.old ++ freezing_text (caller_in caller.entry)) }
 {
-    push(text, caller.named.prefix, &[Piece::Text("    s->frozen_at = dt;\n")])?;
+    push(
+        text,
+        caller.named.prefix,
+        &[Piece::Text("    s->frozen_at = dt;\n")],
+    )?;
     push_if(
         text,
         caller.named.prefix,
@@ -553,7 +695,11 @@ fn push_resumption(text: &mut String, caller: Caller<'_>, k: usize) -> Result<()
         text,
         prefix,
         caller.layout.keeps,
-        &[Piece::Text(" s->all = *o"), Piece::Number(k), Piece::Text(";")],
+        &[
+            Piece::Text(" s->all = *o"),
+            Piece::Number(k),
+            Piece::Text(";"),
+        ],
     )?;
     push(text, prefix, &[Piece::Text(" }\n")])?;
     Ok(())
@@ -570,7 +716,11 @@ pub(crate) fn push_guard(text: &mut String, prefix: &str, guard: Guard) -> Resul
         Guard::NoEvent(k) => push(
             text,
             prefix,
-            &[Piece::Text("    if (!"), Piece::Reg(k), Piece::Text(".is) {\n")],
+            &[
+                Piece::Text("    if (!"),
+                Piece::Reg(k),
+                Piece::Text(".is) {\n"),
+            ],
         )?,
     }
     Ok(())

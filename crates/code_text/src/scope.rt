@@ -66,7 +66,8 @@ pub(crate) fn members_of(function: &Function) -> &[usize]
     ensures { result.now ≡ members function.now }
 {
     match function {
-        Function::Par(fs) | Function::PSwitch(_, fs, _, _) | Function::Collection(fs, _, _) => fs.as_slice(),
+        Function::Par(fs) | Function::PSwitch(_, fs, _, _) | Function::Collection(fs, _, _) =>
+            fs.as_slice(),
         _ => &[],
     }
 }
@@ -137,7 +138,12 @@ fn push_old_arguments(text: &mut String, named: Named<'_>, olds: &[usize]) -> Re
 }
 
 /// A frozen network as an argument: what it kept, and its moment.
-fn push_old_argument(text: &mut String, named: Named<'_>, k: usize, old: usize) -> Result<(), Memory>
+fn push_old_argument(
+    text: &mut String,
+    named: Named<'_>,
+    k: usize,
+    old: usize,
+) -> Result<(), Memory>
     ensures { IfOk result (λ _. string_bytes text.new
         ≡ string_bytes text.old ++ old_argument (named_in named.entry) k old) }
 {
@@ -157,7 +163,11 @@ fn push_old_argument(text: &mut String, named: Named<'_>, k: usize, old: usize) 
     push(
         text,
         named.prefix,
-        &[Piece::Text(", int64_t o"), Piece::Number(k), Piece::Text("_at")],
+        &[
+            Piece::Text(", int64_t o"),
+            Piece::Number(k),
+            Piece::Text("_at"),
+        ],
     )?;
     Ok(())
 }
@@ -169,7 +179,12 @@ pub(crate) fn push_unused(text: &mut String, caller: Caller<'_>) -> Result<(), M
 {
     let prefix = caller.named.prefix;
     push(text, prefix, &[Piece::Text("    ")])?;
-    push_if(text, prefix, caller.layout.keeps, &[Piece::Text("(void)s; ")])?;
+    push_if(
+        text,
+        prefix,
+        caller.layout.keeps,
+        &[Piece::Text("(void)s; ")],
+    )?;
     push(text, prefix, &[Piece::Text("(void)dt; (void)x;")])?;
     push_unused_params(text, prefix, caller.layout.params.as_slice().len())?;
     push_unused_olds(text, caller.named, caller.layout.olds.as_slice())?;
@@ -217,7 +232,11 @@ fn push_unused_old(text: &mut String, named: Named<'_>, k: usize, old: usize) ->
     push(
         text,
         named.prefix,
-        &[Piece::Text(" (void)o"), Piece::Number(k), Piece::Text("_at;")],
+        &[
+            Piece::Text(" (void)o"),
+            Piece::Number(k),
+            Piece::Text("_at;"),
+        ],
     )?;
     Ok(())
 }
@@ -266,13 +285,22 @@ fn push_same(text: &mut String, caller: Caller<'_>) -> Result<(), Memory>
     ensures { IfOk result (λ _. string_bytes text.new
         ≡ string_bytes text.old ++ same_scope (caller_in caller.entry)) }
 {
-    push_params(text, caller.named.prefix, caller.layout.params.as_slice().len())?;
+    push_params(
+        text,
+        caller.named.prefix,
+        caller.layout.params.as_slice().len(),
+    )?;
     push_olds(text, caller.named, caller.layout.olds.as_slice())?;
     Ok(())
 }
 
 /// The first so many parameters and frozen networks.
-fn push_first(text: &mut String, caller: Caller<'_>, params: usize, frozen: usize) -> Result<(), Memory>
+fn push_first(
+    text: &mut String,
+    caller: Caller<'_>,
+    params: usize,
+    frozen: usize,
+) -> Result<(), Memory>
     ensures { IfOk result (λ _. string_bytes text.new
         ≡ string_bytes text.old ++ first_scope (caller_in caller.entry) params frozen) }
 {
@@ -287,8 +315,16 @@ fn push_taken(text: &mut String, caller: Caller<'_>, scope: Scope, by: &str) -> 
     ensures { IfOk result (λ _. string_bytes text.new
         ≡ string_bytes text.old ++ taken_scope (caller_in caller.entry) scope by.now) }
 {
-    push_params(text, caller.named.prefix, caller.layout.params.as_slice().len())?;
-    push(text, caller.named.prefix, &[Piece::Text(", "), Piece::Text(by)])?;
+    push_params(
+        text,
+        caller.named.prefix,
+        caller.layout.params.as_slice().len(),
+    )?;
+    push(
+        text,
+        caller.named.prefix,
+        &[Piece::Text(", "), Piece::Text(by)],
+    )?;
     push_olds(text, caller.named, caller.layout.olds.as_slice())?;
     push_frozen(text, caller, scope)?;
     Ok(())
@@ -365,7 +401,12 @@ fn push_frozen_watched(text: &mut String, named: Named<'_>, watched: usize) -> R
     ensures { IfOk result (λ _. string_bytes text.new
         ≡ string_bytes text.old ++ frozen_watched (named_in named.entry) watched) }
 {
-    push_if(text, named.prefix, named.keeps(watched), &[Piece::Text(", &s->frozen")])?;
+    push_if(
+        text,
+        named.prefix,
+        named.keeps(watched),
+        &[Piece::Text(", &s->frozen")],
+    )?;
     push(text, named.prefix, &[Piece::Text(", s->frozen_at")])?;
     Ok(())
 }
@@ -382,7 +423,12 @@ fn push_frozen_members(text: &mut String, named: Named<'_>, members: &[usize]) -
 }
 
 /// A member, frozen.
-fn push_frozen_member(text: &mut String, named: Named<'_>, k: usize, member: usize) -> Result<(), Memory>
+fn push_frozen_member(
+    text: &mut String,
+    named: Named<'_>,
+    k: usize,
+    member: usize,
+) -> Result<(), Memory>
     ensures { IfOk result (λ _. string_bytes text.new
         ≡ string_bytes text.old ++ frozen_member (named_in named.entry) k member) }
 {
@@ -397,7 +443,12 @@ fn push_frozen_member(text: &mut String, named: Named<'_>, k: usize, member: usi
 }
 
 /// A call of the leaf of a row.
-pub(crate) fn push_leaf_call(text: &mut String, caller: Caller<'_>, row: usize, input: &[Piece<'_>]) -> Result<(), Memory>
+pub(crate) fn push_leaf_call(
+    text: &mut String,
+    caller: Caller<'_>,
+    row: usize,
+    input: &[Piece<'_>],
+) -> Result<(), Memory>
     ensures { IfOk result (λ _. string_bytes text.new ≡ string_bytes text.old
         ++ leaf_call_text (caller_in caller.entry) row (map piece_of input.now)) }
 {
