@@ -21,8 +21,7 @@ split_here m t c cs n false ih l =
 pub each_split : (m : ℕ) (t bs : List ℕ) → position_or_len (λ b. b == m) bs < length bs
     → with_each m t bs
     ≡ before_first (λ b. b == m) bs ++ (t ++ with_each m t (after_first (λ b. b == m) bs))
-unfolding before_first after_first position_or_len
-each_split m t [] l = absurd (omega arith)
+each_split m t [] l = absurd (omega (arith, l))
 each_split m t (c ∷ cs) l = split_here m t c cs (position_or_len (λ b. b == m) cs) (c == m) (each_split m t cs) l
 
 same_here : (m : ℕ) (t : List ℕ) (c : ℕ) (cs : List ℕ) (n : ℕ) (b : Bool)
@@ -35,7 +34,6 @@ same_here m t c cs n false ih l = ap (λ s. c ∷ s) (ih (omega (arith, l)))
 -- a text without a mark
 pub each_same : (m : ℕ) (t bs : List ℕ) → position_or_len (λ b. b == m) bs ≡ length bs
     → with_each m t bs ≡ bs
-unfolding position_or_len
 each_same m t [] l = refl
 each_same m t (c ∷ cs) l = same_here m t c cs (position_or_len (λ b. b == m) cs) (c == m) (each_same m t cs) l
 
@@ -45,7 +43,9 @@ module _ (m : ℕ) (t rest : List ℕ) (r : Option (Bor (List ℕ) × Bor (List 
       → with_each m t rest ≡ x.0.now ++ (t ++ with_each m t x.1.now)
   each_step x is =
       let (inside, front, back) = rw is at (split_once_first m rest r split ascii) in
-      rw (front, back) (each_split m t rest inside)
+      each_split m t rest inside
+      ∙ ap (λ s. s ++ (t ++ with_each m t (after_first (λ b. b == m) rest))) (sym front)
+      ∙ ap (λ s. x.0.now ++ (t ++ with_each m t s)) (sym back)
 
   pub each_last : r ≡ None → with_each m t rest ≡ rest
   each_last is =
