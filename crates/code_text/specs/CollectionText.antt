@@ -29,6 +29,21 @@ written_text P (suc i) =
     ++ pieces_text P
     (text (codes " s->m[0][") ∷ number i ∷ text (codes "].origin = ") ∷ number i ∷ text (codes ";") ∷ [])
 
+module _ (c : Caller) where
+  -- a call of function f on a member's part, at the left of register k, by the member's own value
+  abbrev pub turn_call : ℕ → List Piece → Scope → ℕ → List ℕ
+  turn_call f part scope k =
+      call_text c
+      (record { function = f; part = part; moment = codes "at"; input = text (codes "&") ∷ reg k ∷ text (codes ".a") ∷ []; scope = scope; by = codes "&m->by" })
+
+  -- that of the written member i
+  abbrev pub case_call : ℕ → ℕ → ℕ → List ℕ
+  case_call k i f = turn_call f (text (codes "&m->m") ∷ number i ∷ []) C.Same k
+
+  -- that of a member that isn't written, but made of function t
+  abbrev pub default_call : ℕ → ℕ → List ℕ
+  default_call t k = turn_call t (text (codes "&m->taker") ∷ []) C.Value k
+
 module _ (c : Caller) (d : Declared) where
   -- how many members are written
   abbrev pub written_count : ℕ
@@ -44,9 +59,9 @@ module _ (c : Caller) (d : Declared) where
       ++ pieces_text c.named.prefix
       (text (codes " }\n") ∷ d.indent ∷ text (codes "uint32_t kept = s->count;\n") ∷ []))
 
-  -- the members that are named go on, and others start: at most 64 in all, on the other side
-  abbrev pub chosen_rows : List Piece
-  chosen_rows =
+  -- the members that are named go on, on the other side
+  abbrev pub moved_rows : List Piece
+  moved_rows =
       text (codes ";\n")
       ∷ d.indent ∷ text (codes "    const struct ") ∷ name ∷ text (codes "_m") ∷ number c.number
       ∷ text (codes " *was = s->m[s->side];\n")
@@ -57,8 +72,12 @@ module _ (c : Caller) (d : Declared) where
       ∷ d.indent
       ∷ text
       (codes "        if ((uint64_t)w.a.e[i] < s->count) { to[kept] = was[w.a.e[i]]; kept++; }\n")
-      ∷ d.indent ∷ text (codes "    }\n")
-      ∷ d.indent ∷ text (codes "    uint32_t all = kept;\n")
+      ∷ d.indent ∷ text (codes "    }\n") ∷ []
+
+  -- others start behind them, as long as there are at most 64
+  abbrev pub started_rows : List Piece
+  started_rows =
+      d.indent ∷ text (codes "    uint32_t all = kept;\n")
       ∷ d.indent ∷ text (codes "    for (uint32_t i = 0; (i < w.b.n) && (all < 64); i++) {\n")
       ∷ d.indent ∷ text (codes "        to[all].origin = ") ∷ number written_count
       ∷ text (codes "; to[all].by = w.b.e[i]; all++;\n")
@@ -76,22 +95,15 @@ module _ (c : Caller) (d : Declared) where
       ++ (pieces_text c.named.prefix (letters_row (kept_type c))
       ++ (pieces_text c.named.prefix (text (codes " w = ") ∷ [])
       ++ (leaf_call_text c row (text (codes "&") ∷ reg k ∷ text (codes ".b.v") ∷ [])
-      ++ pieces_text c.named.prefix chosen_rows)))
+      ++ (pieces_text c.named.prefix moved_rows ++ pieces_text c.named.prefix started_rows))))
 
-  -- the answer of function f on its part, at the left of register k
-  abbrev pub turn_text : ℕ → List Piece → Scope → ℕ → List ℕ
-  turn_text f part scope k =
-      pieces_text c.named.prefix (d.value ∷ text (codes ".e[i] = ") ∷ [])
-      ++ (call_text c
-      (record { function = f; part = part; moment = codes "at"; input = text (codes "&") ∷ reg k ∷ text (codes ".a") ∷ []; scope = scope; by = codes "&m->by" })
-      ++ pieces_text c.named.prefix (text (codes "; break;\n") ∷ []))
-
-  -- that of the written member i, function f
+  -- the answer of the written member i, function f
   abbrev pub case_text : ℕ → ℕ → ℕ → List ℕ
   case_text k i f =
       pieces_text c.named.prefix
-      (d.indent ∷ text (codes "    case ") ∷ number i ∷ text (codes ": ") ∷ [])
-      ++ turn_text f (text (codes "&m->m") ∷ number i ∷ []) C.Same k
+      (d.indent ∷ text (codes "    case ") ∷ number i ∷ text (codes ": ") ∷ d.value
+      ∷ text (codes ".e[i] = ") ∷ [])
+      ++ (case_call c k i f ++ pieces_text c.named.prefix (text (codes "; break;\n") ∷ []))
 
   -- those of the written members, from number i on
   abbrev pub cases_text : ℕ → ℕ → List ℕ → List ℕ
@@ -108,11 +120,12 @@ module _ (c : Caller) (d : Declared) where
       ∷ d.indent ∷ text (codes "    const int64_t at = (i < kept) ? dt : 0;\n")
       ∷ d.indent ∷ text (codes "    switch (m->origin) {\n") ∷ []
 
-  -- that of a member that isn't written: of function t, by its own value
+  -- that of a member that isn't written, but made of function t
   abbrev pub default_text : ℕ → ℕ → List ℕ
   default_text t k =
-      pieces_text c.named.prefix (d.indent ∷ text (codes "    default: ") ∷ [])
-      ++ turn_text t (text (codes "&m->taker") ∷ []) C.Value k
+      pieces_text c.named.prefix
+      (d.indent ∷ text (codes "    default: ") ∷ d.value ∷ text (codes ".e[i] = ") ∷ [])
+      ++ (default_call c t k ++ pieces_text c.named.prefix (text (codes "; break;\n") ∷ []))
 
   -- those of all members
   abbrev pub turns_text : ℕ → ℕ → List ℕ

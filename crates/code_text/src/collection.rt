@@ -3,7 +3,7 @@
 ghost use Rattle.std.specs.Prelude.{◌≡◌, ◌++◌, IfOk, string_bytes};
 ghost use Rattle.code_text.specs.Piece.{pieces_text};
 ghost use Rattle.code_text.specs.{CellText.declared_in, ScopeText.caller_in};
-ghost use Rattle.code_text.specs.CollectionText.{beginning_text, case_text, cases_text, choice_text, chosen_rows, collection_text, default_text, kept_type, letters_row, turns_head, turns_text, written_text};
+ghost use Rattle.code_text.specs.CollectionText.{beginning_text, case_call, case_text, cases_text, choice_text, collection_text, default_call, default_text, kept_type, letters_row, moved_rows, started_rows, turns_head, turns_text, written_text};
 
 use crate::declared::Declared;
 use crate::piece::{Piece, push};
@@ -117,7 +117,8 @@ fn push_choice(
         declared.row,
         &[Piece::Text("&"), Piece::Reg(k), Piece::Text(".b.v")],
     )?;
-    push_chosen(text, caller, declared)?;
+    push_moved(text, caller, declared)?;
+    push_started(text, caller, declared)?;
     Ok(())
 }
 
@@ -136,14 +137,12 @@ fn push_kept_letters(text: &mut String, caller: Caller<'_>) -> Result<(), Memory
     Ok(())
 }
 
-/// The members that are named go on, and others start, on the other side.
-fn push_chosen(text: &mut String, caller: Caller<'_>, declared: Declared<'_>) -> Result<(), Memory>
+/// The members that are named go on, on the other side.
+fn push_moved(text: &mut String, caller: Caller<'_>, declared: Declared<'_>) -> Result<(), Memory>
     ensures { IfOk result (λ _. string_bytes text.new ≡ string_bytes text.old
-        ++ pieces_text caller.entry.named.prefix.now (chosen_rows (caller_in caller.entry) (declared_in declared.entry))) }
+        ++ pieces_text caller.entry.named.prefix.now (moved_rows (caller_in caller.entry) (declared_in declared.entry))) }
 {
     let indent = Piece::Text(declared.indent);
-    let members = members_of(caller.function);
-    let count = members.len();
     push(
         text,
         caller.named.prefix,
@@ -166,11 +165,26 @@ fn push_chosen(text: &mut String, caller: Caller<'_>, declared: Declared<'_>) ->
             indent,
             Piece::Text("    for (uint32_t i = 0; (i < w.a.n) && (kept < 64); i++) {\n"),
             indent,
-            Piece::Text(
-                "        if ((uint64_t)w.a.e[i] < s->count) { to[kept] = was[w.a.e[i]]; kept++; }\n",
-            ),
+            Piece::Text("        if ((uint64_t)w.a.e[i] < s->count) { to[kept] = was[w.a.e[i]]; kept++; }\n"),
             indent,
             Piece::Text("    }\n"),
+        ],
+    )?;
+    Ok(())
+}
+
+/// Others start behind them.
+fn push_started(text: &mut String, caller: Caller<'_>, declared: Declared<'_>) -> Result<(), Memory>
+    ensures { IfOk result (λ _. string_bytes text.new ≡ string_bytes text.old
+        ++ pieces_text caller.entry.named.prefix.now (started_rows (caller_in caller.entry) (declared_in declared.entry))) }
+{
+    let indent = Piece::Text(declared.indent);
+    let members = members_of(caller.function);
+    let count = members.len();
+    push(
+        text,
+        caller.named.prefix,
+        &[
             indent,
             Piece::Text("    uint32_t all = kept;\n"),
             indent,
@@ -290,9 +304,25 @@ fn push_case(
             Piece::Text("    case "),
             Piece::Number(member.0),
             Piece::Text(": "),
+            declared.name,
+            Piece::Text(".e[i] = "),
         ],
     )?;
-    push(text, caller.named.prefix, &[declared.name, Piece::Text(".e[i] = ")])?;
+    push_case_call(text, caller, member, k)?;
+    push(text, caller.named.prefix, &[Piece::Text("; break;\n")])?;
+    Ok(())
+}
+
+/// The call of a written member, by its number and its function.
+fn push_case_call(
+    text: &mut String,
+    caller: Caller<'_>,
+    member: (usize, usize),
+    k: usize,
+) -> Result<(), Memory>
+    ensures { IfOk result (λ _. string_bytes text.new ≡ string_bytes text.old
+        ++ case_call (caller_in caller.entry) k member.0 member.1) }
+{
     push_call(
         text,
         caller,
@@ -305,7 +335,6 @@ fn push_case(
             by: "&m->by",
         },
     )?;
-    push(text, caller.named.prefix, &[Piece::Text("; break;\n")])?;
     Ok(())
 }
 
@@ -323,9 +352,28 @@ fn push_default(
     push(
         text,
         caller.named.prefix,
-        &[Piece::Text(declared.indent), Piece::Text("    default: ")],
+        &[
+            Piece::Text(declared.indent),
+            Piece::Text("    default: "),
+            declared.name,
+            Piece::Text(".e[i] = "),
+        ],
     )?;
-    push(text, caller.named.prefix, &[declared.name, Piece::Text(".e[i] = ")])?;
+    push_default_call(text, caller, t, k)?;
+    push(text, caller.named.prefix, &[Piece::Text("; break;\n")])?;
+    Ok(())
+}
+
+/// The call of a member of function t, by its own value.
+fn push_default_call(
+    text: &mut String,
+    caller: Caller<'_>,
+    t: usize,
+    k: usize,
+) -> Result<(), Memory>
+    ensures { IfOk result (λ _. string_bytes text.new
+        ≡ string_bytes text.old ++ default_call (caller_in caller.entry) t k) }
+{
     push_call(
         text,
         caller,
@@ -338,6 +386,5 @@ fn push_default(
             by: "&m->by",
         },
     )?;
-    push(text, caller.named.prefix, &[Piece::Text("; break;\n")])?;
     Ok(())
 }

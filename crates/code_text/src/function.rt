@@ -31,7 +31,11 @@ pub(crate) fn push_comment(text: &mut String, caller: Caller<'_>) -> Result<(), 
     push(
         text,
         caller.named.prefix,
-        &[Piece::Text("/* "), Piece::Text(word), Piece::Text(" at (at")],
+        &[
+            Piece::Text("/* "),
+            Piece::Text(word),
+            Piece::Text(" at (at"),
+        ],
     )?;
     push_position(text, caller.named.prefix, caller.layout.position.as_slice())?;
     push(
@@ -54,7 +58,11 @@ fn push_position(text: &mut String, prefix: &str, position: &[u32]) -> Result<()
         ≡ string_bytes text.old ++ position_text prefix.now position.now) }
 {
     for k in position {
-        push(text, prefix, &[Piece::Text(" "), Piece::Number(*k as usize)])?;
+        push(
+            text,
+            prefix,
+            &[Piece::Text(" "), Piece::Number(*k as usize)],
+        )?;
     }
     Ok(())
 }
@@ -101,7 +109,11 @@ fn cell_word(form: Form) -> &'static str
 }
 
 /// A function, behind those of its leaves.
-pub(crate) fn push_function(alloc: Global, text: &mut String, caller: Caller<'_>) -> Result<(), Memory>
+pub(crate) fn push_function(
+    alloc: Global,
+    text: &mut String,
+    caller: Caller<'_>,
+) -> Result<(), Memory>
     ensures { IfOk result (λ _. string_bytes text.new
         ≡ string_bytes text.old ++ function_text (caller_in caller.entry)) }
 {
@@ -199,8 +211,21 @@ fn push_row(
         ++ row_text (caller_in caller.entry) at.0 at.1 at.2 statement.now) }
 {
     match statement {
-        Statement::Set(action) => push_set(text, caller, (at.0, at.1), value_type(caller, at.2), action)?,
-        Statement::Exit(guard, action) => push_exit(text, caller, at.0, value_type(caller, at.2), *guard, action)?,
+        Statement::Set(action) => push_set(
+            text,
+            caller,
+            (at.0, at.1),
+            value_type(caller, at.2),
+            action,
+        )?,
+        Statement::Exit(guard, action) => push_exit(
+            text,
+            caller,
+            at.0,
+            value_type(caller, at.2),
+            *guard,
+            action,
+        )?,
         Statement::Do(effect) => push_effect(text, caller, *effect)?,
     }
     Ok(())
@@ -237,7 +262,11 @@ fn push_set(
     push(
         text,
         caller.named.prefix,
-        &[Piece::Text("    (void)"), Piece::Reg(at.1), Piece::Text(";\n")],
+        &[
+            Piece::Text("    (void)"),
+            Piece::Reg(at.1),
+            Piece::Text(";\n"),
+        ],
     )?;
     Ok(())
 }
@@ -269,7 +298,12 @@ fn push_exit(
         caller.named.prefix,
         &[Piece::Text(indent), Piece::Text("return y;\n")],
     )?;
-    push_if(text, caller.named.prefix, guarded, &[Piece::Text("    }\n")])?;
+    push_if(
+        text,
+        caller.named.prefix,
+        guarded,
+        &[Piece::Text("    }\n")],
+    )?;
     Ok(())
 }
 
@@ -318,7 +352,9 @@ fn push_leaf_in(
         ≡ string_bytes text.old ++ leaf_in_text (caller_in caller.entry) row statement.now) }
 {
     match statement {
-        Statement::Set(action) | Statement::Exit(_, action) => push_leaf_of(alloc, text, caller, row, action)?,
+        Statement::Set(action) | Statement::Exit(_, action) => push_leaf_of(
+            alloc, text, caller, row, action,
+        )?,
         Statement::Do(_) => {}
     }
     Ok(())

@@ -29,7 +29,11 @@ fn push_members(text: &mut String, caller: Caller<'_>) -> Result<(), Memory>
         ≡ string_bytes text.old ++ members_text (caller_in caller.entry) caller.entry.function.now) }
 {
     match caller.function {
-        Function::Par(fs) | Function::PSwitch(_, fs, _, _) => push_stores(text, caller, fs.as_slice())?,
+        Function::Par(fs) | Function::PSwitch(_, fs, _, _) => push_stores(
+            text,
+            caller,
+            fs.as_slice(),
+        )?,
         Function::Collection(fs, _, t) => push_turn(text, caller, fs.as_slice(), *t)?,
         _ => {}
     }
@@ -59,7 +63,12 @@ fn push_store_struct(text: &mut String, caller: Caller<'_>, members: &[usize]) -
 }
 
 /// The struct of a member of a collection.
-fn push_turn(text: &mut String, caller: Caller<'_>, members: &[usize], t: usize) -> Result<(), Memory>
+fn push_turn(
+    text: &mut String,
+    caller: Caller<'_>,
+    members: &[usize],
+    t: usize,
+) -> Result<(), Memory>
     ensures { IfOk result (λ _. string_bytes text.new
         ≡ string_bytes text.old ++ turn_struct (caller_in caller.entry) members.now t) }
 {
@@ -167,7 +176,12 @@ fn push_own<'a>(text: &mut String, caller: Caller<'a>, field: &'a str) -> Result
             push(
                 text,
                 caller.named.prefix,
-                &[Piece::Text("    "), Piece::Type(ty), Piece::Text(" "), Piece::Text(field)],
+                &[
+                    Piece::Text("    "),
+                    Piece::Type(ty),
+                    Piece::Text(" "),
+                    Piece::Text(field),
+                ],
             )?;
         }
         None => {}
@@ -264,7 +278,13 @@ fn push_switch(text: &mut String, caller: Caller<'_>, f: usize, t: usize) -> Res
 }
 
 /// `kSwitch` of f, e and t.
-fn push_k_switch(text: &mut String, caller: Caller<'_>, f: usize, e: usize, t: usize) -> Result<(), Memory>
+fn push_k_switch(
+    text: &mut String,
+    caller: Caller<'_>,
+    f: usize,
+    e: usize,
+    t: usize,
+) -> Result<(), Memory>
     ensures { IfOk result (λ _. string_bytes text.new
         ≡ string_bytes text.old ++ k_switch_fields (caller_in caller.entry) f e t) }
 {
@@ -383,14 +403,25 @@ fn push_queue(text: &mut String, caller: Caller<'_>, q: usize) -> Result<(), Mem
     ensures { IfOk result (λ _. string_bytes text.new
         ≡ string_bytes text.old ++ queue_fields (caller_in caller.entry) q) }
 {
-    push_line(text, "    uint64_t now;\n    uint32_t head;\n    uint32_t size;\n")?;
+    push_line(
+        text,
+        "    uint64_t now;\n    uint32_t head;\n    uint32_t size;\n",
+    )?;
     push_own(text, caller, "out;\n")?;
     push(
         text,
         caller.named.prefix,
-        &[Piece::Text("    uint64_t at["), Piece::Number(q), Piece::Text("];\n")],
+        &[
+            Piece::Text("    uint64_t at["),
+            Piece::Number(q),
+            Piece::Text("];\n"),
+        ],
     )?;
     push_own(text, caller, "value[")?;
-    push(text, caller.named.prefix, &[Piece::Number(q), Piece::Text("];\n")])?;
+    push(
+        text,
+        caller.named.prefix,
+        &[Piece::Number(q), Piece::Text("];\n")],
+    )?;
     Ok(())
 }

@@ -11,5 +11,5 @@ invariant-loop-row l =
           ++ rows_text (caller_in l.caller) l.row l.register l.value (drop l.row l.rows)
           ≡ string_bytes l.initial.text ++ rows_text (caller_in l.caller) 0 1 0 l.rows;
       registers : l.register ≤ l.row + 1;
-      values : l.value ≤ l.row
+      values : l.value ≤ l.row;
     }
