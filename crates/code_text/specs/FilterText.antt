@@ -61,7 +61,7 @@ reader_text P most T =
     ++ (pieces_text P (reading_rows most T) ++ pieces_text P (text (codes "}\n") ∷ []))
 
 -- where a type has parts, and U has it
-abbrev pub reader_if : List ℕ → ℕ → TypeTree → TypeTree → List ℕ
+unfoldable pub reader_if : List ℕ → ℕ → TypeTree → TypeTree → List ℕ
 reader_if P most U T = if has_parts T && is_part T U then reader_text P most T else []
 
 -- the readers of the types that U has

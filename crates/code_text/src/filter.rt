@@ -116,6 +116,7 @@ fn push_readers(
 }
 
 /// The reader of a type with parts that the input has.
+#[tactic(auto, unfolding(crate::specs::FilterText::reader_if))]
 fn push_reader_if(
     text: &mut String,
     prefix: &str,
@@ -164,9 +165,19 @@ fn push_reading(text: &mut String, prefix: &str, ty: &Ty, most: usize) -> Result
 {
     match ty {
         Ty::Unit | Ty::Bool | Ty::Int => {}
-        Ty::Pair(a, b) => push_reading_pair(text, prefix, a.get(), b.get())?,
-        Ty::Event(a) => push_reading_event(text, prefix, a.get())?,
-        Ty::List(a) => push_reading_list(text, prefix, a.get(), most)?,
+        Ty::Pair(a, b) => {
+            let a = a.get();
+            let b = b.get();
+            push_reading_pair(text, prefix, a, b)?;
+        }
+        Ty::Event(a) => {
+            let a = a.get();
+            push_reading_event(text, prefix, a)?;
+        }
+        Ty::List(a) => {
+            let a = a.get();
+            push_reading_list(text, prefix, a, most)?;
+        }
     }
     Ok(())
 }
@@ -317,9 +328,19 @@ fn push_writing(text: &mut String, prefix: &str, ty: &Ty) -> Result<(), Memory>
 {
     match ty {
         Ty::Unit | Ty::Bool | Ty::Int => {}
-        Ty::Pair(a, b) => push_writing_pair(text, prefix, a.get(), b.get())?,
-        Ty::Event(a) => push_writing_event(text, prefix, a.get())?,
-        Ty::List(a) => push_writing_list(text, prefix, a.get())?,
+        Ty::Pair(a, b) => {
+            let a = a.get();
+            let b = b.get();
+            push_writing_pair(text, prefix, a, b)?;
+        }
+        Ty::Event(a) => {
+            let a = a.get();
+            push_writing_event(text, prefix, a)?;
+        }
+        Ty::List(a) => {
+            let a = a.get();
+            push_writing_list(text, prefix, a)?;
+        }
     }
     Ok(())
 }
