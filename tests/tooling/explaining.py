@@ -170,6 +170,10 @@ OTHER_LINES = {
     "the words are not UTF-8": "in UTF-8",
     "--first: no number": "--first 2",
     "--at: no position": "--at '(at 1 0)'",
+    "--name: no name": "--name boiler",
+    "--most: no number": "--most 100",
+    "network: state too large at (at 1)": "64 MiB",
+    "network: state too large at (at): give --most": "--most",
 }
 # Lines in the place of which the reason is told why a file can't be read.
 READ_LINES = {"network: cannot be read", "certificate: cannot be read"}
@@ -184,7 +188,7 @@ def kind(line):
 def each_fault_is_explained():
     """Each line of the pages was told of, and explained, above."""
     pages = (TOP / "docs/FAULTS.md").read_text() + (TOP / "docs/LAWS.md").read_text()
-    lines = set(re.findall(r"`((?:network|certificate|stream|output|--first|--at): [^`]+|memory|table full|no row|the words [^`]+)`", pages))
+    lines = set(re.findall(r"`((?:network|certificate|stream|output|--first|--at|--name|--most): [^`]+|memory|table full|no row|the words [^`]+)`", pages))
     lines |= {f"network: {fault} at P" for fault in ("types differ", "no old", "no event", "no pair", "members")}
     missing = {kind(line) for line in lines} - TOLD_LINES - READ_LINES
     want("each fault line is explained", len(lines) > 40 and not missing, missing)

@@ -23,6 +23,7 @@ CALLS = {
     "falsify": ["net", "--seconds", "1", "-o", "out"],
     "fmt": ["net"],
     "haskell": ["net", "-o", "out"],
+    "native": ["net"],
     "plot": ["net", "-o", "out"],
     "prove": ["net", "--seconds", "2"],
     "report": ["net", "stream", "-o", "out"],

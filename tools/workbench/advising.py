@@ -8,9 +8,10 @@ from pathlib import Path
 LIST = Path(__file__).resolve().parents[1] / "list"
 # How many files the words of each command name, and in which order those of a role come.
 FILES = {"types": 1, "run": 1, "outline": 1, "laws": 1, "optimise": 1, "improve": 1, "apply": 2, "certify": 2, "check": 3, "run-checked": 3}
+FILES |= {"compile": 1, "compile-checked": 3}
 PLACES = {"network": 0, "source": 0, "target": 1, "certificate": -1}
 # The options behind which a value stands.
-VALUED = ["--at", "--first"]
+VALUED = ["--at", "--first", "--name", "--most"]
 
 
 def is_name(before: str, word: str) -> bool:

@@ -64,6 +64,8 @@ OTHERS = {
     "the words are not UTF-8": "write the names of files in UTF-8",
     "--first: no number": "write how many of the steps are taken, in digits alone: --first 2",
     "--at: no position": "write a position as positions are printed, in quotes: --at '(at 1 0)'",
+    "--name: no name": "write letters, digits and `_`, at most 32, of which the first is no digit: --name boiler",
+    "--most: no number": "write how many elements a list of the input may have, from 1 to 32765: --most 100",
     "certificate: too many steps": "a certificate has at most 10,000 steps: cut it in two, with a network between",
     "certificate: none found": "there may be one nevertheless, or `yampa differ` finds a stream that tells the networks apart",
 }
@@ -98,6 +100,10 @@ def of_text(role: str, files: Files):
 
 def of_network(program, fault: str):
     """What is told of a network whose text is right."""
+    large = re.fullmatch(r"state too large at (\(at[ 0-9]*\))(: give --most)?", fault)
+    if large:
+        note = "say how many elements a list of the input has at most: --most 100" if large.group(2) else "look for a long `delay`, or for an `rpSwitchB` in another"
+        return Told(f"as C what the part at {large.group(1)} keeps takes over 64 MiB", program.name, notes=[note])
     found = re.fullmatch(r"no position \(at([ 0-9]*)\)", fault)
     if not found:
         return of_types(program, fault)

@@ -15,9 +15,9 @@ from workbench.records import shown_type
 
 # The files of each command by their roles, and the options behind which a value stands.
 ONE, TWO, THREE = ["network"], ["source", "target"], ["source", "target", "certificate"]
-ROLES = dict.fromkeys(["types", "run", "outline", "laws", "optimise", "improve"], ONE)
-ROLES |= {"certify": TWO, "apply": ["source", "certificate"], "check": THREE, "run-checked": THREE}
-VALUED = ["--at", "--first"]
+ROLES = dict.fromkeys(["types", "run", "outline", "laws", "optimise", "improve", "compile"], ONE)
+ROLES |= {"certify": TWO, "apply": ["source", "certificate"], "check": THREE, "run-checked": THREE, "compile-checked": THREE}
+VALUED = ["--at", "--first", "--name", "--most"]
 
 
 def places_of_files(words: list) -> list:

@@ -8,6 +8,7 @@ use Rattle.clap.specs.declared.error.kind.ErrorKind.{ErrorKind}
 use Rattle.clap.specs.declared.error.kind.ErrorKind.TheVariants as kind
 use Rattle.command_line.specs.declared.command.Derivation.{Derivation}
 use Rattle.command_line.specs.declared.command.Leading.{Leading}
+use Rattle.command_line.specs.declared.command.Printing.{Printing}
 use Rattle.command_line.specs.declared.command.Takes.{Takes}
 use Rattle.command_line.specs.declared.command.Takes.TheVariants as T
 use Rattle.command_line.specs.declared.command.Request.{Request}
@@ -59,6 +60,15 @@ leading_command name =
     (with_rule (with_rule (new_app name) (file_name (codes "SRC"))) (file_name (codes "CERT")))
     (valued (codes "N") (codes "first"))) (flag (codes "steps"))
 
+-- a subcommand that takes how C is printed too: the word that names begin with, a flag that leaves out
+-- the `main`, one for the declarations alone, and how many elements a list of the input may have
+abbrev pub with_printing : App → App
+with_printing above =
+    with_rule
+    (with_rule
+    (with_rule (with_rule above (valued (codes "WORD") (codes "name"))) (flag (codes "no-main")))
+    (flag (codes "header"))) (valued (codes "N") (codes "most"))
+
 -- the subcommand of that name that takes so much
 abbrev pub command_taking : Takes → List ℕ → App
 command_taking T.Network name = file_command name
@@ -67,6 +77,8 @@ command_taking T.Place name = placed_command name
 command_taking T.Pair name = pair_command name
 command_taking T.Derivation name = derivation_command name
 command_taking T.Steps name = leading_command name
+command_taking T.Printing name = with_printing (file_command name)
+command_taking T.CheckedPrinting name = with_printing (derivation_command name)
 
 -- the program's name, behind which a subcommand must be there; it has a version
 abbrev pub program : App
@@ -91,15 +103,23 @@ and_rewriting above =
     (codes "apply")) T.Wanted (codes "optimise")) T.Wanted (codes "improve")) T.Pair
     (codes "certify")
 
+-- a command line with the subcommands that print C: `compile NET` and
+-- `compile-checked SRC TGT CERT`
+abbrev pub and_compiling : App → App
+and_compiling above =
+    and_command (and_command above T.Printing (codes "compile")) T.CheckedPrinting
+    (codes "compile-checked")
+
 -- the program's command line: `types NET`, `run NET`, `check SRC TGT CERT` or
--- `run-checked SRC TGT CERT`, or one of the subcommands that rewrite
+-- `run-checked SRC TGT CERT`, or one of the subcommands that rewrite, or that print C
 abbrev pub command_line : App
 command_line =
-    and_rewriting
+    and_compiling
+    (and_rewriting
     (and_command
     (and_command
     (and_command (and_command program T.Network (codes "types")) T.Network (codes "run"))
-    T.Derivation (codes "check")) T.Derivation (codes "run-checked"))
+    T.Derivation (codes "check")) T.Derivation (codes "run-checked")))
 
 -- the names of the files of a derivation
 pub record DerivationNames : Type 0 where
@@ -115,11 +135,21 @@ pub record LeadingNames : Type 0 where
   pub first : Option (List ℕ)
   pub shows : Bool
 
+-- how C is printed: the word that names begin with, `yampa` where there is none; the word that tells how
+-- many elements a list of the input may have, as many as a line can hold where there is none; whether
+-- the `main` is left out; and whether the declarations alone are printed
+pub record PrintingWords : Type 0 where
+  pub name : Option (List ℕ)
+  pub most : Option (List ℕ)
+  pub no_main : Bool
+  pub header : Bool
+
 -- what a command line asks for: the types of the network in the file of that name, or a run of it;
 -- what stands where in it; the steps that may be taken in it, at the place of a word and below;
 -- the network that the optimiser makes of it, or the certificate that leads there, and the same of
 -- the stronger one; whether a certificate leads from its source to its target, or that and a run of
--- the target; where steps lead; or a certificate from a source to a target
+-- the target; where steps lead; a certificate from a source to a target; or the network as C, or the
+-- target of a certificate
 pub data RequestTree : Type 0 where
   types : List ℕ → RequestTree
   run : List ℕ → RequestTree
@@ -131,6 +161,8 @@ pub data RequestTree : Type 0 where
   run_checked : DerivationNames → RequestTree
   apply : LeadingNames → RequestTree
   certify : List ℕ → List ℕ → RequestTree
+  compile : PrintingWords → List ℕ → RequestTree
+  compile_checked : PrintingWords → DerivationNames → RequestTree
 
 -- the names of a derivation's files among a subcommand's matches, where all three are there
 abbrev pub derivation_in : List Row → Option DerivationNames
@@ -172,6 +204,23 @@ certify_in rows =
     option_and_then (λ source. option_map (certify source) (first_of (codes "TGT") rows))
     (first_of (codes "SRC") rows)
 
+-- how C is printed, by a subcommand's matches
+abbrev pub printing_in : List Row → PrintingWords
+printing_in rows = record {
+  name = first_of (codes "WORD") rows;
+  most = first_of (codes "N") rows;
+  no_main = is_given (codes "no-main") rows;
+  header = is_given (codes "header") rows;
+}
+
+-- what the subcommand `compile` asks for, by its matches
+abbrev pub compile_in : List Row → Option RequestTree
+compile_in rows = option_map (compile (printing_in rows)) (first_of (codes "NET") rows)
+
+-- what the subcommand `compile-checked` asks for, by its matches
+abbrev pub compile_checked_in : List Row → Option RequestTree
+compile_checked_in rows = option_map (compile_checked (printing_in rows)) (derivation_in rows)
+
 -- what a subcommand asks for, by its matches
 abbrev pub request_on : List ℕ → List Row → Option RequestTree
 request_on command rows =
@@ -186,7 +235,9 @@ request_on command rows =
     else (if bytes_eq command (codes "optimise") then wanted_by optimise rows
     else (if bytes_eq command (codes "improve") then wanted_by improve rows
     else (if bytes_eq command (codes "certify") then certify_in rows
-    else None)))))))))
+    else (if bytes_eq command (codes "compile") then compile_in rows
+    else (if bytes_eq command (codes "compile-checked") then compile_checked_in rows
+    else None)))))))))))
 
 -- what the subcommand and its matches ask for
 abbrev pub request_by : Option (List ℕ × List Row) → Option RequestTree
@@ -231,6 +282,15 @@ leading_view l = record {
   shows = l.shows;
 }
 
+-- the code's words on C as such
+abbrev pub printing_view : Printing → PrintingWords
+printing_view p = record {
+  name = option_map (λ s. s.now) p.name;
+  most = option_map (λ s. s.now) p.most;
+  no_main = p.no_main;
+  header = p.header;
+}
+
 -- the code's request as one
 abbrev pub request_view : Request → RequestTree
 request_view (Q.Types net) = types net.now
@@ -243,6 +303,9 @@ request_view (Q.Check d) = check (derivation_view d)
 request_view (Q.RunChecked d) = run_checked (derivation_view d)
 request_view (Q.Apply l) = apply (leading_view l)
 request_view (Q.Certify source target) = certify source.now target.now
+request_view (Q.Compile net printing) = compile (printing_view printing) net.now
+request_view (Q.CompileChecked names printing) =
+    compile_checked (printing_view printing) (derivation_view names)
 
 -- the reply fits an error of that kind
 abbrev pub RepliesTo : ErrorKind → Reply → Type 0

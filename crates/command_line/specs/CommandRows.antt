@@ -1,6 +1,6 @@
 -- Command lines, word for word, and what they ask for.
 use Rattle.std.specs.Prelude.{◌≡◌, [], ◌∷◌, Some, None, true, false, codes}
-use Rattle.command_line.specs.CommandLine.{AsksHelp, AsksNothing, DerivationNames, apply, certify, check, improve, laws, optimise, outline, request_in, run, run_checked, types}
+use Rattle.command_line.specs.CommandLine.{AsksHelp, AsksNothing, DerivationNames, PrintingWords, apply, certify, check, compile, compile_checked, improve, laws, optimise, outline, request_in, run, run_checked, types}
 use Rattle.command_line.specs.declared.command.Wanted.TheVariants as W
 
 -- what is asked for
@@ -70,6 +70,26 @@ StepsRows = (request_in (codes "yampa" ∷ codes "apply" ∷ codes "a" ∷ codes
     × (request_in (codes "yampa" ∷ codes "certify" ∷ codes "a" ∷ codes "b" ∷ [])
     ≡ Some (certify (codes "a") (codes "b")))
 
+-- words on C: none, and all
+abbrev pub no_words : PrintingWords
+no_words = record { name = None; most = None; no_main = false; header = false }
+
+abbrev pub all_words : PrintingWords
+all_words =
+    record { name = Some (codes "boiler"); most = Some (codes "5"); no_main = true; header = true }
+
+-- what is asked for of C: the options stand behind the file's name or before it
+abbrev pub CompileRows : Type 0
+CompileRows = (request_in (codes "yampa" ∷ codes "compile" ∷ codes "net" ∷ [])
+    ≡ Some (compile no_words (codes "net")))
+    × (request_in
+    (codes "yampa" ∷ codes "compile" ∷ codes "--name" ∷ codes "boiler" ∷ codes "--no-main"
+    ∷ codes "net" ∷ codes "--header" ∷ codes "--most" ∷ codes "5" ∷ [])
+    ≡ Some (compile all_words (codes "net")))
+    × (request_in
+    (codes "yampa" ∷ codes "compile-checked" ∷ codes "a" ∷ codes "b" ∷ codes "c" ∷ [])
+    ≡ Some (compile_checked no_words three_files))
+
 -- what asks for help
 abbrev pub HelpRows : Type 0
 HelpRows = AsksHelp (codes "yampa" ∷ codes "--help" ∷ [])
@@ -116,3 +136,14 @@ NoStepsRows = AsksNothing (codes "yampa" ∷ codes "outline" ∷ [])
     (codes "yampa" ∷ codes "apply" ∷ codes "a" ∷ codes "c" ∷ codes "--first" ∷ codes "1"
     ∷ codes "--first" ∷ codes "2" ∷ [])
     × AsksNothing (codes "yampa" ∷ codes "certify" ∷ codes "a" ∷ [])
+
+-- what asks for nothing of the commands that print C: no file, a file too few, an option without its
+-- value or given twice, and an option of C elsewhere
+abbrev pub NoCompileRows : Type 0
+NoCompileRows = AsksNothing (codes "yampa" ∷ codes "compile" ∷ [])
+    × AsksNothing (codes "yampa" ∷ codes "compile-checked" ∷ codes "a" ∷ codes "b" ∷ [])
+    × AsksNothing (codes "yampa" ∷ codes "compile" ∷ codes "net" ∷ codes "--name" ∷ [])
+    × AsksNothing
+    (codes "yampa" ∷ codes "compile" ∷ codes "net" ∷ codes "--header" ∷ codes "--header" ∷ [])
+    × AsksNothing
+    (codes "yampa" ∷ codes "run" ∷ codes "net" ∷ codes "--most" ∷ codes "5" ∷ [])

@@ -3,8 +3,8 @@
 ghost use Rattle.std.specs.Prelude.{◌≡◌, IfOk, codes, map, option_map, false};
 ghost use Rattle.clap.specs.Words.{app_of, first_of, found_of, kind_of, rows_of, rule_of, subcommand_rows_of, with_rule};
 ghost use Rattle.clap.specs.declared.builder.command.Command.TheViews.{out-Command};
-ghost use Rattle.command_line.specs.CommandRows.{RequestRows, OptimiseRows, DerivationRows, PlaceRows, StepsRows, HelpRows, VersionRows, NothingRows, NoOptimiseRows, NoStepsRows};
-ghost use Rattle.command_line.specs.CommandLine.{IsNothing, ReadsWords, RepliesTo, and_command, and_rewriting, apply_in, certify_in, command_line, command_taking, derivation_in, derivation_view, file_name, flag, is_given, laws_in, leading_view, request_by, request_on, request_view, valued, wanted_by, wanted_in, types, run, outline, optimise, improve, check, run_checked};
+ghost use Rattle.command_line.specs.CommandRows.{RequestRows, OptimiseRows, DerivationRows, PlaceRows, StepsRows, CompileRows, HelpRows, VersionRows, NothingRows, NoOptimiseRows, NoStepsRows, NoCompileRows};
+ghost use Rattle.command_line.specs.CommandLine.{IsNothing, ReadsWords, RepliesTo, and_command, and_compiling, and_rewriting, apply_in, certify_in, command_line, command_taking, compile_checked_in, compile_in, derivation_in, derivation_view, file_name, flag, is_given, printing_in, printing_view, laws_in, leading_view, request_by, request_on, request_view, valued, wanted_by, wanted_in, with_printing, types, run, outline, optimise, improve, check, run_checked};
 
 use crate::help::{self, HelpText};
 use clap::error::{Error, ErrorKind};
@@ -44,22 +44,51 @@ pub enum Wanted {
     Certificate,
 }
 
+/// What of a network's C is to be printed, and how.
+#[derive(Clone, Copy)]
+pub struct Printing<'a> {
+    /// The word that all names begin with; `yampa` if there is none.
+    pub name: Option<&'a str>,
+    /// The word that says how many elements a list of the input may have; as many as a line can hold
+    /// if there is none.
+    pub most: Option<&'a str>,
+    /// Whether the `main` is left out.
+    pub no_main: bool,
+    /// Whether the declarations alone are printed.
+    pub header: bool,
+}
+
 /// What the command line asks for.
 #[derive(Clone, Copy)]
 pub enum Request<'a> {
     /// The types, the weight and the height of the network in a file.
-    Types { net: &'a str },
+    Types {
+        net: &'a str,
+    },
     /// A run of the network in a file.
-    Run { net: &'a str },
+    Run {
+        net: &'a str,
+    },
     /// What stands where in the network in a file.
-    Outline { net: &'a str },
+    Outline {
+        net: &'a str,
+    },
     /// The steps that are possible in the network in a file, at the position that a word names and
     /// below; at any position if there is none.
-    Laws { net: &'a str, at: Option<&'a str> },
+    Laws {
+        net: &'a str,
+        at: Option<&'a str>,
+    },
     /// What the optimiser makes of the network in a file.
-    Optimise { net: &'a str, wanted: Wanted },
+    Optimise {
+        net: &'a str,
+        wanted: Wanted,
+    },
     /// What the stronger optimiser makes of it.
-    Improve { net: &'a str, wanted: Wanted },
+    Improve {
+        net: &'a str,
+        wanted: Wanted,
+    },
     /// Whether a certificate leads from its source to its target.
     Check(Derivation<'a>),
     /// A check, and then a run of the target.
@@ -67,7 +96,20 @@ pub enum Request<'a> {
     /// Where steps lead.
     Apply(Leading<'a>),
     /// A certificate from a source to a target.
-    Certify { source: &'a str, target: &'a str },
+    Certify {
+        source: &'a str,
+        target: &'a str,
+    },
+    /// The network in a file as C.
+    Compile {
+        net: &'a str,
+        printing: Printing<'a>,
+    },
+    /// A check, and then the target as C.
+    CompileChecked {
+        names: Derivation<'a>,
+        printing: Printing<'a>,
+    },
 }
 
 /// What a subcommand takes.
@@ -85,6 +127,10 @@ enum Takes {
     Derivation,
     /// The files of a source and a certificate, how many steps, and a flag for the steps.
     Steps,
+    /// A network file, and how its C is printed.
+    Printing,
+    /// The files of a derivation, and how the target's C is printed.
+    CheckedPrinting,
 }
 
 /// Why the command line is no request.
@@ -182,11 +228,10 @@ fn command_taking<'a>(
             and_file(alloc, command, "NET", help::NET)?.arg(valued(alloc, "P", "at", help::AT))
         }
         Takes::Pair => and_pair(alloc, command),
-        Takes::Derivation => {
-            let command = and_pair(alloc, command)?;
-            and_file(alloc, command, "CERT", help::CERT)
-        }
+        Takes::Derivation => and_derivation(alloc, command),
         Takes::Steps => and_steps(alloc, command),
+        Takes::Printing => with_printing(alloc, and_file(alloc, command, "NET", help::NET)?),
+        Takes::CheckedPrinting => with_printing(alloc, and_derivation(alloc, command)?),
     }
 }
 
@@ -199,6 +244,30 @@ fn and_pair<'a>(alloc: Global, command: Command<'a>) -> Result<Command<'a>, Allo
 {
     let command = and_file(alloc, command, "SRC", help::SRC)?;
     and_file(alloc, command, "TGT", help::TGT)
+}
+
+/// The subcommand, which takes a source, a target and a certificate.
+fn and_derivation<'a>(alloc: Global, command: Command<'a>) -> Result<Command<'a>, AllocError>
+    requires { (out-Command command).has_globals ≡ false }
+    ensures app { IfOk result (λ c. app_of c ≡ with_rule
+        (with_rule (with_rule (app_of command.entry) (file_name (codes "SRC")))
+        (file_name (codes "TGT"))) (file_name (codes "CERT"))) }
+    ensures local { IfOk result (λ c. (out-Command c).has_globals ≡ false) }
+{
+    let command = and_pair(alloc, command)?;
+    and_file(alloc, command, "CERT", help::CERT)
+}
+
+/// The subcommand, which takes how C is printed.
+fn with_printing<'a>(alloc: Global, command: Command<'a>) -> Result<Command<'a>, AllocError>
+    requires { (out-Command command).has_globals ≡ false }
+    ensures app { IfOk result (λ c. app_of c ≡ with_printing (app_of command.entry)) }
+    ensures local { IfOk result (λ c. (out-Command c).has_globals ≡ false) }
+{
+    let command = command.arg(valued(alloc, "WORD", "name", help::NAME))?;
+    let command = command.arg(flag(alloc, "no-main", help::NO_MAIN))?;
+    let command = command.arg(flag(alloc, "header", help::HEADER))?;
+    command.arg(valued(alloc, "N", "most", help::MOST))
 }
 
 /// The subcommand, which takes a source, a certificate, how many steps, and a flag for the steps.
@@ -255,7 +324,8 @@ fn make_command<'a>(alloc: Global) -> Result<Command<'a>, AllocError>
         "run-checked",
         help::RUN_CHECKED,
     )?;
-    and_rewriting(alloc, command)
+    let command = and_rewriting(alloc, command)?;
+    and_compiling(alloc, command)
 }
 
 /// The command with the subcommands that rewrite networks, or show how they may be rewritten.
@@ -268,6 +338,20 @@ fn and_rewriting<'a>(alloc: Global, command: Command<'a>) -> Result<Command<'a>,
     let command = and_command(alloc, command, Takes::Wanted, "optimise", help::OPTIMISE)?;
     let command = and_command(alloc, command, Takes::Wanted, "improve", help::IMPROVE)?;
     and_command(alloc, command, Takes::Pair, "certify", help::CERTIFY)
+}
+
+/// The command with the subcommands that print C.
+fn and_compiling<'a>(alloc: Global, command: Command<'a>) -> Result<Command<'a>, AllocError>
+    ensures app { IfOk result (λ c. app_of c ≡ and_compiling (app_of command.entry)) }
+{
+    let command = and_command(alloc, command, Takes::Printing, "compile", help::COMPILE)?;
+    and_command(
+        alloc,
+        command,
+        Takes::CheckedPrinting,
+        "compile-checked",
+        help::COMPILE_CHECKED,
+    )
 }
 
 /// What the matches ask for.
@@ -293,6 +377,8 @@ fn request_named<'a>(name: &str, matches: &ArgMatches<'a>) -> Option<Request<'a>
         "optimise" => optimise_of(matches),
         "improve" => improve_of(matches),
         "certify" => certify_of(matches),
+        "compile" => compile_of(matches),
+        "compile-checked" => compile_checked_of(matches),
         _ => None,
     }
 }
@@ -403,6 +489,34 @@ fn run_checked_of<'a>(matches: &ArgMatches<'a>) -> Option<Request<'a>>
     Some(Request::RunChecked(derivation))
 }
 
+fn compile_of<'a>(matches: &ArgMatches<'a>) -> Option<Request<'a>>
+    ensures { option_map request_view result ≡ compile_in (rows_of (found_of matches.now)) }
+{
+    let net = value_of(matches, "NET")?;
+    let printing = printing_of(matches);
+    Some(Request::Compile { net, printing })
+}
+
+fn compile_checked_of<'a>(matches: &ArgMatches<'a>) -> Option<Request<'a>>
+    ensures { option_map request_view result ≡ compile_checked_in (rows_of (found_of matches.now)) }
+{
+    let names = derivation_of(matches)?;
+    let printing = printing_of(matches);
+    Some(Request::CompileChecked { names, printing })
+}
+
+/// How C is to be printed.
+fn printing_of<'a>(matches: &ArgMatches<'a>) -> Printing<'a>
+    ensures { printing_view result ≡ printing_in (rows_of (found_of matches.now)) }
+{
+    Printing {
+        name: value_of(matches, "WORD"),
+        most: value_of(matches, "N"),
+        no_main: is_given(matches, "no-main"),
+        header: is_given(matches, "header"),
+    }
+}
+
 /// The files of a derivation that the matches name.
 fn derivation_of<'a>(matches: &ArgMatches<'a>) -> Option<Derivation<'a>>
     ensures { option_map derivation_view result ≡ derivation_in (rows_of (found_of matches.now)) }
@@ -478,16 +592,18 @@ fn no_such_command(alloc: Global) -> Reply
 }
 
 /// Command lines, word for word, and what they ask for: a file's types or its run, the optimisers,
-/// a derivation, places and steps, help, the version, or nothing that is there.
+/// a derivation, places and steps, C, help, the version, or nothing that is there.
 pub fn command_rows()
     ensures asked { RequestRows }
     ensures optimise { OptimiseRows }
     ensures derivations { DerivationRows }
     ensures places { PlaceRows }
     ensures steps { StepsRows }
+    ensures compile { CompileRows }
     ensures help { HelpRows }
     ensures version { VersionRows }
     ensures nothing { NothingRows }
     ensures no_optimise { NoOptimiseRows }
     ensures no_steps { NoStepsRows }
+    ensures no_compile { NoCompileRows }
 {}

@@ -29,11 +29,11 @@ if it is accepted, both output the same on every stream. `yampa optimise NET` re
 itself and can print the certificate too; `yampa improve NET` does the same by more laws, and makes
 more networks faster. `yampa certify SRC TGT` looks for the steps between two networks. To write
 steps by hand, `yampa outline NET` prints the position of each part, `yampa laws NET` the steps that
-are possible, and `yampa apply SRC CERT` the network that steps lead to. Only `run` and `run-checked`
-read a stream.
+are possible, and `yampa apply SRC CERT` the network that steps lead to. `yampa compile NET` prints it
+as C. Only `run` and `run-checked` read a stream.
 The pages are in the folder `docs` of the repository: LANGUAGE.md teaches the language, LAWS.md the
-laws, and TOOLS.md the tools that `./yampa` adds to these commands. A small file NET, which outputs
-0, and then each number plus one, one sample late:
+laws, C.md what `compile` prints, and TOOLS.md the tools that `./yampa` adds to these commands. A small
+file NET, which outputs 0, and then each number plus one, one sample late:
 
   yampa 1
   input Int
@@ -42,7 +42,7 @@ laws, and TOOLS.md the tools that `./yampa` adds to these commands. A small file
 Exit status:
   0  success, or help was asked for
   1  a file, a step or the stream is rejected, no certificate is found, the network has no position
-     P, or the network to run has more than 4,096 different expressions
+     P, the network to run has more than 4,096 different expressions, or the C would be too large
   2  the command line is wrong; this includes a P that is no position and an N that is no number
   3  something can't be read or written, or there is not enough memory
 If it isn't 0, standard error says why.";
@@ -284,6 +284,49 @@ and the file `target` holds `yampa 1 input Int (arr (then (add x 1) (mul x 2)))`
   $ yampa certify source target > steps
   $ printf '5\\n' | yampa run-checked source target steps
   12
+
+`yampa --help` lists the exit statuses.",
+};
+
+/// Help on `--name`.
+pub const NAME: &str = "What all names begin with (yampa)";
+
+/// Help on `--no-main`.
+pub const NO_MAIN: &str = "Leaves out the `main`";
+
+/// Help on `--header`.
+pub const HEADER: &str = "Prints the declarations alone";
+
+/// Help on `--most`.
+pub const MOST: &str = "How many elements a list of the input may have (32765)";
+
+/// Help on `compile`.
+pub const COMPILE: HelpText<'static> = HelpText {
+    usage: "yampa compile [OPTIONS] <NET>",
+    does: "Prints a network as C",
+    more: "\
+It prints a file of C99, which C++11 takes too: a struct of what the network keeps, a function that
+takes a sample, and a `main` that does what `run` does. If the struct would have more than 64 MiB, the
+network is rejected.
+
+Example: if the file `net` holds `yampa 1 input Int (>>> (arr (add x 1)) (iPre 0))`,
+
+  $ yampa compile net > net.c
+  $ cc -O2 -o network net.c
+  $ printf '5\\n+1 6\\n+1 7\\n' | ./network
+  0
+  6
+  7
+
+`yampa --help` lists the exit statuses.",
+};
+
+/// Help on `compile-checked`.
+pub const COMPILE_CHECKED: HelpText<'static> = HelpText {
+    usage: "yampa compile-checked [OPTIONS] <SRC> <TGT> <CERT>",
+    does: "Checks a certificate, and prints the network that it leads to as C",
+    more: "\
+If the certificate is accepted, the network of TGT is printed, as by `yampa compile TGT`.
 
 `yampa --help` lists the exit statuses.",
 };

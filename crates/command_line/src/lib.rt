@@ -15,4 +15,4 @@
 mod command;
 mod help;
 
-pub use command::{Derivation, Leading, Reply, Request, Wanted, command_rows, parse};
+pub use command::{Derivation, Leading, Printing, Reply, Request, Wanted, command_rows, parse};

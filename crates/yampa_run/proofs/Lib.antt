@@ -12,4 +12,6 @@ mod AppliedFiles
 mod Numbers
 mod Places
 mod CertifiedFiles
+mod Compiled
+mod CompiledFiles
 mod ImprovedFiles

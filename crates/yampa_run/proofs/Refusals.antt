@@ -1,4 +1,5 @@
--- Bytes are refused with one line, and have no network then. So nothing that can be done is refused.
+-- Bytes are refused with one line, and have no network then. So nothing that can be done is refused,
+-- but C that is too large.
 use Rattle.std.proofs.Common.{◌≡◌, ◌≢◌, ◌≤◌, ℕ, Bool, true, false, List, arith, refl, sym, ap, ◌∙◌, subst, inl, inr, Option, Some, None, Result, Ok, Err, length}
 use Rattle.std.specs.Prelude.{IsSome, string_bytes}
 use Rattle.sample_core.specs.TypeTree.{TypeTree}
@@ -27,11 +28,11 @@ use Rattle.net_meaning.specs.NetworkLimits.{WithinLimits}
 use Rattle.net_search.specs.Certifying.{AreApart}
 use Rattle.net_view.specs.Listed.{IsThere}
 use Rattle.net_view.specs.Trace.{TraceAnswer, first_steps}
-use Rattle.yampa_run.specs.Words.{TellsFirst}
+use Rattle.yampa_run.specs.Words.{TellsFirst, TellsMost, TellsName, is_name, most_in}
 use Rattle.yampa_run.proofs.Places.{one_place}
-use Rattle.command_line.specs.CommandLine.{DerivationNames, LeadingNames, RequestTree, types, run, outline, laws, optimise, improve, check as checks, run_checked, apply, certify, request_in, AsksNothing}
+use Rattle.command_line.specs.CommandLine.{DerivationNames, LeadingNames, PrintingWords, RequestTree, types, run, outline, laws, optimise, improve, check as checks, run_checked, apply, certify, compile, compile_checked, request_in, AsksNothing}
 use Rattle.yampa_run.specs.RefusalLines.{text_words, type_words}
-use Rattle.yampa_run.specs.Preparation.{AreTold, Fails, HasNoDerivation, HasNoNetwork, HasNoSteps, IsDerivedIn, IsNetworkIn, IsNetworkOf, IsApplied, IsNoNumber, IsCertified, IsNotCertified, TellsCertified, no_such_source, no_such_target, other_inputs, IsNotApplied, IsUnapplied, HasNoPlace, IsTold, AreStepsOf, KnownFiles, Meets, RefusesCheck, TellsApplied, TellsLaws, OneRefusalLaw, NoNetworkLaw, OnlyMemoryLaw, no_place, no_network as no_such_network, not_there, no_number, without_source, without_steps, not_applied, by_text, by_types, no_source, no_target, no_steps, not_accepted}
+use Rattle.yampa_run.specs.Preparation.{AreTold, Fails, HasNoDerivation, HasNoNetwork, HasNoSteps, IsDerivedIn, IsNetworkIn, IsNetworkOf, IsApplied, IsNoNumber, IsCertified, IsNotCertified, TellsCertified, no_such_source, no_such_target, other_inputs, IsNotApplied, IsUnapplied, HasNoPlace, IsTold, AreStepsOf, KnownFiles, Meets, RefusesCheck, TellsApplied, TellsLaws, OneRefusalLaw, NoNetworkLaw, OnlyMemoryLaw, HasNoC, IsNoForm, IsNoMost, IsNoName, IsNotCheckedC, IsNotCompiled, IsTooLarge, TellsC, TellsCheckedC, bad_most, bad_name, checked_unformed, checked_without_c, unformed, without_c, without_derivation, without_network, no_place, no_network as no_such_network, not_there, no_number, without_source, without_steps, not_applied, by_text, by_types, no_source, no_target, no_steps, not_accepted}
 use Rattle.yampa_run.specs.declared.refused.Role.{Role}
 use Rattle.yampa_run.specs.declared.refused.Role.TheVariants as R
 use Rattle.yampa_run.specs.declared.preparation.Job.{Job}
@@ -231,8 +232,40 @@ no_certified_fails told from to job (Refused.Line status line) m k n (other_inpu
     let y : target ≡ n.target = one_of_file (told to) target n.target k.1 files.is_target n.files.is_target in
     h.0 (ap (λ (t : TypedNetwork). t.input) x ∙ same_inputs n.source n.target job n.certified ∙ sym (ap (λ (t : TypedNetwork). t.input) y))
 
+-- a word that tells what names begin with isn't refused
+no_name_fails : (word : Option (List ℕ)) (name : List ℕ) (refusal : Refusal) → refusal ≢ Refused.Memory → TellsName word name → IsNoName word refusal → ⊥
+no_name_fails word name Refused.Memory m t h = m refl
+no_name_fails None name (Refused.Line status line) m t h = h
+no_name_fails (Some word) name (Refused.Line status line) m t h = let q : true ≡ false = sym t.1 ∙ h.0 in absurd (cc)
+
+-- nor one that tells how many elements a list may have
+no_most_fails : (word : Option (List ℕ)) (most : ℕ) (refusal : Refusal) → refusal ≢ Refused.Memory → TellsMost word most → IsNoMost word refusal → ⊥
+no_most_fails word most Refused.Memory m t h = m refl
+no_most_fails None most (Refused.Line status line) m t h = h
+no_most_fails (Some word) most (Refused.Line status line) m t h = let q : Some most ≡ None = sym t ∙ h.0 in absurd (cc)
+
+no_form_fails : (words : PrintingWords) (name : List ℕ) (most : ℕ) (refusal : Refusal) → refusal ≢ Refused.Memory → TellsName words.name name
+    → TellsMost words.most most → IsNoForm words refusal → ⊥
+no_form_fails words name most refusal m t u (bad_name h) = no_name_fails words.name name refusal m t h
+no_form_fails words name most refusal m t u (bad_most h) = no_most_fails words.most most refusal m u h
+
+-- C that can be printed of a file is refused only where it is too large
+too_large : (known : Option (List ℕ)) (words : PrintingWords) (text : List ℕ) (refusal : Refusal) → refusal ≢ Refused.Memory → IsTold known
+    → TellsC known words text → IsNotCompiled known words refusal → (t : TypedNetwork) × HasNoC t words refusal
+too_large known words text refusal m k n (unformed h) = absurd (no_form_fails words n.prints.name n.prints.most refusal m n.prints.name_is n.prints.most_is h)
+too_large known words text refusal m k n (without_network f h) = absurd (no_file R.Network known n.net refusal m k n.network h)
+too_large known words text refusal m k n (without_c net f i h) = (net, h)
+
+checked_too_large : (told : KnownFiles) (names : DerivationNames) (words : PrintingWords) (text : List ℕ) (refusal : Refusal) → refusal ≢ Refused.Memory
+    → AreTold told (run_checked names) → TellsCheckedC told names words text → IsNotCheckedC told names words refusal → (t : TypedNetwork) × HasNoC t words refusal
+checked_too_large told names words text refusal m k n (checked_unformed h) =
+    absurd (no_form_fails words n.prints.name n.prints.most refusal m n.prints.name_is n.prints.most_is h)
+checked_too_large told names words text refusal m k n (without_derivation f h) =
+    absurd (no_derivation told names n.net n.is_checked.count refusal m k n.is_checked.derived h)
+checked_too_large told names words text refusal m k n (checked_without_c net f i h) = (net, h)
+
 not_failed : (told : KnownFiles) (what : RequestTree) (job : Job) (refusal : Refusal) → refusal ≢ Refused.Memory → AreTold told what
-    → Meets told what job → Fails told what refusal → ⊥
+    → Meets told what job → Fails told what refusal → IsTooLarge what refusal
 not_failed told (types name) (J.Print text) refusal m k n f = no_file R.Network (told name) n.net refusal m k n.network f
 not_failed told (types name) (J.Run t) refusal m k n f = n
 not_failed told (types name) (J.PrintAndRefuse text line) refusal m k n f = n
@@ -259,16 +292,22 @@ not_failed told (run_checked names) (J.Run t) refusal m k n f = no_derivation to
 not_failed told (run_checked names) (J.PrintAndRefuse text line) refusal m k n f = n
 not_failed told (apply names) job refusal m k n f = no_applied_fails told names job refusal m k n f
 not_failed told (certify from to) job refusal m k n f = no_certified_fails told from to job refusal m k n f
+not_failed told (compile words name) (J.Print text) refusal m k n f = too_large (told name) words (string_bytes text) refusal m k n f
+not_failed told (compile words name) (J.Run t) refusal m k n f = absurd n
+not_failed told (compile words name) (J.PrintAndRefuse text line) refusal m k n f = absurd n
+not_failed told (compile_checked words names) (J.Print text) refusal m k n f = checked_too_large told names words (string_bytes text) refusal m k n f
+not_failed told (compile_checked words names) (J.Run t) refusal m k n f = absurd n
+not_failed told (compile_checked words names) (J.PrintAndRefuse text line) refusal m k n f = absurd n
 
 nothing_asked : (words : List (List ℕ)) (what : RequestTree) → request_in words ≡ Some what → AsksNothing words → ⊥
 unfolding AsksNothing
 nothing_asked words what e h = let q : request_in words ≡ None = h.0 in absurd (cc)
 
 pub only_memory : OnlyMemoryLaw
-only_memory told words what job Refused.Memory asks known n h = refl
+only_memory told words what job Refused.Memory asks known n h = inl refl
 only_memory told words what job (Refused.Line status line) asks known n (inl h) = absurd (nothing_asked words what asks h.1)
 only_memory told words what job (Refused.Line status line) asks known n (inr h) =
     let again : request_in words ≡ Some h.what = h.asks in
     let same : h.what ≡ what = cc in
     let fails : Fails told what (Refused.Line status line) = subst (λ w. Fails told w (Refused.Line status line)) same h.fails in
-    absurd (not_failed told what job (Refused.Line status line) (λ q. cc) known n fails)
+    inr (not_failed told what job (Refused.Line status line) (λ q. cc) known n fails)

@@ -9,7 +9,7 @@ use Rattle.net_meaning.specs.TypedNetwork.{TypedNetwork}
 use Rattle.cert_check.specs.Laws.{SameStreamLaw}
 use Rattle.stream_text.specs.LineFaults.{LineFaultLaw}
 use Rattle.stream_text.specs.declared.fault.StreamFault.TheVariants as S
-use Rattle.command_line.specs.CommandLine.{RequestTree, types, run, outline, laws, optimise, improve, check as checks, run_checked, apply, certify}
+use Rattle.command_line.specs.CommandLine.{RequestTree, types, run, outline, laws, optimise, improve, check as checks, run_checked, apply, certify, compile, compile_checked}
 use Rattle.yampa_run.specs.FaultLines.{line_of, status_of}
 use Rattle.yampa_run.specs.Headline.{RunsSo, text_output}
 use Rattle.yampa_run.specs.NetworkRun.{RunsOver}
@@ -118,3 +118,5 @@ whole_run reads law faults same within told words t keys text has' holds holds' 
         }
     go (apply names) m = absurd (not_run m.source m.steps names.shows t m.applied)
     go (certify from to) m = absurd m.certified
+    go (compile words name) m = m
+    go (compile_checked words names) m = m

@@ -5,6 +5,7 @@ pub mod Runs
 pub mod KnownFiles
 pub mod RefusalLines
 pub mod Words
+pub mod Compiled
 pub mod Preparation
 pub mod Headline
 pub mod NetworkRun
@@ -12,4 +13,5 @@ pub mod WholeRun
 pub mod OptimisedFiles
 pub mod AppliedFiles
 pub mod CertifiedFiles
+pub mod CompiledFiles
 pub mod ImprovedFiles

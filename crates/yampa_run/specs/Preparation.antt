@@ -30,7 +30,7 @@ use Rattle.net_search.specs.Certifying.{AreApart, DifferAt, LeadTooLong}
 use Rattle.net_search.specs.Improving.{Improved}
 use Rattle.leaf_table.specs.declared.fault.TableFault.{TableFault}
 use Rattle.leaf_table.specs.declared.fault.TableFault.TheVariants as A
-use Rattle.command_line.specs.CommandLine.{DerivationNames, LeadingNames, RequestTree, types, run, outline, laws, optimise, improve, check as checks, run_checked, apply, certify, request_in, AsksHelp, AsksNothing}
+use Rattle.command_line.specs.CommandLine.{DerivationNames, LeadingNames, PrintingWords, RequestTree, types, run, outline, laws, optimise, improve, check as checks, run_checked, apply, certify, compile, compile_checked, request_in, AsksHelp, AsksNothing}
 use Rattle.command_line.specs.declared.command.Wanted.{Wanted}
 use Rattle.command_line.specs.declared.command.Wanted.TheVariants as W
 use Rattle.net_view.specs.Applied.{PrintsApplied}
@@ -40,8 +40,9 @@ use Rattle.net_view.specs.Trace.{Stopped, TraceAnswer, changed_of, first_steps, 
 use Rattle.net_view.specs.TraceText.{TellsTrace, marked_line, trace_lines}
 use Rattle.net_view.specs.declared.trace.RefusedStep.{RefusedStep}
 use Rattle.net_view.specs.declared.trace.Trace.{Trace}
-use Rattle.yampa_run.specs.RefusalLines.{check_words, no_number_words, no_place_words, none_found_words, not_there_words, text_words, type_words, unread_words}
-use Rattle.yampa_run.specs.Words.{TellsFirst, TellsPlace, number_in}
+use Rattle.yampa_run.specs.RefusalLines.{check_words, no_layout_words, no_most_words, no_name_words, no_number_words, no_place_words, none_found_words, not_there_words, text_words, too_large_words, type_words, unread_words}
+use Rattle.yampa_run.specs.Compiled.{PrintsC, asks_most}
+use Rattle.yampa_run.specs.Words.{TellsFirst, TellsMost, TellsName, TellsPlace, is_name, most_in, number_in}
 use Rattle.yampa_run.specs.declared.refused.Role.{Role}
 use Rattle.yampa_run.specs.declared.refused.Role.TheVariants as R
 use Rattle.yampa_run.specs.declared.telling.Telling.{Telling}
@@ -416,9 +417,74 @@ pub data IsNotCertified (told : KnownFiles) (from to : List ℕ) (refusal : Refu
   other_inputs : (source target : TypedNetwork) → ArePair told from to source target
       → HaveOtherInputs source target refusal → IsNotCertified told from to refusal
 
+-- the word is no name, and that is told with status 2; or memory was short
+abbrev pub IsNoName : Option (List ℕ) → Refusal → Type 0
+IsNoName (Some word) (Refused.Line status line) = (is_name word ≡ false)
+    × RefusesWith 2 no_name_words (Refused.Line status line)
+IsNoName None (Refused.Line status line) = ⊥
+IsNoName word Refused.Memory = ⊤
+
+-- the word is no number of elements, and that is told with status 2; or memory was short
+abbrev pub IsNoMost : Option (List ℕ) → Refusal → Type 0
+IsNoMost (Some word) (Refused.Line status line) = (most_in word ≡ None)
+    × RefusesWith 2 no_most_words (Refused.Line status line)
+IsNoMost None (Refused.Line status line) = ⊥
+IsNoMost word Refused.Memory = ⊤
+
+-- why the words don't tell how C is printed: the one is no name; or the other is no number
+pub data IsNoForm (words : PrintingWords) (refusal : Refusal) : Type 0 where
+  bad_name : IsNoName words.name refusal → IsNoForm words refusal
+  bad_most : IsNoMost words.most refusal → IsNoForm words refusal
+
+-- the words tell how C is printed
+pub record TellsForm (words : PrintingWords) : Type 0 where
+  pub name : List ℕ
+  pub most : ℕ
+  pub name_is : TellsName words.name name
+  pub most_is : TellsMost words.most most
+
+-- why a network isn't printed as C: what it keeps, or the values that it works on, are too large at
+-- a position, or it has no layout, and that is told; or memory was short
+pub data HasNoC (t : TypedNetwork) (words : PrintingWords) (refusal : Refusal) : Type 0 where
+  state_too_large : (P : List ℕ)
+      → RefusesWith 1 (too_large_words (codes "state") P (asks_most t words)) refusal
+      → HasNoC t words refusal
+  without_layout : RefusesWith 1 no_layout_words refusal → HasNoC t words refusal
+
+-- the text is the typed network of a file as C, where its bytes are told
+pub record TellsC (told : Option (List ℕ)) (words : PrintingWords) (text : List ℕ) : Type 0 where
+  pub net : TypedNetwork
+  pub network : IsNetworkOf told net
+  pub prints : PrintsC net words text
+
+-- why that isn't printed: the words don't tell how; or there is no network of the file; or it has no C
+pub data IsNotCompiled (told : Option (List ℕ)) (words : PrintingWords) (refusal : Refusal) : Type 0
+  where
+    unformed : IsNoForm words refusal → IsNotCompiled told words refusal
+    without_network : TellsForm words → HasNoNetwork R.Network told refusal
+        → IsNotCompiled told words refusal
+    without_c : (net : TypedNetwork) → TellsForm words → IsNetworkOf told net → HasNoC net words refusal
+        → IsNotCompiled told words refusal
+
+-- the text is the target's network of a derivation as C
+pub record TellsCheckedC (told : KnownFiles) (names : DerivationNames) (words : PrintingWords)
+    (text : List ℕ) : Type 0 where
+  pub net : TypedNetwork
+  pub is_checked : IsChecked told names net
+  pub prints : PrintsC net words text
+
+-- why that isn't printed: the words don't tell how; or there is no derivation; or the target has no C
+pub data IsNotCheckedC (told : KnownFiles) (names : DerivationNames) (words : PrintingWords)
+    (refusal : Refusal) : Type 0 where
+  checked_unformed : IsNoForm words refusal → IsNotCheckedC told names words refusal
+  without_derivation : TellsForm words → HasNoDerivation told names refusal
+      → IsNotCheckedC told names words refusal
+  checked_without_c : (net : TypedNetwork) → TellsForm words → IsChecked told names net
+      → HasNoC net words refusal → IsNotCheckedC told names words refusal
+
 -- the job is what is asked for: the lines on a file's types, a run of its network, its outline, the
 -- lines on its steps, what is wanted of an optimised or an improved one, the line on a derivation, a
--- run of a target that is derived, what is wanted of steps, or a certificate
+-- run of a target that is derived, what is wanted of steps, a certificate, or C
 abbrev pub Meets : KnownFiles → RequestTree → Job → Type 0
 Meets told (types name) (J.Print text) = Tells S.Types (told name) (string_bytes text)
 Meets told (run name) (J.Run t) = IsNetworkOf (told name) t
@@ -432,6 +498,9 @@ Meets told (checks names) (J.Print text) = TellsAccepted told names (string_byte
 Meets told (run_checked names) (J.Run t) = IsChecked told names t
 Meets told (apply names) job = TellsApplied told names job
 Meets told (certify from to) job = TellsCertified told from to job
+Meets told (compile words name) (J.Print text) = TellsC (told name) words (string_bytes text)
+Meets told (compile_checked words names) (J.Print text) =
+    TellsCheckedC told names words (string_bytes text)
 Meets told _ _ = ⊥
 
 -- why what is asked for isn't done
@@ -446,6 +515,8 @@ Fails told (checks names) refusal = HasNoDerivation told names refusal
 Fails told (run_checked names) refusal = HasNoDerivation told names refusal
 Fails told (apply names) refusal = IsNotApplied told names refusal
 Fails told (certify from to) refusal = IsNotCertified told from to refusal
+Fails told (compile words name) refusal = IsNotCompiled (told name) words refusal
+Fails told (compile_checked words names) refusal = IsNotCheckedC told names words refusal
 
 -- the words ask for something that the job is
 pub record MeetsWords (told : KnownFiles) (words : List (List ℕ)) (job : Job) : Type 0 where
@@ -490,13 +561,21 @@ AreTold told (run_checked names) = IsTold (told names.source) × IsTold (told na
     × IsTold (told names.certificate)
 AreTold told (apply names) = IsTold (told names.source) × IsTold (told names.certificate)
 AreTold told (certify from to) = IsTold (told from) × IsTold (told to)
+AreTold told (compile words name) = IsTold (told name)
+AreTold told (compile_checked words names) = AreTold told (run_checked names)
+
+-- the refusal is of a network that is to be printed as C, and is too large
+abbrev pub IsTooLarge : RequestTree → Refusal → Type 0
+IsTooLarge (compile words name) refusal = (t : TypedNetwork) × HasNoC t words refusal
+IsTooLarge (compile_checked words names) refusal = (t : TypedNetwork) × HasNoC t words refusal
+IsTooLarge _ refusal = ⊥
 
 -- where the files' bytes are told and some job is what is asked for, memory alone is a reason to
--- refuse it
+-- refuse it, and of C that it is too large
 abbrev pub OnlyMemoryLaw : Type 0
 OnlyMemoryLaw = (told : KnownFiles) (words : List (List ℕ)) (what : RequestTree) (job : Job)
     (refusal : Refusal) → request_in words ≡ Some what → AreTold told what → Meets told what job
-    → IsRefusal told words refusal → refusal ≡ Refused.Memory
+    → IsRefusal told words refusal → (refusal ≡ Refused.Memory) ⊎ IsTooLarge what refusal
 
 -- a refusal for a table that takes no more: its line with status 1 where it is full, or memory was
 -- short

@@ -1,5 +1,5 @@
 -- What the program prints of a file that is refused, and of any refusal.
-use Rattle.std.specs.Prelude.{ℕ, List, ◌++◌, Result, Ok, Err, codes, string_bytes}
+use Rattle.std.specs.Prelude.{ℕ, Bool, List, [], ◌++◌, if◌then◌else◌, Result, Ok, Err, codes, string_bytes}
 use Rattle.std.specs.Fmt.{decimal}
 use Rattle.leaf_core.specs.declared.typing.ExprFault.{ExprFault}
 use Rattle.leaf_core.specs.declared.typing.ExprFault.TheVariants as X
@@ -90,6 +90,22 @@ no_number_words = codes "--first: no number"
 
 abbrev pub no_place_words : List ℕ
 no_place_words = codes "--at: no position"
+
+-- the line on a word that no name may begin with, and on one that is no number of elements
+abbrev pub no_name_words : List ℕ
+no_name_words = codes "--name: no name"
+
+abbrev pub no_most_words : List ℕ
+no_most_words = codes "--most: no number"
+
+-- the line on what is too large at a position; whether `--most` may help
+abbrev pub too_large_words : List ℕ → List ℕ → Bool → List ℕ
+too_large_words what P asks = place_words R.Network (what ++ codes " too large at ") P
+    ++ (if asks then codes ": give --most" else [])
+
+-- the line on a network that has no layout
+abbrev pub no_layout_words : List ℕ
+no_layout_words = line_on R.Network (codes "no layout")
 
 -- the line on a position at which nothing stands in the network
 abbrev pub not_there_words : List ℕ → List ℕ

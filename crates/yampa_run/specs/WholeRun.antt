@@ -22,7 +22,7 @@ use Rattle.net_meaning.specs.TypedNetwork.{TypedNetwork}
 use Rattle.net_text.specs.CertificateLaws.{IsCertificate}
 use Rattle.cert_check.specs.Derives.{Derives}
 use Rattle.stream_text.specs.declared.fault.StreamFault.{StreamFault}
-use Rattle.command_line.specs.CommandLine.{RequestTree, types, run, outline, laws, optimise, improve, check as checks, run_checked, apply, certify, request_in}
+use Rattle.command_line.specs.CommandLine.{RequestTree, types, run, outline, laws, optimise, improve, check as checks, run_checked, apply, certify, compile, compile_checked, request_in}
 use Rattle.yampa_run.specs.FaultLines.{stream_words}
 use Rattle.yampa_run.specs.Headline.{WritesOutput}
 use Rattle.yampa_run.specs.NetworkRun.{RunsOver}
@@ -94,6 +94,8 @@ RunsAsAsked told (improve wanted name) text holds holds' answer = ⊥
 RunsAsAsked told (checks names) text holds holds' answer = ⊥
 RunsAsAsked told (apply names) text holds holds' answer = ⊥
 RunsAsAsked told (certify from to) text holds holds' answer = ⊥
+RunsAsAsked told (compile words name) text holds holds' answer = ⊥
+RunsAsAsked told (compile_checked words names) text holds holds' answer = ⊥
 RunsAsAsked told (run_checked names) text holds holds' answer =
     (source_file target_file certificate : List ℕ) → told names.source ≡ Some source_file
     → told names.target ≡ Some target_file → told names.certificate ≡ Some certificate

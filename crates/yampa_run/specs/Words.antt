@@ -1,5 +1,8 @@
--- What the words of options tell: a number of steps, and a position.
-use Rattle.std.specs.Prelude.{◌≡◌, ◌≤◌, ◌^◌, ◌-◌, ◌&&◌, ℕ, Bool, List, [], ◌++◌, length, min, nat_lt, Option, Some, None, MatchOption, IsSome, ◌∷◌, codes, if◌then◌else◌}
+-- What the words of options tell: a number of steps, a position, what names begin with, and how many
+-- elements lists have.
+use Rattle.std.specs.Prelude.{◌≡◌, ◌≤◌, ◌^◌, ◌-◌, ◌&&◌, ◌||◌, ℕ, Bool, true, false, not, List, [], ◌++◌, length, min, nat_eq, nat_le, nat_lt, Option, Some, None, MatchOption, IsSome, ◌∷◌, codes, if◌then◌else◌}
+use Rattle.std.specs.Char.{is_ascii_alphanumeric, is_ascii_digit}
+use Rattle.std.specs.Option.{option_filter}
 use Rattle.std.specs.Str.{all_ascii_digits}
 use Rattle.std.specs.Str.Parse.{digits_value}
 use Rattle.net_tree.specs.LawStep.{Step}
@@ -7,7 +10,7 @@ use Rattle.net_tree.specs.Position.{position_spelling}
 use Rattle.net_tree.specs.declared.law_step.Direction.TheVariants.{Forward}
 use Rattle.net_tree.specs.declared.law_step.Law.TheVariants as L
 use Rattle.net_text.specs.CertificatePrinting.{ChildrenFit}
-use Rattle.yampa_run.specs.declared.words.TheConstants.{MOST_PLACE}
+use Rattle.yampa_run.specs.declared.words.TheConstants.{MOST_ELEMENTS, MOST_NAME, MOST_PLACE}
 
 -- a word of digits, and at least one
 abbrev pub is_digits_word : List ℕ → Bool
@@ -22,6 +25,40 @@ number_in word =
 abbrev pub TellsFirst : Option (List ℕ) → Option ℕ → Type 0
 TellsFirst None first = first ≡ None
 TellsFirst (Some word) first = IsSome first × (first ≡ number_in word)
+
+-- a letter, a digit or `_`
+abbrev pub is_name_byte : ℕ → Bool
+is_name_byte b = is_ascii_alphanumeric b || nat_eq b 95
+
+-- letters, digits and `_`
+abbrev pub all_name_bytes : List ℕ → Bool
+all_name_bytes [] = true
+all_name_bytes (b ∷ bs) = is_name_byte b && all_name_bytes bs
+
+-- letters, digits and `_`, at least one and at most 32, of which the first is no digit
+abbrev pub is_name : List ℕ → Bool
+is_name [] = false
+is_name (b ∷ bs) = not (is_ascii_digit b)
+    && (nat_le (length (b ∷ bs)) MOST_NAME && all_name_bytes (b ∷ bs))
+
+-- what all names begin with, by a word; `yampa`, where there is no word
+abbrev pub TellsName : Option (List ℕ) → List ℕ → Type 0
+TellsName None name = name ≡ codes "yampa"
+TellsName (Some word) name = (name ≡ word) × (is_name word ≡ true)
+
+-- a number of elements, from 1 to what a line can hold
+abbrev pub is_most : ℕ → Bool
+is_most n = nat_le 1 n && nat_le n MOST_ELEMENTS
+
+-- the number of elements that a word is
+abbrev pub most_in : List ℕ → Option ℕ
+most_in word = option_filter is_most (number_in word)
+
+-- how many elements a list of the input may have, by a word; as many as a line can hold, where there
+-- is no word
+abbrev pub TellsMost : Option (List ℕ) → ℕ → Type 0
+TellsMost None most = most ≡ MOST_ELEMENTS
+TellsMost (Some word) most = most_in word ≡ Some most
 
 -- the word is the position as it is printed, of at most a million bytes, with the child numbers
 -- that files may have

@@ -6,10 +6,12 @@ ghost use Rattle.yampa_run.specs.Headline.{SameOutputLaw, SameFrontLaw, WritesOu
 ghost use Rattle.yampa_run.specs.AppliedFiles.{AppliedFilesLaw};
 ghost use Rattle.yampa_run.specs.OptimisedFiles.{OptimisedFilesLaw};
 ghost use Rattle.yampa_run.specs.CertifiedFiles.{CertifiedFilesLaw};
+ghost use Rattle.yampa_run.specs.CompiledFiles.{CompiledFilesLaw};
 ghost use Rattle.yampa_run.specs.ImprovedFiles.{ImprovedFilesLaw};
 ghost use Rattle.yampa_run.specs.WholeRun.{WholeRunLaw};
 
 use cert_check::{applied_laws, derivation_laws, one_answer_laws};
+use net_code::code_laws;
 use net_opt::optimised_laws;
 use net_syntax::typing_laws;
 use net_text::{certificate_laws, printing_laws};
@@ -17,9 +19,9 @@ use sample_core::reading_laws;
 use stream_text::stream_laws;
 
 /// The bytes of a file are refused with one line, and bytes that have a network with none. So
-/// `prepare` refuses what is asked for, but for lack of memory, only where no job is that: where the
-/// file's bytes have no network, or those of three files are no source, target and certificate whose
-/// steps derive the target. A full table is told behind it.
+/// `prepare` refuses what is asked for, but for lack of memory and of C that is too large, only where
+/// no job is that: where the file's bytes have no network, or those of three files are no source,
+/// target and certificate whose steps derive the target. A full table is told behind it.
 pub fn refusal_laws()
     ensures one_line { OneRefusalLaw }
     ensures no_network { NoNetworkLaw }
@@ -94,4 +96,15 @@ pub fn improved_file_laws()
     one_answer_laws();
     printing_laws();
     applied_laws();
+}
+
+/// What is printed where the words ask for C of a file, or of a target whose certificate is to be
+/// checked, and the bytes of the files that they name are told: the text of code that outputs the
+/// stream meaning of the file's network, or of the source, on samples of its input type.
+pub fn compiled_file_laws()
+    ensures { CompiledFilesLaw }
+{
+    code_laws();
+    typing_laws();
+    derivation_laws();
 }

@@ -16,6 +16,7 @@
 mod applied;
 mod certificate;
 mod certified;
+mod compiled;
 mod fault;
 mod files;
 pub mod fill;
@@ -33,7 +34,7 @@ pub use fault::{RunFault, RunReport};
 pub use files::{FileFault, Files};
 pub use fill::table_refusal;
 pub use laws::{
-    applied_file_laws, certified_file_laws, headline_laws, improved_file_laws, optimised_file_laws,
+    applied_file_laws, certified_file_laws, compiled_file_laws, headline_laws, improved_file_laws, optimised_file_laws,
     refusal_laws, whole_run_laws,
 };
 pub use network_run::{run_network, run_status};

@@ -8,6 +8,7 @@ ghost use Rattle.yampa_run.specs.Preparation.{Fails, HasNoNetwork, IsRequested, 
 use crate::applied::applied;
 use crate::certificate::{accepted, derived};
 use crate::certified::certified;
+use crate::compiled::{compiled, compiled_checked};
 use crate::files::{Files, read_file};
 use crate::possible::possible;
 use crate::refused::{Role, text_line, type_line};
@@ -151,6 +152,16 @@ fn job_of<F: Files>(alloc: Global, request: Request<'_>, files: &F) -> Result<Jo
         },
         Request::Apply(names) => applied(alloc, names, files),
         Request::Certify { source, target } => certified(alloc, source, target, files),
+        Request::Compile { net, printing } => match compiled(alloc, net, printing, files) {
+            Ok(text) => Ok(Job::Print(text)),
+            Err(refusal) => Err(refusal),
+        },
+        Request::CompileChecked { names, printing } => {
+            match compiled_checked(alloc, names, printing, files) {
+                Ok(text) => Ok(Job::Print(text)),
+                Err(refusal) => Err(refusal),
+            }
+        }
     }
 }
 

@@ -1,7 +1,7 @@
 // What the program prints of a file that is refused.
 
 ghost use Rattle.std.specs.Prelude.{◌≡◌, codes, IfOk, string_bytes};
-ghost use Rattle.yampa_run.specs.RefusalLines.{byte_words, check_words, expression_words, line_on, no_number_words, no_place_words, none_found_words, not_there_words, place_words, role_words, step_words, text_words, type_words, unread_words};
+ghost use Rattle.yampa_run.specs.RefusalLines.{byte_words, check_words, expression_words, line_on, no_layout_words, no_most_words, no_name_words, no_number_words, no_place_words, none_found_words, not_there_words, place_words, role_words, step_words, text_words, too_large_words, type_words, unread_words};
 
 use crate::printed::{push_number, push_words};
 use cert_check::CheckFault;
@@ -136,6 +136,44 @@ pub(crate) fn no_place_line(alloc: Global) -> Result<String, Memory>
     ensures { IfOk result (λ line. string_bytes line ≡ no_place_words) }
 {
     Ok(String::from_str(alloc, "--at: no position")?)
+}
+
+/// The line on a word that no name may begin with.
+pub(crate) fn no_name_line(alloc: Global) -> Result<String, Memory>
+    ensures { IfOk result (λ line. string_bytes line ≡ no_name_words) }
+{
+    Ok(String::from_str(alloc, "--name: no name")?)
+}
+
+/// The line on a word that is no number of elements.
+pub(crate) fn no_most_line(alloc: Global) -> Result<String, Memory>
+    ensures { IfOk result (λ line. string_bytes line ≡ no_most_words) }
+{
+    Ok(String::from_str(alloc, "--most: no number")?)
+}
+
+/// The line on what is too large at a position, and that `--most` may help, where it may.
+pub(crate) fn too_large_line(
+    alloc: Global,
+    what: &str,
+    position: &Position,
+    asks: bool,
+) -> Result<String, Memory>
+    ensures { IfOk result (λ line. string_bytes line
+        ≡ too_large_words what.now position.now asks) }
+{
+    let mut line = line_of(alloc, Role::Network, what)?;
+    push_words(&mut line, " too large at ")?;
+    push_position(&mut line, position)?;
+    push_words(&mut line, if asks { ": give --most" } else { "" })?;
+    Ok(line)
+}
+
+/// The line on a network that has no layout.
+pub(crate) fn no_layout_line(alloc: Global) -> Result<String, Memory>
+    ensures { IfOk result (λ line. string_bytes line ≡ no_layout_words) }
+{
+    line_of(alloc, Role::Network, "no layout")
 }
 
 /// The line where no certificate is found.

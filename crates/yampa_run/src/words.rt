@@ -1,16 +1,17 @@
-// What the words of options tell: a number of steps, and a position.
+// What the words of options tell: a number of steps, a position, what names begin with, and how many
+// elements lists have.
 
 ghost use Rattle.std.specs.Prelude.{◌≡◌, ◌≢◌, ◌↔◌, IfErr, IfOk, IsTrue, OnOk, map, option_map, string_bytes};
 ghost use Rattle.net_tree.specs.LawStep.{step_of};
 ghost use Rattle.net_tree.specs.Position.{position_spelling};
 ghost use Rattle.net_text.specs.CertificatePrinting.{ChildrenFit};
 ghost use Rattle.net_text.specs.declared.fault.NetTextFault.TheVariants as Fault;
-ghost use Rattle.yampa_run.specs.Preparation.{IsNoNumber, IsNowhere};
-ghost use Rattle.yampa_run.specs.Words.{IsPlaceIn, IsPlaceOfStep, TellsFirst, TellsPlace, is_digits_word, number_in, placed_file};
+ghost use Rattle.yampa_run.specs.Preparation.{IsNoMost, IsNoName, IsNoNumber, IsNowhere};
+ghost use Rattle.yampa_run.specs.Words.{IsPlaceIn, IsPlaceOfStep, TellsFirst, TellsMost, TellsName, TellsPlace, all_name_bytes, is_digits_word, is_most, is_name, is_name_byte, most_in, number_in, placed_file};
 
 use crate::preparation::Refusal;
 use crate::printed::push_words;
-use crate::refused::{no_number_line, no_place_line};
+use crate::refused::{no_most_line, no_name_line, no_number_line, no_place_line};
 use leaf_expr::MOST_INDEX;
 use net_text::{NetTextFault, read_cert};
 use net_tree::{LawStep, Position, push_position};
@@ -19,6 +20,12 @@ use std::alloc::Global;
 
 /// The most bytes that the word of a position may have.
 const MOST_PLACE: usize = 1_000_000;
+
+/// The most bytes that the word of a name may have.
+const MOST_NAME: usize = 32;
+
+/// The most elements that a line of a stream can hold.
+const MOST_ELEMENTS: usize = 32_765;
 
 /// How many steps are to be taken, by that word; `None`, for all, where there is no word. Refused
 /// with status 2 where the word is no number.
@@ -36,6 +43,90 @@ pub(crate) fn first_of(alloc: Global, word: Option<&str>) -> Result<Option<usize
             line: no_number_line(alloc)?,
         }),
     }
+}
+
+/// What all names begin with, by that word; `yampa`, where there is no word. Refused with status 2
+/// where no name may begin so.
+pub(crate) fn name_of<'a>(alloc: Global, word: Option<&'a str>) -> Result<&'a str, Refusal>
+    ensures name { IfOk result (λ name. TellsName (option_map (λ w. w.now) word.entry) name.now) }
+    ensures refused { IfErr result (IsNoName (option_map (λ w. w.now) word.entry)) }
+{
+    let Some(word) = word else {
+        return Ok("yampa");
+    };
+    if is_name(word) {
+        Ok(word)
+    } else {
+        Err(Refusal::Line {
+            status: 2,
+            line: no_name_line(alloc)?,
+        })
+    }
+}
+
+/// Whether names may begin with the word: letters, digits and `_`, at most 32, of which the first is
+/// no digit.
+fn is_name(word: &str) -> bool
+    ensures { result ≡ is_name word.now }
+{
+    match word.as_bytes().first() {
+        Some(first) => {
+            !first.is_ascii_digit() && word.len() <= MOST_NAME && all_name_bytes(word.as_bytes())
+        }
+        None => false,
+    }
+}
+
+/// Whether all are letters, digits or `_`.
+fn all_name_bytes(bytes: &[u8]) -> bool
+    ensures { result ≡ all_name_bytes bytes.now }
+{
+    for byte in bytes {
+        if !is_name_byte(*byte) {
+            return false;
+        }
+    }
+    true
+}
+
+/// Whether it is a letter, a digit or `_`.
+fn is_name_byte(byte: u8) -> bool
+    ensures { result ≡ is_name_byte byte }
+{
+    byte.is_ascii_alphanumeric() || byte == b'_'
+}
+
+/// How many elements a list of the input may have, by that word; as many as a line can hold, where
+/// there is no word. Refused with status 2 where the word is no number from 1 to that.
+pub(crate) fn most_of(alloc: Global, word: Option<&str>) -> Result<usize, Refusal>
+    ensures most { IfOk result (TellsMost (option_map (λ w. w.now) word.entry)) }
+    ensures refused { IfErr result (IsNoMost (option_map (λ w. w.now) word.entry)) }
+{
+    let Some(word) = word else {
+        return Ok(MOST_ELEMENTS);
+    };
+    match most_in(word) {
+        Some(most) => Ok(most),
+        None => Err(Refusal::Line {
+            status: 2,
+            line: no_most_line(alloc)?,
+        }),
+    }
+}
+
+/// The number of elements that the word is, if it is one.
+fn most_in(word: &str) -> Option<usize>
+    ensures { result ≡ most_in word.now }
+{
+    let number = number_in(word)?;
+    if is_most(number) { Some(number) } else { None }
+}
+
+/// Whether a list may have so many elements at most.
+fn is_most(number: usize) -> bool
+    ensures { result ≡ is_most number }
+{
+    1 <= number && number <= MOST_ELEMENTS
 }
 
 /// The number that a word of digits is, or the largest that there is, where it is larger. `None` if

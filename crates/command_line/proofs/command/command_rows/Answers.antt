@@ -44,3 +44,12 @@ pub returns-clause-no_steps : goal.returns-clause-no_steps
 unfolding clap_on_literals request_in AsksNothing
 returns-clause-no_steps c =
     ((refl, λ e. cc, λ e. cc), (refl, λ e. cc, λ e. cc), (refl, λ e. cc, λ e. cc), (refl, λ e. cc, λ e. cc), (refl, λ e. cc, λ e. cc))
+
+pub returns-clause-compile : goal.returns-clause-compile
+unfolding clap_on_literals request_in
+returns-clause-compile c = (refl, refl, refl)
+
+pub returns-clause-no_compile : goal.returns-clause-no_compile
+unfolding clap_on_literals request_in AsksNothing
+returns-clause-no_compile c =
+    ((refl, λ e. cc, λ e. cc), (refl, λ e. cc, λ e. cc), (refl, λ e. cc, λ e. cc), (refl, λ e. cc, λ e. cc), (refl, λ e. cc, λ e. cc))

@@ -1,0 +1,10 @@
+use Rattle.code_text.proofs.Joined.{joined_four}
+use Rattle.code_text.proofs.file.push_about.Goals as goal
+
+pub returns : goal.returns
+returns c =
+    joined_four _ _ _ _ _ _ _ _ _
+    c.in_ok-push_types.ensures
+    c.in_ok-push_with_each.ensures
+    c.in_ok-push_use.ensures
+    c.in_ok-push_figures.ensures

@@ -1,0 +1,9 @@
+use Rattle.code_text.proofs.Joined.{joined_three}
+use Rattle.code_text.proofs.filter.push_reader.Goals as goal
+
+pub returns : goal.returns
+returns c =
+    joined_three _ _ _ _ _ _ _
+    c.in_ok-push.ensures
+    c.in_ok-push_reading.ensures
+    c.in_ok-push-2.ensures

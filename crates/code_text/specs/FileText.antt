@@ -1,0 +1,178 @@
+-- The C of a network: a file.
+use Rattle.std.specs.Prelude.{ℕ, suc, ◌-◌, Bool, true, false, if◌then◌else◌, List, [], ◌∷◌, ◌++◌, codes, length, map, slice_get, Option, Some, None}
+use Rattle.sample_core.specs.TypeTree.{TypeTree, unit_ty}
+use Rattle.sample_core.specs.TypeView.{type_of}
+use Rattle.net_code.specs.declared.statement.Function.{Function}
+use Rattle.code_fits.specs.declared.layout.Layout.{Layout}
+use Rattle.code_fits.specs.declared.layout.Program.{Program}
+use Rattle.code_text.specs.declared.file.Printed.{Printed}
+use Rattle.code_text.specs.declared.file.Printed.TheVariants as P
+use Rattle.code_text.specs.declared.file.Options as D
+use Rattle.code_text.specs.declared.file_text.TheConstants.{POSIX, FILTER_INCLUDES, PLAIN_INCLUDES}
+use Rattle.code_text.specs.Piece.{Piece, text, name, number, ty, spelt, pieces_text}
+use Rattle.code_text.specs.PieceView.{pieces_if}
+use Rattle.code_text.specs.NamedText.{with_each}
+use Rattle.code_text.specs.TypeText.{structs_text, helpers_text}
+use Rattle.code_text.specs.ScopeText.{Named, Caller}
+use Rattle.code_text.specs.FixedText.{use_rows, opening_rows, prototype_rows, numbers_text, entries_text}
+use Rattle.code_text.specs.KeptText.{own_structs}
+use Rattle.code_text.specs.FunctionText.{input_type, output_type, comment_text, function_text}
+use Rattle.code_text.specs.FilterText.{filter_text}
+
+-- how a network's C is printed: the prefix of its names, what of it, how many elements the lists of
+-- its input have at most, and the text and the weight of the network
+pub record Options : Type 0 where
+  pub prefix : List ℕ
+  pub printed : Printed
+  pub most : ℕ
+  pub network : List ℕ
+  pub weight : ℕ
+
+-- the ones that an `Options` is
+abbrev pub options_in : D.Options → Options
+options_in o =
+    record { prefix = o.prefix.now; printed = o.printed; most = o.most; network = o.network.now; weight = o.weight }
+
+-- the types of a program
+abbrev pub types_of : Named → List TypeTree
+types_of n = map type_of n.program.types.trees.items
+
+-- what a function keeps, under a comment
+abbrev pub kept_struct : Caller → List ℕ
+kept_struct c =
+    pieces_text c.named.prefix (text (codes "\n") ∷ [])
+    ++ (comment_text c ++ own_structs c)
+
+-- the same, if it keeps something
+abbrev pub kept_text : Caller → List ℕ
+kept_text c = if c.layout.keeps then kept_struct c else []
+
+module _ (n : Named) where
+  -- function k with its layout
+  abbrev pub caller : ℕ → Function → Layout → Caller
+  caller k f L = record { named = n; number = k; function = f; layout = L }
+
+  -- what it keeps, if there is such a function
+  abbrev pub kept_at : ℕ → Function → Option Layout → List ℕ
+  kept_at k f None = []
+  kept_at k f (Some L) = kept_text (caller k f L)
+
+  -- the structs of what functions keep, from number k on
+  abbrev pub all_kept : ℕ → List Function → List ℕ
+  all_kept k [] = []
+  all_kept k (f ∷ fs) = kept_at k f (slice_get n.program.layouts.items k) ++ all_kept (suc k) fs
+
+  -- its lines, if there is such a function
+  abbrev pub function_at : ℕ → Function → Option Layout → List ℕ
+  function_at k f None = []
+  function_at k f (Some L) = function_text (caller k f L)
+
+  -- functions, from number k on
+  abbrev pub all_functions : ℕ → List Function → List ℕ
+  all_functions k [] = []
+  all_functions k (f ∷ fs) =
+      function_at k f (slice_get n.program.layouts.items k) ++ all_functions (suc k) fs
+
+-- a name for a type
+abbrev pub type_name : TypeTree → List ℕ → List Piece
+type_name T s =
+    text (codes "\ntypedef ") ∷ ty T ∷ text (codes " ") ∷ name ∷ text s ∷ text (codes "; /* ")
+    ∷ spelt T ∷ text (codes " */") ∷ []
+
+-- what POSIX has, where there is a filter
+abbrev pub posix_rows : Printed → List Piece
+posix_rows P.Filter = text POSIX.now ∷ []
+posix_rows P.Functions = []
+posix_rows P.Header = []
+
+-- the file of a program, of which c is the last function
+module _ (c : Caller) (o : Options) where
+  -- the comment at the top: the types, the network's lines, how it is used, and its figures
+  abbrev pub types_row : List Piece
+  types_row =
+      text (codes "/* ") ∷ name ∷ text (codes ": ") ∷ spelt (input_type c) ∷ text (codes " -> ")
+      ∷ spelt (output_type c) ∷ text (codes ". By `yampa compile`, of the network\n *\n * ") ∷ []
+
+  abbrev pub figures_row : List Piece
+  figures_row =
+      text (codes " *\n * Weight ") ∷ number o.weight ∷ text (codes ". The state has at most ")
+      ∷ number c.named.program.state_bytes ∷ text (codes " bytes, lists of the input at most ")
+      ∷ number o.most ∷ text (codes " elements. */\n") ∷ []
+
+  abbrev pub about_text : List ℕ
+  about_text =
+      pieces_text o.prefix types_row
+      ++ (with_each 10 (codes "\n * ") o.network
+      ++ (pieces_text o.prefix use_rows ++ pieces_text o.prefix figures_row))
+
+  -- the struct of all that is kept: what the last function keeps
+  abbrev pub stored_row : List Piece
+  stored_row =
+      pieces_if c.layout.keeps
+      (text (codes "    struct ") ∷ name ∷ text (codes "_s") ∷ number c.number ∷ text (codes " s;\n")
+      ∷ [])
+
+  abbrev pub state_text : List ℕ
+  state_text =
+      pieces_text o.prefix (type_name (input_type c) (codes "_input"))
+      ++ (pieces_text o.prefix (type_name (output_type c) (codes "_output"))
+      ++ (pieces_text o.prefix
+      (text (codes "\nstruct ") ∷ name ∷ text (codes "_state {\n    bool started;\n") ∷ [])
+      ++ (pieces_text o.prefix stored_row ++ pieces_text o.prefix (text (codes "};\n") ∷ []))))
+
+  -- the declarations: the comment, types, structs, and what a program calls
+  abbrev pub declarations_text : List ℕ
+  declarations_text =
+      about_text
+      ++ (pieces_text o.prefix (posix_rows o.printed)
+      ++ (pieces_text o.prefix opening_rows
+      ++ (structs_text o.prefix c.named.program.bounds.items 0 (types_of c.named)
+      ++ (all_kept c.named 0 c.named.program.functions.items
+      ++ (state_text ++ pieces_text o.prefix prototype_rows)))))
+
+  -- the functions: on numbers and types, of the network, and the two that a program calls
+  abbrev pub definitions_text : List ℕ
+  definitions_text =
+      numbers_text o.prefix
+      ++ (helpers_text o.prefix (types_of c.named)
+      ++ (all_functions c.named 0 c.named.program.functions.items
+      ++ entries_text o.prefix c.number c.layout.keeps))
+
+  -- the functions, and what they stand on; the same with a filter
+  abbrev pub plain_text : List ℕ
+  plain_text = pieces_text o.prefix (text PLAIN_INCLUDES.now ∷ []) ++ definitions_text
+
+  abbrev pub filtered_text : List ℕ
+  filtered_text =
+      pieces_text o.prefix (text FILTER_INCLUDES.now ∷ [])
+      ++ (definitions_text
+      ++ filter_text o.prefix (types_of c.named) (input_type c) (output_type c) o.most)
+
+  -- what stands behind the declarations
+  abbrev pub printed_text : Printed → List ℕ
+  printed_text P.Header = []
+  printed_text P.Functions = plain_text
+  printed_text P.Filter = filtered_text
+
+  abbrev pub file_text : List ℕ
+  file_text = declarations_text ++ printed_text o.printed
+
+-- the file where f, function k, is the last one, if it has a layout
+abbrev pub last_at : Named → Options → ℕ → Function → Option Layout → List ℕ
+last_at n o k f None = []
+last_at n o k f (Some L) = file_text (caller n k f L) o
+
+-- the file where function k is the last one, if there is such a function
+abbrev pub file_at : Named → Options → ℕ → Option Function → List ℕ
+file_at n o k None = []
+file_at n o k (Some f) = last_at n o k f (slice_get n.program.layouts.items k)
+
+-- the file of a program
+abbrev pub file_of : Named → Options → List ℕ
+file_of n o =
+    file_at n o (length n.program.functions.items - 1)
+    (slice_get n.program.functions.items (length n.program.functions.items - 1))
+
+-- the C of a program
+abbrev pub c_of : Program → Options → List ℕ
+c_of p o = file_of (record { prefix = o.prefix; program = p; otherwise = unit_ty }) o

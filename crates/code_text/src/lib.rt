@@ -1,0 +1,27 @@
+//! The code of a network as C.
+//!
+//!     let text = print_c(alloc, &program, options)?;
+//!
+//! A row of code is a line of C: `src/row.rt`, `src/cell.rt` and `src/collection.rt`; a step of an expression too: `src/leaf.rt`. What
+//! functions keep is a struct each: `src/kept.rt`. `src/file.rt` puts all together, and `src/filter.rt` adds a program that runs on
+//! standard input.
+#![tactic(auto)]
+
+mod cell;
+mod collection;
+mod declared;
+mod file;
+mod file_text;
+mod filter;
+mod filter_text;
+mod fixed;
+mod function;
+mod kept;
+mod leaf;
+mod named;
+mod piece;
+mod row;
+mod scope;
+mod types;
+
+pub use file::{Options, Printed, print_c};

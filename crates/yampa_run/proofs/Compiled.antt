@@ -1,0 +1,42 @@
+-- What is printed of a network as C, and why it isn't.
+use Rattle.std.proofs.Common.{ℕ, List, Option, Result, Ok, Err, IfOk}
+use Rattle.std.specs.Result.{IfErr}
+use Rattle.net_meaning.specs.TypedNetwork.{TypedNetwork}
+use Rattle.command_line.specs.CommandLine.{DerivationNames, PrintingWords}
+use Rattle.yampa_run.specs.Compiled.{IsForm, PrintsC, PrintsNamed}
+use Rattle.yampa_run.specs.Preparation.{HasNoC, IsChecked, IsNetworkOf, IsNotCheckedC, IsNotCompiled, KnownFiles, TellsC, TellsCheckedC, TellsForm, checked_without_c, without_c}
+use Rattle.yampa_run.specs.declared.compiled.Form.{Form}
+use Rattle.yampa_run.specs.declared.preparation.Refusal.{Refusal}
+
+pub tells_form : (words : PrintingWords) (form : Form) → IsForm words form → TellsForm words
+tells_form words form f = record { name = form.name.now; most = form.most; name_is = f.name_is; most_is = f.most_is }
+
+prints_c : (t : TypedNetwork) (words : PrintingWords) (form : Form) (text : List ℕ) → IsForm words form → PrintsNamed t words form.name.now form.most text
+    → PrintsC t words text
+prints_c t words form text f h = record { name = form.name.now; most = form.most; name_is = f.name_is; most_is = f.most_is; prints = h }
+
+-- where a file's network is printed, that is its C
+pub tells_c : {T : Type 0} (bytes : T → List ℕ) (known : Option (List ℕ)) (words : PrintingWords) (net : TypedNetwork) (form : Form) (r : Result T Refusal)
+    → IsNetworkOf known net → IsForm words form → IfOk r (λ text. PrintsNamed net words form.name.now form.most (bytes text))
+    → IfOk r (λ text. TellsC known words (bytes text))
+tells_c bytes known words net form (Ok text) i f h = record { net = net; network = i; prints = prints_c net words form (bytes text) f h }
+tells_c bytes known words net form (Err e) i f h = tt
+
+-- where it has no C, it isn't
+pub not_compiled : {T : Type 0} (known : Option (List ℕ)) (words : PrintingWords) (net : TypedNetwork) (form : Form) (r : Result T Refusal)
+    → IsNetworkOf known net → IsForm words form → IfErr r (HasNoC net words) → IfErr r (IsNotCompiled known words)
+not_compiled known words net form (Ok text) i f h = tt
+not_compiled known words net form (Err e) i f h = without_c net (tells_form words form f) i h
+
+-- and so it is of the target of a derivation
+pub tells_checked_c : {T : Type 0} (bytes : T → List ℕ) (told : KnownFiles) (names : DerivationNames) (words : PrintingWords) (net : TypedNetwork) (form : Form)
+    (r : Result T Refusal) → IsChecked told names net → IsForm words form → IfOk r (λ text. PrintsNamed net words form.name.now form.most (bytes text))
+    → IfOk r (λ text. TellsCheckedC told names words (bytes text))
+tells_checked_c bytes told names words net form (Ok text) i f h =
+    record { net = net; is_checked = i; prints = prints_c net words form (bytes text) f h }
+tells_checked_c bytes told names words net form (Err e) i f h = tt
+
+pub not_checked_c : {T : Type 0} (told : KnownFiles) (names : DerivationNames) (words : PrintingWords) (net : TypedNetwork) (form : Form) (r : Result T Refusal)
+    → IsChecked told names net → IsForm words form → IfErr r (HasNoC net words) → IfErr r (IsNotCheckedC told names words)
+not_checked_c told names words net form (Ok text) i f h = tt
+not_checked_c told names words net form (Err e) i f h = checked_without_c net (tells_form words form f) i h

@@ -1,0 +1,1 @@
+"""Cases that hold compiled networks to what `run` tells of them."""
