@@ -35,11 +35,15 @@ abbrev pub all_name_bytes : List ℕ → Bool
 all_name_bytes [] = true
 all_name_bytes (b ∷ bs) = is_name_byte b && all_name_bytes bs
 
+-- there is a first byte, and it is no digit
+abbrev pub begins_name : List ℕ → Bool
+begins_name [] = false
+begins_name (b ∷ bs) = not (is_ascii_digit b)
+
 -- letters, digits and `_`, at least one and at most 32, of which the first is no digit
 abbrev pub is_name : List ℕ → Bool
-is_name [] = false
-is_name (b ∷ bs) = not (is_ascii_digit b)
-    && (nat_le (length (b ∷ bs)) MOST_NAME && all_name_bytes (b ∷ bs))
+is_name word =
+    (nat_le (length word) MOST_NAME && begins_name word) && all_name_bytes word
 
 -- what all names begin with, by a word; `yampa`, where there is no word
 abbrev pub TellsName : Option (List ℕ) → List ℕ → Type 0
