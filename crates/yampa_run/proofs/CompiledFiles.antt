@@ -27,21 +27,21 @@ typed_in within file t i =
     let fits : NetworkFits t.net t.input t.output = limits.fits in
     within [] [] t.net t.input t.output fits.typed
 
-module _ (code : CodeLaw) (leaves : LeafCodeLaw) (t : TypedNetwork) (fs : List Function) (is : IsCodeOf t fs) (typed : HasItsTypes t) where
+module _ (code : CodeLaw) (leaves : LeafCodeLaw) (t : TypedNetwork) (fs : List Function) (made : IsCodeOf t fs) (typed : HasItsTypes t) where
   there : NetTyped [] [] t.net t.input t.output
   there = typed
 
   pub outputs : (s : Store) (xs : TimedList) → run_code value_in (code_in fs) s xs ≡ stream_of t.net xs
   outputs s xs =
-      ap (λ c. run_code value_in c s xs) is.2
-      ∙ code is.0 t.input t.output (subst (λ n. NetTyped [] [] n t.input t.output) (sym is.1) there) s xs
-      ∙ ap (λ n. stream_of n xs) is.1
+      ap (λ c. run_code value_in c s xs) made.2
+      ∙ code made.0 t.input t.output (subst (λ n. NetTyped [] [] n t.input t.output) (sym made.1) there) s xs
+      ∙ ap (λ n. stream_of n xs) made.1
 
   pub leaf_outputs : (tys : Expr → List TypeTree × TypeTree) (s : Store) (xs : TimedList) → run_code (leaf_in tys) (code_in fs) s xs ≡ stream_of t.net xs
   leaf_outputs tys s xs =
-      ap (λ c. run_code (leaf_in tys) c s xs) is.2
-      ∙ leaves tys is.0 t.input t.output (subst (λ n. NetTyped [] [] n t.input t.output) (sym is.1) there) s xs
-      ∙ ap (λ n. stream_of n xs) is.1
+      ap (λ c. run_code (leaf_in tys) c s xs) made.2
+      ∙ leaves tys made.0 t.input t.output (subst (λ n. NetTyped [] [] n t.input t.output) (sym made.1) there) s xs
+      ∙ ap (λ n. stream_of n xs) made.1
 
 pub compiled_files : CodeLaw → LeafCodeLaw → WithinLaw → SameStreamLaw → CompiledFilesLaw
 compiled_files code leaves within same told words what (J.Run t) asks h = inr tt
