@@ -1,8 +1,7 @@
 -- What the words of options tell: a number of steps, a position, what names begin with, and how many
 -- elements lists have.
-use Rattle.std.specs.Prelude.{◌≡◌, ◌≤◌, ◌^◌, ◌-◌, ◌&&◌, ◌||◌, ℕ, Bool, true, false, not, List, [], ◌++◌, length, min, nat_eq, nat_le, nat_lt, Option, Some, None, MatchOption, IsSome, ◌∷◌, codes, if◌then◌else◌}
+use Rattle.std.specs.Prelude.{◌≡◌, ◌≤◌, ◌^◌, ◌-◌, ◌&&◌, ◌||◌, ℕ, Bool, true, false, not, List, [], ◌++◌, length, min, nat_eq, nat_le, nat_lt, Option, Some, None, option_and_then, MatchOption, IsSome, ◌∷◌, codes, if◌then◌else◌}
 use Rattle.std.specs.Char.{is_ascii_alphanumeric, is_ascii_digit}
-use Rattle.std.specs.Option.{option_filter}
 use Rattle.std.specs.Str.{all_ascii_digits}
 use Rattle.std.specs.Str.Parse.{digits_value}
 use Rattle.net_tree.specs.LawStep.{Step}
@@ -56,7 +55,8 @@ is_most n = nat_le 1 n && nat_le n MOST_ELEMENTS
 
 -- the number of elements that a word is
 abbrev pub most_in : List ℕ → Option ℕ
-most_in word = option_filter is_most (number_in word)
+most_in word =
+    option_and_then (λ n. if is_most n then Some n else None) (number_in word)
 
 -- how many elements a list of the input may have, by a word; as many as a line can hold, where there
 -- is no word
