@@ -82,7 +82,7 @@ compiled_files code leaves within same told words what (J.Print text) asks (inr 
         let target_is : IsNetworkIn target_file m.net = subst (λ known. IsNetworkOf known m.net) f d.files.is_target in
         let typed : HasItsTypes m.net = typed_in within target_file m.net target_is in
         let stream : (xs : TimedList) → TypedSamples d.source.input xs → stream_of d.source.net xs ≡ stream_of m.net.net xs =
-            λ xs y. same d.source m.net d.steps xs (typed_in within source_file d.source source_is) d.derives y in
+        λ xs y. same d.source m.net d.steps xs (typed_in within source_file d.source source_is) d.derives y in
         record {
           source = d.source;
           target = m.net;
