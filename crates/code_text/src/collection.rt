@@ -165,7 +165,9 @@ fn push_moved(text: &mut String, caller: Caller<'_>, declared: Declared<'_>) -> 
             indent,
             Piece::Text("    for (uint32_t i = 0; (i < w.a.n) && (kept < 64); i++) {\n"),
             indent,
-            Piece::Text("        if ((uint64_t)w.a.e[i] < s->count) { to[kept] = was[w.a.e[i]]; kept++; }\n"),
+            Piece::Text(
+                "        if ((uint64_t)w.a.e[i] < s->count) { to[kept] = was[w.a.e[i]]; kept++; }\n",
+            ),
             indent,
             Piece::Text("    }\n"),
         ],
@@ -374,12 +376,13 @@ fn push_default_call(
     ensures { IfOk result (λ _. string_bytes text.new
         ≡ string_bytes text.old ++ default_call (caller_in caller.entry) t k) }
 {
+    let part = "&m->taker";
     push_call(
         text,
         caller,
         Call {
             function: t,
-            part: &[Piece::Text("&m->taker")],
+            part: &[Piece::Text(part)],
             moment: "at",
             input: &[Piece::Text("&"), Piece::Reg(k), Piece::Text(".a")],
             scope: Scope::Value,

@@ -1,12 +1,12 @@
 // The C of a function: its leaves, and its rows.
 
-ghost use Rattle.std.specs.Prelude.{◌≡◌, ◌≤◌, ◌++◌, IfOk, map, string_bytes};
-ghost use Rattle.sample_core.specs.{TypeTree.pair_ty, TypeView.type_of};
+ghost use Rattle.std.specs.Prelude.{◌≡◌, ◌≤◌, ◌++◌, IfOk, false, map, string_bytes};
+ghost use Rattle.sample_core.specs.{TypeTree.int_ty, TypeTree.pair_ty, TypeView.type_of};
 ghost use Rattle.net_code.specs.CodeView.{rows_of};
 ghost use Rattle.code_text.specs.{ScopeText.caller_in, ScopeText.named_in, ScopeText.type_at};
 ghost use Rattle.code_text.specs.LeafText.{leaf_text};
-ghost use Rattle.code_text.specs.CollectionText.{type_in};
-ghost use Rattle.code_text.specs.FunctionText.{accumulated_type, cell_word, chosen_type, comment_text, exit_indent, exit_text, function_text, gives, head_text, is_guarded, leaf_at, leaf_in_text, leaf_of_text, leaves_text, lines_text, position_text, row_text, rows_text, set_text, sets, value_type, word_of};
+ghost use Rattle.code_text.specs.CollectionText.{kept_type, type_in};
+ghost use Rattle.code_text.specs.FunctionText.{accumulated_type, cell_word, chosen_type, comment_text, exit_indent, exit_text, function_text, gives, head_text, input_type, is_guarded, leaf_at, leaf_in_text, leaf_of_text, leaves_text, lines_text, position_text, row_text, rows_text, set_text, sets, value_type, word_of};
 
 use crate::declared::Declared;
 use crate::leaf::{Leaf, push_leaf};
@@ -371,24 +371,81 @@ fn push_leaf_of(
     ensures { IfOk result (λ _. string_bytes text.new
         ≡ string_bytes text.old ++ leaf_of_text (caller_in caller.entry) row action.now) }
 {
-    let input = caller.named.ty(caller.layout.input);
     match action {
-        Action::Leaf(e, _) => push_leaf_at(alloc, text, caller, (row, false), input, e)?,
+        Action::Leaf(e, _) => push_input_leaf(alloc, text, caller, row, e)?,
         Action::Constant(e) => push_leaf_at(alloc, text, caller, (row, true), &Ty::Unit, e)?,
-        Action::Routed(e, _, _) => {
-            let ty = pair_of(alloc, input, &Ty::Int)?;
-            push_leaf_at(alloc, text, caller, (row, false), &ty, e)?;
-        }
-        Action::Accumulate(e, _, _) => {
-            let ty = accumulated_type(alloc, caller.named, caller.layout.kept, input)?;
-            push_leaf_at(alloc, text, caller, (row, false), &ty, e)?;
-        }
-        Action::Collect(e, _, _) => {
-            let ty = chosen_type(alloc, input)?;
-            push_leaf_at(alloc, text, caller, (row, false), &ty, e)?;
-        }
+        Action::Routed(e, _, _) => push_routed_leaf(alloc, text, caller, row, e)?,
+        Action::Accumulate(e, _, _) => push_accumulated_leaf(alloc, text, caller, row, e)?,
+        Action::Collect(e, _, _) => push_chosen_leaf(alloc, text, caller, row, e)?,
         _ => {}
     }
+    Ok(())
+}
+
+/// The function of a leaf at the function's input.
+fn push_input_leaf(
+    alloc: Global,
+    text: &mut String,
+    caller: Caller<'_>,
+    row: usize,
+    e: &Expr,
+) -> Result<(), Memory>
+    ensures { IfOk result (λ _. string_bytes text.new ≡ string_bytes text.old
+        ++ leaf_text caller.entry.named.prefix.now (leaf_at (caller_in caller.entry) row false (input_type (caller_in caller.entry)) e.now)) }
+{
+    let input = caller.named.ty(caller.layout.input);
+    push_leaf_at(alloc, text, caller, (row, false), input, e)?;
+    Ok(())
+}
+
+/// The function of a leaf at the function's input and a member's number.
+fn push_routed_leaf(
+    alloc: Global,
+    text: &mut String,
+    caller: Caller<'_>,
+    row: usize,
+    e: &Expr,
+) -> Result<(), Memory>
+    ensures { IfOk result (λ _. string_bytes text.new ≡ string_bytes text.old
+        ++ leaf_text caller.entry.named.prefix.now (leaf_at (caller_in caller.entry) row false (pair_ty (input_type (caller_in caller.entry)) int_ty) e.now)) }
+{
+    let input = caller.named.ty(caller.layout.input);
+    let ty = pair_of(alloc, input, &Ty::Int)?;
+    push_leaf_at(alloc, text, caller, (row, false), &ty, e)?;
+    Ok(())
+}
+
+/// The function of a leaf at what is accumulated and what an event carries.
+fn push_accumulated_leaf(
+    alloc: Global,
+    text: &mut String,
+    caller: Caller<'_>,
+    row: usize,
+    e: &Expr,
+) -> Result<(), Memory>
+    ensures { IfOk result (λ _. string_bytes text.new ≡ string_bytes text.old
+        ++ leaf_text caller.entry.named.prefix.now (leaf_at (caller_in caller.entry) row false (accumulated_type (kept_type (caller_in caller.entry)) (input_type (caller_in caller.entry))) e.now)) }
+{
+    let input = caller.named.ty(caller.layout.input);
+    let ty = accumulated_type(alloc, caller.named, caller.layout.kept, input)?;
+    push_leaf_at(alloc, text, caller, (row, false), &ty, e)?;
+    Ok(())
+}
+
+/// The function of a leaf at what the event beside carries.
+fn push_chosen_leaf(
+    alloc: Global,
+    text: &mut String,
+    caller: Caller<'_>,
+    row: usize,
+    e: &Expr,
+) -> Result<(), Memory>
+    ensures { IfOk result (λ _. string_bytes text.new ≡ string_bytes text.old
+        ++ leaf_text caller.entry.named.prefix.now (leaf_at (caller_in caller.entry) row false (chosen_type (input_type (caller_in caller.entry))) e.now)) }
+{
+    let input = caller.named.ty(caller.layout.input);
+    let ty = chosen_type(alloc, input)?;
+    push_leaf_at(alloc, text, caller, (row, false), &ty, e)?;
     Ok(())
 }
 

@@ -110,16 +110,19 @@ and_compiling above =
     and_command (and_command above T.Printing (codes "compile")) T.CheckedPrinting
     (codes "compile-checked")
 
--- the program's command line: `types NET`, `run NET`, `check SRC TGT CERT` or
--- `run-checked SRC TGT CERT`, or one of the subcommands that rewrite, or that print C
+-- a command line with the subcommands that run and check networks: `types NET`, `run NET`,
+-- `check SRC TGT CERT` and `run-checked SRC TGT CERT`
+abbrev pub and_running : App → App
+and_running above =
+    and_command
+    (and_command
+    (and_command (and_command above T.Network (codes "types")) T.Network (codes "run"))
+    T.Derivation (codes "check")) T.Derivation (codes "run-checked")
+
+-- the program's command line: the subcommands that run and check, those that rewrite, and those that
+-- print C
 abbrev pub command_line : App
-command_line =
-    and_compiling
-    (and_rewriting
-    (and_command
-    (and_command
-    (and_command (and_command program T.Network (codes "types")) T.Network (codes "run"))
-    T.Derivation (codes "check")) T.Derivation (codes "run-checked")))
+command_line = and_compiling (and_rewriting (and_running program))
 
 -- the names of the files of a derivation
 pub record DerivationNames : Type 0 where

@@ -4,7 +4,7 @@ ghost use Rattle.std.specs.Prelude.{◌≡◌, IfOk, codes, map, option_map, fal
 ghost use Rattle.clap.specs.Words.{app_of, first_of, found_of, kind_of, rows_of, rule_of, subcommand_rows_of, with_rule};
 ghost use Rattle.clap.specs.declared.builder.command.Command.TheViews.{out-Command};
 ghost use Rattle.command_line.specs.CommandRows.{RequestRows, OptimiseRows, DerivationRows, PlaceRows, StepsRows, CompileRows, HelpRows, VersionRows, NothingRows, NoOptimiseRows, NoStepsRows, NoCompileRows};
-ghost use Rattle.command_line.specs.CommandLine.{IsNothing, ReadsWords, RepliesTo, and_command, and_compiling, and_rewriting, apply_in, certify_in, command_line, command_taking, compile_checked_in, compile_in, derivation_in, derivation_view, file_name, flag, is_given, printing_in, printing_view, laws_in, leading_view, request_by, request_on, request_view, valued, wanted_by, wanted_in, with_printing, types, run, outline, optimise, improve, check, run_checked};
+ghost use Rattle.command_line.specs.CommandLine.{IsNothing, ReadsWords, RepliesTo, and_command, and_compiling, and_rewriting, and_running, apply_in, certify_in, command_line, command_taking, compile_checked_in, compile_in, derivation_in, derivation_view, file_name, flag, is_given, printing_in, printing_view, laws_in, leading_view, request_by, request_on, request_view, valued, wanted_by, wanted_in, with_printing, types, run, outline, optimise, improve, check, run_checked};
 
 use crate::help::{self, HelpText};
 use clap::error::{Error, ErrorKind};
@@ -314,18 +314,25 @@ fn make_command<'a>(alloc: Global) -> Result<Command<'a>, AllocError>
         .subcommand_required(true)
         .about(help::PROGRAM)
         .after_help(help::PROGRAM_MORE);
+    let command = and_running(alloc, command)?;
+    let command = and_rewriting(alloc, command)?;
+    and_compiling(alloc, command)
+}
+
+/// The command with the subcommands that run and check networks.
+fn and_running<'a>(alloc: Global, command: Command<'a>) -> Result<Command<'a>, AllocError>
+    ensures app { IfOk result (λ c. app_of c ≡ and_running (app_of command.entry)) }
+{
     let command = and_command(alloc, command, Takes::Network, "types", help::TYPES)?;
     let command = and_command(alloc, command, Takes::Network, "run", help::RUN)?;
     let command = and_command(alloc, command, Takes::Derivation, "check", help::CHECK)?;
-    let command = and_command(
+    and_command(
         alloc,
         command,
         Takes::Derivation,
         "run-checked",
         help::RUN_CHECKED,
-    )?;
-    let command = and_rewriting(alloc, command)?;
-    and_compiling(alloc, command)
+    )
 }
 
 /// The command with the subcommands that rewrite networks, or show how they may be rewritten.

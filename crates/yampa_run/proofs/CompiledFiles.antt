@@ -1,9 +1,6 @@
 -- What is printed as C is the text of code that outputs the stream meaning.
-use Rattle.std.proofs.Common.{◌≡◌, ℕ, List, [], ◌∷◌, Option, Some, None, sym, ap, ◌∙◌, subst, inl, inr}
+use Rattle.std.proofs.Common.{◌≡◌, ℕ, List, [], Some, sym, ap, ◌∙◌, subst, inl, inr}
 use Rattle.std.specs.Prelude.{string_bytes}
-use Rattle.clap.specs.Words.{IsAmong, Kinds, fault_of}
-use Rattle.clap.specs.declared.error.kind.ErrorKind.{ErrorKind}
-use Rattle.clap.specs.declared.error.kind.ErrorKind.TheVariants as kind
 use Rattle.sample_core.specs.TypeTree.{TypeTree}
 use Rattle.leaf_core.specs.declared.expr.Expr.{Expr}
 use Rattle.net_meaning.specs.Laws.{WithinLaw}
@@ -18,20 +15,10 @@ use Rattle.net_code.specs.Running.{run_code}
 use Rattle.net_code.specs.declared.statement.Function.{Function}
 use Rattle.code_fits.specs.CodeOfNet.{IsCodeOf}
 use Rattle.cert_check.specs.Laws.{SameStreamLaw}
-use Rattle.command_line.specs.CommandLine.{AsksHelp, RequestTree, types, run, outline, laws, optimise, improve, check as checks, run_checked, apply, certify, command_line, compile, compile_checked, request_in, unless_faulty}
+use Rattle.command_line.specs.CommandLine.{RequestTree, types, run, outline, laws, optimise, improve, check as checks, run_checked, apply, certify, compile, compile_checked}
 use Rattle.yampa_run.specs.CompiledFiles.{CompiledFilesLaw, CompilesAsAsked, OutputsStream}
 use Rattle.yampa_run.specs.Preparation.{AreStepsOf, IsDerivedIn, IsNetworkIn, IsNetworkOf, KnownFiles, Meets}
 use Rattle.yampa_run.specs.declared.preparation.Job.TheVariants as J
-
--- words that ask for something don't ask for help
-no_kind : (k : ErrorKind) (ks : Kinds) (o : Option RequestTree) (what : RequestTree) → unless_faulty ks o ≡ Some what → IsAmong k ks → ⊥
-no_kind k [] o what e h = absurd h
-no_kind k (j ∷ ks) o what e h = let q : None ≡ Some what = e in absurd (cc)
-
-no_help : (words : List (List ℕ)) (what : RequestTree) → request_in words ≡ Some what → AsksHelp words → ⊥
-unfolding request_in AsksHelp
-no_help words what e (inl h) = no_kind kind.DisplayHelp (fault_of command_line words) _ what e h
-no_help words what e (inr h) = no_kind kind.DisplayVersion (fault_of command_line words) _ what e h
 
 -- a file's network has its types
 typed_in : WithinLaw → (file : List ℕ) (t : TypedNetwork) → IsNetworkIn file t → HasItsTypes t
@@ -40,28 +27,28 @@ typed_in within file t i =
     let fits : NetworkFits t.net t.input t.output = limits.fits in
     within [] [] t.net t.input t.output fits.typed
 
-module _ (code : CodeLaw) (leaves : LeafCodeLaw) (t : TypedNetwork) (fs : List Function) (is : IsCodeOf t fs) (typed : HasItsTypes t) where
+module _ (code : CodeLaw) (leaves : LeafCodeLaw) (t : TypedNetwork) (fs : List Function) (made : IsCodeOf t fs) (typed : HasItsTypes t) where
   there : NetTyped [] [] t.net t.input t.output
   there = typed
 
   pub outputs : (s : Store) (xs : TimedList) → run_code value_in (code_in fs) s xs ≡ stream_of t.net xs
   outputs s xs =
-      ap (λ c. run_code value_in c s xs) is.2
-      ∙ code is.0 t.input t.output (subst (λ n. NetTyped [] [] n t.input t.output) (sym is.1) there) s xs
-      ∙ ap (λ n. stream_of n xs) is.1
+      ap (λ c. run_code value_in c s xs) made.2
+      ∙ code made.0 t.input t.output (subst (λ n. NetTyped [] [] n t.input t.output) (sym made.1) there) s xs
+      ∙ ap (λ n. stream_of n xs) made.1
 
   pub leaf_outputs : (tys : Expr → List TypeTree × TypeTree) (s : Store) (xs : TimedList) → run_code (leaf_in tys) (code_in fs) s xs ≡ stream_of t.net xs
   leaf_outputs tys s xs =
-      ap (λ c. run_code (leaf_in tys) c s xs) is.2
-      ∙ leaves tys is.0 t.input t.output (subst (λ n. NetTyped [] [] n t.input t.output) (sym is.1) there) s xs
-      ∙ ap (λ n. stream_of n xs) is.1
+      ap (λ c. run_code (leaf_in tys) c s xs) made.2
+      ∙ leaves tys made.0 t.input t.output (subst (λ n. NetTyped [] [] n t.input t.output) (sym made.1) there) s xs
+      ∙ ap (λ n. stream_of n xs) made.1
 
 pub compiled_files : CodeLaw → LeafCodeLaw → WithinLaw → SameStreamLaw → CompiledFilesLaw
-compiled_files code leaves within same told words what (J.Run t) asks h = tt
-compiled_files code leaves within same told words what (J.PrintAndRefuse text line) asks h = tt
-compiled_files code leaves within same told words what (J.Print text) asks (inl h) = absurd (no_help words what asks h)
+compiled_files code leaves within same told words what (J.Run t) asks h = inr tt
+compiled_files code leaves within same told words what (J.PrintAndRefuse text line) asks h = inr tt
+compiled_files code leaves within same told words what (J.Print text) asks (inl h) = inl h
 compiled_files code leaves within same told words what (J.Print text) asks (inr h) =
-    go what (subst (λ w. Meets told w (J.Print text)) (same_request (sym h.asks ∙ asks)) h.meets)
+    inr (go what (subst (λ w. Meets told w (J.Print text)) (same_request (sym h.asks ∙ asks)) h.meets))
   where
     same_request : {A : Type 0} {x y : A} → Some x ≡ Some y → x ≡ y
     same_request e = cc
@@ -95,7 +82,7 @@ compiled_files code leaves within same told words what (J.Print text) asks (inr 
         let target_is : IsNetworkIn target_file m.net = subst (λ known. IsNetworkOf known m.net) f d.files.is_target in
         let typed : HasItsTypes m.net = typed_in within target_file m.net target_is in
         let stream : (xs : TimedList) → TypedSamples d.source.input xs → stream_of d.source.net xs ≡ stream_of m.net.net xs =
-            λ xs y. same d.source m.net d.steps xs (typed_in within source_file d.source source_is) d.derives y in
+        λ xs y. same d.source m.net d.steps xs (typed_in within source_file d.source source_is) d.derives y in
         record {
           source = d.source;
           target = m.net;

@@ -12,6 +12,6 @@ mod AppliedFiles
 mod Numbers
 mod Places
 mod CertifiedFiles
-mod Compiled
+mod CText
 mod CompiledFiles
 mod ImprovedFiles

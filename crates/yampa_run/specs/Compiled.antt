@@ -1,5 +1,5 @@
 -- What is printed of a network as C.
-use Rattle.std.specs.Prelude.{◌≡◌, ℕ, Bool, true, false, ◌&&◌, ◌||◌, List, Option, Some, None, if◌then◌else◌}
+use Rattle.std.specs.Prelude.{◌≡◌, ℕ, Bool, true, false, ◌||◌, List, Option, Some, None, if◌then◌else◌}
 use Rattle.sample_core.specs.TypeTree.{TypeTree, unit_ty, bool_ty, int_ty, pair_ty, event_ty, list_ty}
 use Rattle.net_meaning.specs.TypedNetwork.{TypedNetwork}
 use Rattle.net_text.specs.Printing.{file_spelling}
@@ -57,11 +57,11 @@ has_lists (pair_ty A B) = has_lists A || has_lists B
 has_lists (event_ty A) = has_lists A
 has_lists (list_ty A) = true
 
--- there is no word
-abbrev pub is_untold : Option (List ℕ) → Bool
-is_untold None = true
-is_untold (Some word) = false
+-- where no word says how long they are
+abbrev pub unless_told : Option (List ℕ) → Bool → Bool
+unless_told None asks = asks
+unless_told (Some word) asks = false
 
 -- `--most` may help: the input has lists, and the words don't say how long they are
 abbrev pub asks_most : TypedNetwork → PrintingWords → Bool
-asks_most t words = is_untold words.most && has_lists t.input
+asks_most t words = unless_told words.most (has_lists t.input)

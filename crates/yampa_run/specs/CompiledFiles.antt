@@ -1,7 +1,7 @@
 -- What the commands `compile` and `compile-checked` print of files: the text of code that outputs the
 -- stream meaning of the file's network, or of the source. What a C compiler makes of the text isn't
 -- said.
-use Rattle.std.specs.Prelude.{◌≡◌, ℕ, List, Some, string_bytes, ⊤}
+use Rattle.std.specs.Prelude.{◌≡◌, ◌⊎◌, ℕ, List, Some, string_bytes, ⊤}
 use Rattle.sample_core.specs.TypeTree.{TypeTree}
 use Rattle.leaf_core.specs.declared.expr.Expr.{Expr}
 use Rattle.net_tree.specs.LawStep.{Step}
@@ -15,7 +15,7 @@ use Rattle.net_code.specs.Running.{run_code}
 use Rattle.net_code.specs.declared.statement.Function.{Function}
 use Rattle.net_text.specs.CertificateLaws.{IsCertificate}
 use Rattle.cert_check.specs.Derives.{Derives}
-use Rattle.command_line.specs.CommandLine.{PrintingWords, RequestTree, compile, compile_checked, request_in}
+use Rattle.command_line.specs.CommandLine.{AsksHelp, PrintingWords, RequestTree, compile, compile_checked, request_in}
 use Rattle.yampa_run.specs.Compiled.{PrintsC}
 use Rattle.yampa_run.specs.Preparation.{IsNetworkIn, IsRequested, KnownFiles}
 use Rattle.yampa_run.specs.declared.preparation.Job.{Job}
@@ -68,7 +68,8 @@ PrintsAsAsked told what (J.Print text) = CompilesAsAsked told what (string_bytes
 PrintsAsAsked told what (J.Run t) = ⊤
 PrintsAsAsked told what (J.PrintAndRefuse text line) = ⊤
 
--- where the words ask for C, and a text is to be printed, that text is the C
+-- where the words ask for C and not for help, and a text is to be printed, that text is the C
 abbrev pub CompiledFilesLaw : Type 0
 CompiledFilesLaw = (told : KnownFiles) (words : List (List ℕ)) (what : RequestTree) (job : Job)
-    → request_in words ≡ Some what → IsRequested told words job → PrintsAsAsked told what job
+    → request_in words ≡ Some what → IsRequested told words job
+    → AsksHelp words ⊎ PrintsAsAsked told what job

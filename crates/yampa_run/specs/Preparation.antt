@@ -562,7 +562,8 @@ AreTold told (run_checked names) = IsTold (told names.source) × IsTold (told na
 AreTold told (apply names) = IsTold (told names.source) × IsTold (told names.certificate)
 AreTold told (certify from to) = IsTold (told from) × IsTold (told to)
 AreTold told (compile words name) = IsTold (told name)
-AreTold told (compile_checked words names) = AreTold told (run_checked names)
+AreTold told (compile_checked words names) = IsTold (told names.source)
+    × IsTold (told names.target) × IsTold (told names.certificate)
 
 -- the refusal is of a network that is to be printed as C, and is too large
 abbrev pub IsTooLarge : RequestTree → Refusal → Type 0

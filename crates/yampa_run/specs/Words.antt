@@ -1,8 +1,7 @@
 -- What the words of options tell: a number of steps, a position, what names begin with, and how many
 -- elements lists have.
-use Rattle.std.specs.Prelude.{◌≡◌, ◌≤◌, ◌^◌, ◌-◌, ◌&&◌, ◌||◌, ℕ, Bool, true, false, not, List, [], ◌++◌, length, min, nat_eq, nat_le, nat_lt, Option, Some, None, MatchOption, IsSome, ◌∷◌, codes, if◌then◌else◌}
+use Rattle.std.specs.Prelude.{◌≡◌, ◌≤◌, ◌^◌, ◌-◌, ◌&&◌, ◌||◌, ℕ, Bool, true, false, not, List, [], ◌++◌, length, min, nat_eq, nat_le, nat_lt, Option, Some, None, option_and_then, MatchOption, IsSome, ◌∷◌, codes, if◌then◌else◌}
 use Rattle.std.specs.Char.{is_ascii_alphanumeric, is_ascii_digit}
-use Rattle.std.specs.Option.{option_filter}
 use Rattle.std.specs.Str.{all_ascii_digits}
 use Rattle.std.specs.Str.Parse.{digits_value}
 use Rattle.net_tree.specs.LawStep.{Step}
@@ -35,11 +34,15 @@ abbrev pub all_name_bytes : List ℕ → Bool
 all_name_bytes [] = true
 all_name_bytes (b ∷ bs) = is_name_byte b && all_name_bytes bs
 
+-- there is a first byte, and it is no digit
+abbrev pub begins_name : List ℕ → Bool
+begins_name [] = false
+begins_name (b ∷ bs) = not (is_ascii_digit b)
+
 -- letters, digits and `_`, at least one and at most 32, of which the first is no digit
 abbrev pub is_name : List ℕ → Bool
-is_name [] = false
-is_name (b ∷ bs) = not (is_ascii_digit b)
-    && (nat_le (length (b ∷ bs)) MOST_NAME && all_name_bytes (b ∷ bs))
+is_name word =
+    (nat_le (length word) MOST_NAME && begins_name word) && all_name_bytes word
 
 -- what all names begin with, by a word; `yampa`, where there is no word
 abbrev pub TellsName : Option (List ℕ) → List ℕ → Type 0
@@ -52,7 +55,8 @@ is_most n = nat_le 1 n && nat_le n MOST_ELEMENTS
 
 -- the number of elements that a word is
 abbrev pub most_in : List ℕ → Option ℕ
-most_in word = option_filter is_most (number_in word)
+most_in word =
+    option_and_then (λ n. if is_most n then Some n else None) (number_in word)
 
 -- how many elements a list of the input may have, by a word; as many as a line can hold, where there
 -- is no word

@@ -195,7 +195,10 @@ fn too_large(alloc: Global, what: &str, path: Vec<u32>, asks: bool) -> Result<Re
 fn asks_most(net: &TypedNet, printing: Printing<'_>) -> bool
     ensures { result ≡ asks_most net.now (printing_view printing.entry) }
 {
-    printing.most.is_none() && has_lists(net.input())
+    match printing.most {
+        Some(_) => false,
+        None => has_lists(net.input()),
+    }
 }
 
 /// Whether a type has a list in it.

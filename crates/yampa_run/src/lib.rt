@@ -34,8 +34,8 @@ pub use fault::{RunFault, RunReport};
 pub use files::{FileFault, Files};
 pub use fill::table_refusal;
 pub use laws::{
-    applied_file_laws, certified_file_laws, compiled_file_laws, headline_laws, improved_file_laws, optimised_file_laws,
-    refusal_laws, whole_run_laws,
+    applied_file_laws, certified_file_laws, compiled_file_laws, headline_laws, improved_file_laws,
+    optimised_file_laws, refusal_laws, whole_run_laws,
 };
 pub use network_run::{run_network, run_status};
 pub use preparation::{Job, Refusal, prepare};

@@ -7,7 +7,7 @@ ghost use Rattle.net_tree.specs.Position.{position_spelling};
 ghost use Rattle.net_text.specs.CertificatePrinting.{ChildrenFit};
 ghost use Rattle.net_text.specs.declared.fault.NetTextFault.TheVariants as Fault;
 ghost use Rattle.yampa_run.specs.Preparation.{IsNoMost, IsNoName, IsNoNumber, IsNowhere};
-ghost use Rattle.yampa_run.specs.Words.{IsPlaceIn, IsPlaceOfStep, TellsFirst, TellsMost, TellsName, TellsPlace, all_name_bytes, is_digits_word, is_most, is_name, is_name_byte, most_in, number_in, placed_file};
+ghost use Rattle.yampa_run.specs.Words.{IsPlaceIn, IsPlaceOfStep, TellsFirst, TellsMost, TellsName, TellsPlace, all_name_bytes, begins_name, is_digits_word, is_most, is_name, is_name_byte, most_in, number_in, placed_file};
 
 use crate::preparation::Refusal;
 use crate::printed::push_words;
@@ -69,11 +69,16 @@ pub(crate) fn name_of<'a>(alloc: Global, word: Option<&'a str>) -> Result<&'a st
 fn is_name(word: &str) -> bool
     ensures { result ≡ is_name word.now }
 {
-    match word.as_bytes().first() {
-        Some(first) => {
-            !first.is_ascii_digit() && word.len() <= MOST_NAME && all_name_bytes(word.as_bytes())
-        }
-        None => false,
+    word.len() <= MOST_NAME && begins_name(word.as_bytes()) && all_name_bytes(word.as_bytes())
+}
+
+/// Whether there is a first byte, and it is no digit.
+fn begins_name(bytes: &[u8]) -> bool
+    ensures { result ≡ begins_name bytes.now }
+{
+    match bytes {
+        [first, ..] => !first.is_ascii_digit(),
+        [] => false,
     }
 }
 

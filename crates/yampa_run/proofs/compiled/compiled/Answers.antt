@@ -1,7 +1,7 @@
 use Rattle.std.specs.Prelude.{string_bytes}
 use Rattle.command_line.specs.CommandLine.{printing_view}
 use Rattle.yampa_run.specs.Preparation.{without_network}
-use Rattle.yampa_run.proofs.Compiled.{not_compiled, tells_c, tells_form}
+use Rattle.yampa_run.proofs.CText.{not_compiled, tells_c, tells_form}
 use Rattle.yampa_run.proofs.compiled.compiled.Goals as goal
 
 pub returns-in-Ok-load-clause-text : goal.returns-in-Ok-load-clause-text
@@ -14,5 +14,5 @@ returns-in-Ok-load-clause-refused g c =
     not_compiled (g.F.Files.told c.args.files.now c.args.name.now) (printing_view c.args.printing) c.in-Ok-load.net c.in-Ok.form c.c_text-text.result
     c.in-Ok-load.ensures.network c.in-Ok.ensures.form c.c_text-text.ensures.refused
 
-pub returns-clause-refused : goal.returns-clause-refused
-returns-clause-refused g c = without_network (tells_form (printing_view c.args.printing) c.in-Ok.form c.in-Ok.ensures.form) c.in-Err-load.ensures.refused
+pub returns-in-Err-load-clause-refused : goal.returns-in-Err-load-clause-refused
+returns-in-Err-load-clause-refused g c = without_network (tells_form (printing_view c.args.printing) c.in-Ok.form c.in-Ok.ensures.form) c.in-Err-load.ensures.refused

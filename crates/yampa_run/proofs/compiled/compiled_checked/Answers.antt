@@ -1,7 +1,7 @@
 use Rattle.std.specs.Prelude.{string_bytes}
 use Rattle.command_line.specs.CommandLine.{derivation_view, printing_view}
 use Rattle.yampa_run.specs.Preparation.{without_derivation}
-use Rattle.yampa_run.proofs.Compiled.{not_checked_c, tells_checked_c, tells_form}
+use Rattle.yampa_run.proofs.CText.{not_checked_c, tells_checked_c, tells_form}
 use Rattle.yampa_run.proofs.compiled.compiled_checked.Goals as goal
 
 pub returns-in-Ok-derived-clause-text : goal.returns-in-Ok-derived-clause-text
@@ -15,6 +15,6 @@ returns-in-Ok-derived-clause-refused g c =
     not_checked_c (g.F.Files.told c.args.files.now) (derivation_view c.args.names) (printing_view c.args.printing) c.in-Ok-derived.target c.in-Ok.form
     c.c_text-text.result (record { count = _; derived = c.in-Ok-derived.ensures.derived }) c.in-Ok.ensures.form c.c_text-text.ensures.refused
 
-pub returns-clause-refused : goal.returns-clause-refused
-returns-clause-refused g c =
+pub returns-in-Err-derived-clause-refused : goal.returns-in-Err-derived-clause-refused
+returns-in-Err-derived-clause-refused g c =
     without_derivation (tells_form (printing_view c.args.printing) c.in-Ok.form c.in-Ok.ensures.form) c.in-Err-derived.ensures.refused

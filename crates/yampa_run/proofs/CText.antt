@@ -1,10 +1,11 @@
 -- What is printed of a network as C, and why it isn't.
-use Rattle.std.proofs.Common.{ℕ, List, Option, Result, Ok, Err, IfOk}
+use Rattle.std.proofs.Common.{◌≡◌, ℕ, Bool, List, Option, Result, Ok, Err, IfOk, codes, subst}
 use Rattle.std.specs.Result.{IfErr}
 use Rattle.net_meaning.specs.TypedNetwork.{TypedNetwork}
 use Rattle.command_line.specs.CommandLine.{DerivationNames, PrintingWords}
-use Rattle.yampa_run.specs.Compiled.{IsForm, PrintsC, PrintsNamed}
-use Rattle.yampa_run.specs.Preparation.{HasNoC, IsChecked, IsNetworkOf, IsNotCheckedC, IsNotCompiled, KnownFiles, TellsC, TellsCheckedC, TellsForm, checked_without_c, without_c}
+use Rattle.yampa_run.specs.Compiled.{IsForm, PrintsC, PrintsNamed, asks_most}
+use Rattle.yampa_run.specs.Preparation.{HasNoC, IsChecked, IsNetworkOf, IsNotCheckedC, IsNotCompiled, KnownFiles, RefusesWith, TellsC, TellsCheckedC, TellsForm, checked_without_c, state_too_large, without_c}
+use Rattle.yampa_run.specs.RefusalLines.{too_large_words}
 use Rattle.yampa_run.specs.declared.compiled.Form.{Form}
 use Rattle.yampa_run.specs.declared.preparation.Refusal.{Refusal}
 
@@ -40,3 +41,10 @@ pub not_checked_c : {T : Type 0} (told : KnownFiles) (names : DerivationNames) (
     → IsChecked told names net → IsForm words form → IfErr r (HasNoC net words) → IfErr r (IsNotCheckedC told names words)
 not_checked_c told names words net form (Ok text) i f h = tt
 not_checked_c told names words net form (Err e) i f h = checked_without_c net (tells_form words form f) i h
+
+-- what is too large at a position has no C
+pub too_large_is : {E : Type 0} (t : TypedNetwork) (words : PrintingWords) (P : List ℕ) (asks : Bool) (r : Result Refusal E) → asks ≡ asks_most t words
+    → IfOk r (RefusesWith 1 (too_large_words (codes "state") P asks)) → IfOk r (HasNoC t words)
+too_large_is t words P asks (Ok refusal) e h =
+    state_too_large P (subst (λ a. RefusesWith 1 (too_large_words (codes "state") P a) refusal) e h)
+too_large_is t words P asks (Err f) e h = tt
