@@ -67,7 +67,8 @@ def tool(name: str, *words: object, stream: str | bytes = b"", folder: Path | No
     """A tool's status, and what it prints."""
     data = stream.encode() if isinstance(stream, str) else stream
     command, env = [TOP / "tools/tool", name, *map(str, words)], {**os.environ, **settings}
-    ran = subprocess.run(command, input=data, capture_output=True, cwd=folder, env=env, timeout=SECONDS, check=False)
+    patience = SECONDS * (3 if os.environ.get("DEAR") else 1)
+    ran = subprocess.run(command, input=data, capture_output=True, cwd=folder, env=env, timeout=patience, check=False)
     return ran.returncode, ran.stdout.decode(errors="replace"), ran.stderr.decode(errors="replace")
 
 
