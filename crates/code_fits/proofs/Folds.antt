@@ -18,7 +18,7 @@ use Rattle.code_fits.specs.declared.types.TypeRow.{TypeRow}
 use Rattle.code_fits.specs.declared.layout.Layout as N
 use Rattle.code_fits.specs.Layouts.{Layout}
 use Rattle.code_fits.specs.Rules.{Goes, AllGo, none_go, one_goes, FunctionFits, AllBelow, CodeFits}
-use Rattle.code_fits.specs.Tables.{beside, bound_of, elements_in, row_tree, tree_at}
+use Rattle.code_fits.specs.Tables.{beside, bound_of, elements_in, layout_of, row_tree, tree_at, FitsOver, TableHolds}
 
 some-is : {X : Type 0} (x y : X) → Some x ≡ Some y → x ≡ y
 some-is x y e = cc
@@ -124,3 +124,13 @@ code-more bound lay fs Ls i f L ef el h b more r =
     (h, subst (λ n. AllBelow n (lay L).olds) (sym (front-length lay Ls i L el)) b, subst (λ Xs. CodeFits bound Xs (drop (suc i) fs) (map lay (drop (suc i) Ls))) q r) in
     more (subst (λ gs. CodeFits bound (map lay (take i Ls)) gs (map lay (drop i Ls))) (sym (drop-some fs i f ef))
     (subst (λ Ms. CodeFits bound (map lay (take i Ls)) (f ∷ drop (suc i) fs) (map lay Ms)) (sym (drop-some Ls i L el)) here))
+
+pub code-next : (ts : Types) (ns : List ℕ) (fs : List Function) (Ls : List N.Layout) (i : ℕ) (f : Function) (L : N.Layout) (Es : List N.Layout) → TableHolds ts
+    → slice_get fs i ≡ Some f → slice_get Ls i ≡ Some L → FitsOver ts ns Es L f → AllBelow i L.olds.items
+    → (CodeFits (bound_of ts ns) (map (layout_of ts) (take i Ls)) (drop i fs) (map (layout_of ts) (drop i Ls)) → CodeFits (bound_of ts ns) [] fs (map (layout_of ts) Ls))
+    → Es ≡ take i Ls
+    → CodeFits (bound_of ts ns) (map (layout_of ts) (take (i + 1) Ls)) (drop (i + 1) fs) (map (layout_of ts) (drop (i + 1) Ls)) → CodeFits (bound_of ts ns) [] fs (map (layout_of ts) Ls)
+code-next ts ns fs Ls i f L Es t ef el h b more e r =
+    let one : i + 1 ≡ suc i = omega arith in
+    code-more (bound_of ts ns) (layout_of ts) fs Ls i f L ef el (subst (λ zs. FunctionFits (bound_of ts ns) (map (layout_of ts) zs) (layout_of ts L) f) e (h t)) b more
+    (subst (λ k. CodeFits (bound_of ts ns) (map (layout_of ts) (take k Ls)) (drop k fs) (map (layout_of ts) (drop k Ls))) one r)

@@ -4,4 +4,4 @@ use Rattle.code_fits.proofs.rules.d_switch.Goals as goal
 pub returns : goal.returns
 returns c =
     d_switch-ok c.args.around.types.now c.args.around.bounds.now c.args.around.earlier.now c.args.around.layout.now
-    c.args.f c.args.t _ _ _ c.in_ok-watched.ensures c.in_ok-has.ensures
+    c.args.f c.args.t _ _ _ c.in_ok-answer.ensures c.in_ok-has.ensures
