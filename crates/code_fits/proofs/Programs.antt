@@ -1,5 +1,5 @@
 -- A program outputs its network's stream, and all that stands fits.
-use Rattle.std.proofs.Common.{◌≡◌, false, List, [], map, Some, sym, ap, ◌∙◌, subst}
+use Rattle.std.proofs.Common.{◌≡◌, ◌-◌, ℕ, false, List, [], ◌∷◌, length, map, Some, refl, sym, ap, ◌∙◌, subst}
 use Rattle.std.specs.List.{slice_get}
 use Rattle.sample_core.specs.TypeTree.{TypeTree}
 use Rattle.leaf_core.specs.Expression.{Expression}
@@ -7,15 +7,25 @@ use Rattle.net_tree.specs.Network.{Network}
 use Rattle.net_tree.specs.NetworkView.{tree}
 use Rattle.net_meaning.specs.SignalFunction.{TimedList}
 use Rattle.net_meaning.specs.TypedNetwork.{NetTyped, stream_of}
+use Rattle.net_code.specs.declared.statement.Function.{Function}
 use Rattle.net_code.specs.Running.{Code, latest, run_code}
 use Rattle.net_code.specs.CodeView.{code_in}
 use Rattle.net_code.specs.CodeLaw.{leaf_in}
 use Rattle.net_code.proofs.Streams.{leaf_code_law}
+use Rattle.code_fits.specs.declared.layout.Layout as N
 use Rattle.code_fits.specs.FitLaw.{SamplesFit}
 use Rattle.code_fits.specs.Tables.{layout_of, bound_of, trees_at}
 use Rattle.code_fits.specs.Programs.{IsWhole, ProgramOutputs, ProgramStands}
 use Rattle.code_fits.proofs.RuleTests.{callee-goes}
 use Rattle.code_fits.proofs.Links.{fit_law}
+
+code-length : (fs : List Function) → length (code_in fs) ≡ length fs
+code-length [] = refl
+code-length (f ∷ fs) = ap ℕ.suc (code-length fs)
+
+-- the last layout is that of the last function
+pub last-there : (fs : List Function) (Ls : List N.Layout) (k : ℕ) (L : N.Layout) → slice_get Ls k ≡ Some L → k ≡ length fs - 1 → slice_get Ls (latest (code_in fs)) ≡ Some L
+last-there fs Ls k L e q = subst (λ j. slice_get Ls j ≡ Some L) (q ∙ ap (λ n. n - 1) (sym (code-length fs))) e
 
 pub outputs : ProgramOutputs
 outputs t p typed h types s xs =

@@ -96,6 +96,16 @@ pub(crate) fn number_at(all: &[usize], k: usize) -> Result<usize, Unlaid>
     }
 }
 
+/// The type of a number.
+pub(crate) fn type_at(types: &Types, k: usize) -> Result<&Ty, Unlaid>
+    ensures { IfOk result (λ t. type_of t.now ≡ tree_at types.now k) }
+{
+    match types.trees.get(k) {
+        Some(ty) => Ok(ty),
+        None => Err(Unlaid::Untyped),
+    }
+}
+
 /// The layout of function j.
 pub(crate) fn layout_at(layouts: &[Layout], j: usize) -> Result<&Layout, Unlaid>
     ensures { IfOk result (λ l. slice_get layouts.now j ≡ Some l.now) }

@@ -3,21 +3,25 @@
 ghost use Rattle.std.specs.Prelude.{◌≡◌, IfOk, slice_get, Some};
 ghost use Rattle.sample_core.specs.TypeView.{type_of};
 ghost use Rattle.code_fits.specs.Rules.{AllBelow};
+ghost use Rattle.code_fits.specs.Programs.{HasWhole};
 ghost use Rattle.code_fits.specs.Tables.{LayoutsFit, TableHolds, row_tree, tree_at};
 
-use crate::around::{Around, layout_at};
+use crate::around::{Around, equal, layout_at, type_at};
 use crate::layout::Layout;
 use crate::rules::function_fits;
 use crate::types::{TypeRow, Types};
 use crate::walk::Unlaid;
 use net_code::Function;
+use net_syntax::TypedNet;
 use sample_core::{Ty, TyChild, same_type};
 use std::alloc::Global;
 
-/// Tests that each row of the table is the tree at its number, and that functions fit their layouts
-/// by the rules of `specs/Rules`: `Untyped` where they don't.
-pub(crate) fn test_fit(
+/// Tests that each row of the table is the tree at its number, that functions fit their layouts by the
+/// rules of `specs/Rules`, and that the last goes from the network's input to its output with nothing
+/// in scope: `Untyped` where they don't.
+pub(crate) fn test_program(
     alloc: Global,
+    net: &TypedNet,
     functions: &[Function],
     layouts: &[Layout],
     types: &Types,
@@ -26,10 +30,42 @@ pub(crate) fn test_fit(
     ensures table { IfOk result (λ _. TableHolds types.now) }
     ensures layouts { IfOk result
         (λ _. LayoutsFit types.now bounds.now functions.now layouts.now) }
+    ensures whole { IfOk result (λ _. HasWhole net.now types.now functions.now layouts.now) }
 {
     test_table(types)?;
     test_layouts(alloc, functions, layouts, types, bounds)?;
+    test_whole(net, functions, layouts, types)?;
     Ok(())
+}
+
+/// The last function has nothing in scope, and goes from the network's input to its output.
+fn test_whole(
+    net: &TypedNet,
+    functions: &[Function],
+    layouts: &[Layout],
+    types: &Types,
+) -> Result<(), Unlaid>
+    ensures { IfOk result (λ _. HasWhole net.now types.now functions.now layouts.now) }
+{
+    let last = functions.len().saturating_sub(1);
+    let layout = layout_at(layouts, last)?;
+    equal(layout.params.as_slice(), &[])?;
+    equal(layout.olds.as_slice(), &[])?;
+    test_type(types, layout.input, net.input())?;
+    test_type(types, layout.output, net.output())?;
+    Ok(())
+}
+
+/// The type of a number is this one.
+fn test_type(types: &Types, k: usize, ty: &Ty) -> Result<(), Unlaid>
+    ensures { IfOk result (λ _. tree_at types.now k ≡ type_of ty.now) }
+{
+    let tree = type_at(types, k)?;
+    if same_type(tree, ty) {
+        Ok(())
+    } else {
+        Err(Unlaid::Untyped)
+    }
 }
 
 /// Each row is the tree at its number.

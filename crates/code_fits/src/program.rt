@@ -1,22 +1,19 @@
 // A network's code with all that printing it needs.
 
-ghost use Rattle.std.specs.Prelude.{◌≡◌, IfOk, Some, map, slice_get};
-ghost use Rattle.sample_core.specs.TypeView.{type_of};
-ghost use Rattle.net_code.specs.CodeView.{code_in};
-ghost use Rattle.net_code.specs.Running.{latest};
+ghost use Rattle.std.specs.Prelude.{IfOk};
 ghost use Rattle.code_fits.specs.CodeOfNet.{IsCodeOf};
 ghost use Rattle.code_fits.specs.Programs.{HasWhole, IsProgramOf};
-ghost use Rattle.code_fits.specs.Tables.{LayoutsFit, TableHolds, tree_at};
+ghost use Rattle.code_fits.specs.Tables.{LayoutsFit, TableHolds};
 
 use crate::bounds::bounds_of;
 use crate::bytes::{kept_bytes, value_bytes};
-use crate::fitting::test_fit;
+use crate::fitting::test_program;
 use crate::layout::{Layout, Program};
 use crate::types::Types;
 use crate::walk::{Layouts, Unlaid, lay_out};
 use net_code::{Function, compile};
 use net_syntax::TypedNet;
-use sample_core::{Memory, OutOfMemory, Ty, same_type};
+use sample_core::{Memory, OutOfMemory};
 use std::alloc::Global;
 
 /// How many bytes the state of a network has at most.
@@ -80,12 +77,12 @@ fn tested(
     let Layouts { types, all } = layouts;
     test(
         alloc,
+        net,
         functions.as_slice(),
         all.as_slice(),
         &types,
         bounds.as_slice(),
     )?;
-    test_whole(net, functions.as_slice(), all.as_slice(), &types)?;
     let state_bytes = state_bytes(
         alloc,
         functions.as_slice(),
@@ -102,9 +99,10 @@ fn tested(
     })
 }
 
-/// Tests that functions fit their layouts.
+/// Tests that functions fit their layouts, and that the last is the network.
 fn test(
     alloc: Global,
+    net: &TypedNet,
     functions: &[Function],
     layouts: &[Layout],
     types: &Types,
@@ -113,48 +111,12 @@ fn test(
     ensures table { IfOk result (λ _. TableHolds types.now) }
     ensures layouts { IfOk result
         (λ _. LayoutsFit types.now bounds.now functions.now layouts.now) }
+    ensures whole { IfOk result (λ _. HasWhole net.now types.now functions.now layouts.now) }
 {
-    match test_fit(alloc, functions, layouts, types, bounds) {
+    match test_program(alloc, net, functions, layouts, types, bounds) {
         Ok(()) => Ok(()),
         Err(Unlaid::Untyped) => Err(Refused::Untyped),
         Err(Unlaid::Memory) => Err(Refused::Memory),
-    }
-}
-
-/// Tests that the last function has nothing in scope, and goes from the network's input to its
-/// output.
-fn test_whole(
-    net: &TypedNet,
-    functions: &[Function],
-    layouts: &[Layout],
-    types: &Types,
-) -> Result<(), Refused>
-    ensures { IfOk result (λ _. HasWhole net.now types.now functions.now layouts.now) }
-{
-    let Some(layout) = layouts.get(functions.len().saturating_sub(1)) else {
-        return Err(Refused::Untyped);
-    };
-    if !layout.params.is_empty() || !layout.olds.is_empty() {
-        return Err(Refused::Untyped);
-    }
-    test_type(types, layout.input, net.input())?;
-    test_type(types, layout.output, net.output())?;
-    Ok(())
-}
-
-/// Tests that the type of a number is this one.
-fn test_type(types: &Types, k: usize, ty: &Ty) -> Result<(), Refused>
-    ensures { IfOk result (λ _. tree_at types.now k ≡ type_of ty.now) }
-{
-    match types.trees.get(k) {
-        Some(tree) => {
-            if same_type(tree, ty) {
-                Ok(())
-            } else {
-                Err(Refused::Untyped)
-            }
-        }
-        None => Err(Refused::Untyped),
     }
 }
 
