@@ -4,3 +4,6 @@ pub mod Shapes
 pub mod Values
 pub mod Functions
 pub mod Links
+pub mod RuleTests
+pub mod Folds
+pub mod Programs

@@ -4,3 +4,6 @@ pub mod Rules
 pub mod Standing
 pub mod FitLaw
 pub mod CodeOfNet
+pub mod Tables
+pub mod Parts
+pub mod Programs

@@ -10,12 +10,15 @@
 //! `src/walk.rt` finds the layouts, `src/program.rt` what is too large.
 #![tactic(auto)]
 
+mod around;
 mod bounds;
 mod bytes;
+mod fitting;
 mod laws;
 mod layout;
 mod leaves;
 mod program;
+mod rules;
 mod types;
 mod walk;
 

@@ -1,11 +1,15 @@
 // A network's code with all that printing it needs.
 
-ghost use Rattle.std.specs.Prelude.{◌≡◌, IfOk};
+ghost use Rattle.std.specs.Prelude.{IfOk};
 ghost use Rattle.code_fits.specs.CodeOfNet.{IsCodeOf};
+ghost use Rattle.code_fits.specs.Programs.{HasWhole, IsProgramOf};
+ghost use Rattle.code_fits.specs.Tables.{LayoutsFit, TableHolds};
 
 use crate::bounds::bounds_of;
 use crate::bytes::{kept_bytes, value_bytes};
+use crate::fitting::test_program;
 use crate::layout::{Layout, Program};
+use crate::types::Types;
 use crate::walk::{Layouts, Unlaid, lay_out};
 use net_code::{Function, compile};
 use net_syntax::TypedNet;
@@ -35,7 +39,7 @@ impl<E: OutOfMemory> From<E> for Refused {
 /// The program of a network, whose input's lists have at most `most` elements; or the first function
 /// that keeps too much.
 pub fn program_of(alloc: Global, net: &TypedNet, most: usize) -> Result<Program, Refused>
-    ensures { IfOk result (λ p. IsCodeOf net.now p.functions.items) }
+    ensures { IfOk result (λ p. IsProgramOf net.now p) }
 {
     let layouts = match lay_out(alloc, net) {
         Ok(layouts) => layouts,
@@ -43,7 +47,7 @@ pub fn program_of(alloc: Global, net: &TypedNet, most: usize) -> Result<Program,
         Err(Unlaid::Memory) => return Err(Refused::Memory),
     };
     match compile(alloc, net.net()) {
-        Ok(functions) => sized(alloc, functions, layouts, most),
+        Ok(functions) => tested(alloc, net, functions, layouts, most),
         Err(Memory) => {
             drop(layouts);
             Err(Refused::Memory)
@@ -51,52 +55,68 @@ pub fn program_of(alloc: Global, net: &TypedNet, most: usize) -> Result<Program,
     }
 }
 
-/// The program of these functions.
-fn sized(
+/// The program of these functions, which are the network's code, where they fit their layouts.
+fn tested(
     alloc: Global,
+    net: &TypedNet,
     functions: Vec<Function>,
     layouts: Layouts,
     most: usize,
 ) -> Result<Program, Refused>
-    ensures { IfOk result (λ p. p.functions ≡ functions) }
+    requires { IsCodeOf net.now functions.items }
+    ensures { IfOk result (λ p. IsProgramOf net.now p) }
 {
     let mut layouts = layouts;
-    match sizes(alloc, functions.as_slice(), most, &mut layouts) {
-        Ok((bounds, state_bytes)) => Ok(Program {
-            functions,
-            layouts: layouts.all,
-            types: layouts.types,
-            bounds,
-            state_bytes,
-        }),
-        Err(refused) => {
-            drop(functions);
-            drop(layouts);
-            Err(refused)
-        }
-    }
-}
-
-/// The bounds of lists, and the bytes of the state.
-fn sizes(
-    alloc: Global,
-    functions: &[Function],
-    most: usize,
-    layouts: &mut Layouts,
-) -> Result<(Vec<usize>, u64), Refused> {
     let bounds = bounds_of(
         alloc,
-        functions,
+        functions.as_slice(),
         layouts.all.as_slice(),
         most,
         &mut layouts.types,
     )?;
-    match state_bytes(alloc, functions, bounds.as_slice(), layouts) {
-        Ok(bytes) => Ok((bounds, bytes)),
-        Err(refused) => {
-            drop(bounds);
-            Err(refused)
-        }
+    let Layouts { types, all } = layouts;
+    test(
+        alloc,
+        net,
+        functions.as_slice(),
+        all.as_slice(),
+        &types,
+        bounds.as_slice(),
+    )?;
+    let state_bytes = state_bytes(
+        alloc,
+        functions.as_slice(),
+        all.as_slice(),
+        &types,
+        bounds.as_slice(),
+    )?;
+    Ok(Program {
+        functions,
+        layouts: all,
+        types,
+        bounds,
+        state_bytes,
+    })
+}
+
+/// Tests that functions fit their layouts, and that the last is the network.
+fn test(
+    alloc: Global,
+    net: &TypedNet,
+    functions: &[Function],
+    layouts: &[Layout],
+    types: &Types,
+    bounds: &[usize],
+) -> Result<(), Refused>
+    ensures table { IfOk result (λ _. TableHolds types.now) }
+    ensures layouts { IfOk result
+        (λ _. LayoutsFit types.now bounds.now functions.now layouts.now) }
+    ensures whole { IfOk result (λ _. HasWhole net.now types.now functions.now layouts.now) }
+{
+    match test_program(alloc, net, functions, layouts, types, bounds) {
+        Ok(()) => Ok(()),
+        Err(Unlaid::Untyped) => Err(Refused::Untyped),
+        Err(Unlaid::Memory) => Err(Refused::Memory),
     }
 }
 
@@ -104,13 +124,14 @@ fn sizes(
 fn state_bytes(
     alloc: Global,
     functions: &[Function],
+    layouts: &[Layout],
+    types: &Types,
     bounds: &[usize],
-    layouts: &Layouts,
 ) -> Result<u64, Refused> {
-    let values = value_bytes(alloc, layouts.types.rows.as_slice(), bounds)?;
-    let kept = kept_bytes(alloc, functions, layouts.all.as_slice(), values.as_slice())?;
+    let values = value_bytes(alloc, types.rows.as_slice(), bounds)?;
+    let kept = kept_bytes(alloc, functions, layouts, values.as_slice())?;
     match kept.as_slice().iter().position(|bytes| *bytes > MOST_STATE) {
-        Some(k) => Err(Refused::State(position_of(alloc, layouts.all.as_slice(), k)?)),
+        Some(k) => Err(Refused::State(position_of(alloc, layouts, k)?)),
         None => match kept.as_slice().last() {
             Some(bytes) => Ok(bytes.saturating_add(8)),
             None => Ok(8),

@@ -1,5 +1,10 @@
 // The types that occur in code, each by a number.
 
+ghost use Rattle.std.specs.Prelude.{◌≡◌, IfOk, Some, slice_get};
+ghost use Rattle.sample_core.specs.TypeView.{type_of};
+ghost use Rattle.code_fits.specs.declared.types.TypeRow.TheVariants as R;
+ghost use Rattle.code_fits.specs.Tables.{tree_at};
+
 use crate::walk::Unlaid;
 use sample_core::{Memory, Ty, TyChild};
 use std::alloc::Global;
@@ -99,7 +104,9 @@ impl Types {
     }
 
     /// A type of the table as a tree, `Unit` if it isn't there.
-    pub(crate) fn tree(&self, alloc: Global, k: usize) -> Result<Ty, Memory> {
+    pub(crate) fn tree(&self, alloc: Global, k: usize) -> Result<Ty, Memory>
+        ensures { IfOk result (λ t. type_of t ≡ tree_at self.now k) }
+    {
         match self.trees.get(k) {
             Some(tree) => tree.try_copy(alloc),
             None => Ok(Ty::Unit),
@@ -107,7 +114,9 @@ impl Types {
     }
 
     /// The parts of a type of pairs.
-    pub(crate) fn parts(&self, k: usize) -> Result<(usize, usize), Unlaid> {
+    pub(crate) fn parts(&self, k: usize) -> Result<(usize, usize), Unlaid>
+        ensures { IfOk result (λ p. slice_get self.now.rows.items k ≡ Some (R.Pair p.0 p.1)) }
+    {
         match self.rows.get(k) {
             Some(TypeRow::Pair(a, b)) => Ok((*a, *b)),
             _ => Err(Unlaid::Untyped),
@@ -115,7 +124,9 @@ impl Types {
     }
 
     /// The type of what an event carries.
-    pub(crate) fn carried(&self, k: usize) -> Result<usize, Unlaid> {
+    pub(crate) fn carried(&self, k: usize) -> Result<usize, Unlaid>
+        ensures { IfOk result (λ a. slice_get self.now.rows.items k ≡ Some (R.Event a)) }
+    {
         match self.rows.get(k) {
             Some(TypeRow::Event(a)) => Ok(*a),
             _ => Err(Unlaid::Untyped),
@@ -123,7 +134,9 @@ impl Types {
     }
 
     /// The type of a list's elements.
-    pub(crate) fn element(&self, k: usize) -> Result<usize, Unlaid> {
+    pub(crate) fn element(&self, k: usize) -> Result<usize, Unlaid>
+        ensures { IfOk result (λ a. slice_get self.now.rows.items k ≡ Some (R.List a)) }
+    {
         match self.rows.get(k) {
             Some(TypeRow::List(a)) => Ok(*a),
             _ => Err(Unlaid::Untyped),

@@ -1,5 +1,10 @@
 // The layouts of a network's functions, in the order in which `compile` makes these.
 
+ghost use Rattle.std.specs.Prelude.{◌≡◌, IfOk, map};
+ghost use Rattle.sample_core.specs.TypeView.{type_of};
+ghost use Rattle.code_fits.specs.Tables.{trees_at};
+
+use crate::around::same;
 use crate::layout::Layout;
 use crate::types::{TypeRow, Types};
 use leaf_core::{Expr, ExprFault, type_of_expr};
@@ -165,7 +170,9 @@ fn leaf_tree(frame: Frame<'_>, input: usize, e: &Expr, types: &Types) -> Result<
 }
 
 /// Types as trees.
-pub(crate) fn trees(alloc: Global, numbers: &[usize], types: &Types) -> Result<Vec<Ty>, Memory> {
+pub(crate) fn trees(alloc: Global, numbers: &[usize], types: &Types) -> Result<Vec<Ty>, Memory>
+    ensures { IfOk result (λ all. map type_of all.items ≡ trees_at types.now numbers.now) }
+{
     let mut all = Vec::new(alloc);
     for number in numbers {
         all.push(types.tree(alloc, *number)?)?;
@@ -182,11 +189,6 @@ fn constant(frame: Frame<'_>, c: &Expr, to: &mut Layouts) -> Result<usize, Unlai
 /// The type of pairs of these.
 fn pair(frame: Frame<'_>, a: usize, b: usize, to: &mut Layouts) -> Result<usize, Memory> {
     to.types.row(frame.alloc, TypeRow::Pair(a, b))
-}
-
-/// Tests that two types are the same.
-fn same(a: usize, b: usize) -> Result<(), Unlaid> {
-    if a == b { Ok(()) } else { Err(Unlaid::Untyped) }
 }
 
 /// The position of child k.

@@ -72,8 +72,8 @@ compiled_files code leaves within same told words what (J.Print text) asks (inr 
           net_is = net_is;
           prints = m.prints;
           outputs = record {
-            outputs = λ s xs d. outputs code leaves m.net _ m.prints.prints.code typed s xs;
-            leaves = λ tys s xs d. leaf_outputs code leaves m.net _ m.prints.prints.code typed tys s xs;
+            outputs = λ s xs d. outputs code leaves m.net _ m.prints.prints.fits.code typed s xs;
+            leaves = λ tys s xs d. leaf_outputs code leaves m.net _ m.prints.prints.fits.code typed tys s xs;
           };
         }
     go (compile_checked form names) m = λ source_file target_file certificate e f g.
@@ -93,7 +93,7 @@ compiled_files code leaves within same told words what (J.Print text) asks (inr 
           derives = d.derives;
           prints = m.prints;
           outputs = record {
-            outputs = λ s xs y. outputs code leaves m.net _ m.prints.prints.code typed s xs ∙ sym (stream xs y);
-            leaves = λ tys s xs y. leaf_outputs code leaves m.net _ m.prints.prints.code typed tys s xs ∙ sym (stream xs y);
+            outputs = λ s xs y. outputs code leaves m.net _ m.prints.prints.fits.code typed s xs ∙ sym (stream xs y);
+            leaves = λ tys s xs y. leaf_outputs code leaves m.net _ m.prints.prints.fits.code typed tys s xs ∙ sym (stream xs y);
           };
         }

@@ -3,7 +3,7 @@ use Rattle.std.specs.Prelude.{◌≡◌, ℕ, Bool, true, false, ◌||◌, List,
 use Rattle.sample_core.specs.TypeTree.{TypeTree, unit_ty, bool_ty, int_ty, pair_ty, event_ty, list_ty}
 use Rattle.net_meaning.specs.TypedNetwork.{TypedNetwork}
 use Rattle.net_text.specs.Printing.{file_spelling}
-use Rattle.code_fits.specs.CodeOfNet.{IsCodeOf}
+use Rattle.code_fits.specs.Programs.{IsProgramOf}
 use Rattle.code_fits.specs.declared.layout.Program.{Program}
 use Rattle.code_text.specs.FileText.{c_of}
 use Rattle.code_text.specs.declared.file.Printed.{Printed}
@@ -32,12 +32,12 @@ c_named t program words name most = c_of program (record {
   weight = t.weight;
 })
 
--- the text is a program of the network's code as C, with that name and lists of at most so many
--- elements
+-- the text is a program of the network's code as C, whose functions fit their layouts, with that
+-- name and lists of at most so many elements
 pub record PrintsNamed (t : TypedNetwork) (words : PrintingWords) (name : List ℕ) (most : ℕ)
     (text : List ℕ) : Type 0 where
   pub program : Program
-  pub code : IsCodeOf t program.functions.items
+  pub fits : IsProgramOf t program
   pub text_is : text ≡ c_named t program words name most
 
 -- the text is a program of the network's code as C, as the words tell

@@ -1,4 +1,5 @@
 use Rattle.code_text.proofs.function.push_input_leaf.Goals as goal
+use Rattle.std.proofs.Common.{subst, ap, ◌∙◌}
 
 pub returns : goal.returns
-returns c = rw c.ty-input.ensures at c.in_ok-push_leaf_at.ensures
+returns c = cc (c.in_ok-push_leaf_at.ensures, c.ty-input.ensures)

@@ -1,4 +1,4 @@
 use Rattle.code_text.proofs.function.push_routed_leaf.Goals as goal
 
 pub returns : goal.returns
-returns c = rw (c.in_ok-ty.ensures, c.ty-input.ensures) at c.in_ok-push_leaf_at.ensures
+returns c = cc (c.in_ok-push_leaf_at.ensures, c.in_ok-ty.ensures, c.ty-input.ensures)
