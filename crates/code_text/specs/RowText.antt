@@ -4,7 +4,6 @@ use Rattle.sample_core.specs.TypeTree.{TypeTree, event_ty}
 use Rattle.sample_core.specs.TypeView.{type_of}
 use Rattle.cell_core.specs.declared.form.Form.{Form}
 use Rattle.cell_core.specs.declared.form.Form.TheVariants as M
-use Rattle.leaf_core.specs.declared.expr.Expr.{Expr}
 use Rattle.net_code.specs.declared.statement.Part.{Part}
 use Rattle.net_code.specs.declared.statement.Part.TheVariants as P
 use Rattle.net_code.specs.declared.statement.When.{When}
@@ -250,12 +249,3 @@ abbrev pub guard_row : Guard → List Piece
 guard_row G.Always = []
 guard_row G.Taken = text (codes "    if (s->taken) {\n") ∷ []
 guard_row (G.NoEvent k) = text (codes "    if (!") ∷ reg k ∷ text (codes ".is) {\n") ∷ []
-
--- the expression of an action, if it has one
-abbrev pub expression_in : Action → Option Expr
-expression_in (A.Leaf e k) = Some e
-expression_in (A.Constant e) = Some e
-expression_in (A.Routed e part k) = Some e
-expression_in (A.Accumulate e j k) = Some e
-expression_in (A.Collect e t k) = Some e
-expression_in a = None

@@ -1,10 +1,10 @@
 // The C of a function's rows.
 
-ghost use Rattle.std.specs.Prelude.{◌≡◌, ◌++◌, IfOk, [], length, map, option_copied, string_bytes};
+ghost use Rattle.std.specs.Prelude.{◌≡◌, ◌++◌, IfOk, [], length, map, string_bytes};
 ghost use Rattle.sample_core.specs.TypeView.{type_of};
 ghost use Rattle.code_text.specs.{CellText.declared_in, CellText.zeros_row, Piece.pieces_text, Piece.reg, PieceView.piece_of};
 ghost use Rattle.code_text.specs.ScopeText.{caller_in, members, named_in};
-ghost use Rattle.code_text.specs.RowText.{accumulation_text, action_text, answers_text, cell_rows, declaration_text, each_text, each_texts, effect_text, freezing_text, going_text, expression_in, guard_row, input_of, letters_in, letters_of, member_call_text, moment_text, pair_row, part_call_text, part_text, resumption_text, routed_text, routed_texts, value_text};
+ghost use Rattle.code_text.specs.RowText.{accumulation_text, action_text, answers_text, cell_rows, declaration_text, each_text, each_texts, effect_text, freezing_text, going_text, guard_row, input_of, letters_in, letters_of, member_call_text, moment_text, pair_row, part_call_text, part_text, resumption_text, routed_text, routed_texts, value_text};
 ghost use Rattle.code_text.specs.RowText.{keeps_any as any_keeps, keeps_watched as watched_keeps};
 
 use crate::cell::{
@@ -15,7 +15,6 @@ use crate::declared::Declared;
 use crate::piece::{Piece, push, push_if};
 use crate::scope::{Call, Caller, Named, members_of, push_call, push_leaf_call};
 use cell_core::Form;
-use leaf_core::Expr;
 use net_code::{Action, Effect, Function, Guard, Part, Scope, When};
 use sample_core::{Memory, Ty};
 
@@ -724,18 +723,4 @@ pub(crate) fn push_guard(text: &mut String, prefix: &str, guard: Guard) -> Resul
         )?,
     }
     Ok(())
-}
-
-/// The expression of an action: `None` where it has none.
-pub(crate) fn leaf_of(action: &Action) -> Option<&Expr>
-    ensures { option_copied result ≡ expression_in action.now }
-{
-    match action {
-        Action::Leaf(e, _)
-        | Action::Constant(e)
-        | Action::Routed(e, _, _)
-        | Action::Accumulate(e, _, _)
-        | Action::Collect(e, _, _) => Some(e),
-        _ => None,
-    }
 }
