@@ -1,20 +1,26 @@
-"""Calls of the program within a limit of memory, and what certificates they find."""
+"""Calls of the program, what each takes, and what certificates it finds."""
+import os
 import resource
 import subprocess
+import tempfile
 from pathlib import Path
 
-MEMORY = 400 << 20
-# Who takes as long hangs.
-SECONDS = 60
+# What a call may take: the aim. A call that wants more than the guard is refused it, and one that works longer is ended, since it hangs.
+MEMORY = 200 << 20
+GUARD = 3 << 30
+HANGS = 900
+# What is told as dear, where the seconds are printed: they are no limit.
+SECONDS = 2
 TIMES = 3
 NONE_FOUND = "certificate: none found\n"
+REASONS = "(at", "too long: ", "gave up: "
 
 
 class Caller:
-    """The program, and the folder with the files that it is given."""
+    """The program, the folder with the files that it is given, and what its calls took: the command, seconds of a processor, bytes."""
 
     def __init__(self, program, folder):
-        self.program, self.folder, self.count = program, Path(folder), 0
+        self.program, self.folder, self.count, self.costs = program, Path(folder), 0, []
 
     def file(self, text):
         """The name of a new file."""
@@ -25,27 +31,48 @@ class Caller:
 
     def call(self, *words):
         """The status of a call, and what it writes on both streams."""
-        ran = subprocess.run([self.program, *words], capture_output=True, text=True, preexec_fn=limited)
-        return ran.returncode, ran.stdout, ran.stderr
+        with tempfile.TemporaryFile() as output, tempfile.TemporaryFile() as error:
+            child = subprocess.Popen([self.program, *words], stdin=subprocess.DEVNULL, stdout=output, stderr=error, preexec_fn=limited)
+            _, status, used = os.wait4(child.pid, 0)
+            child.returncode = os.waitstatus_to_exitcode(status)
+            for file in output, error:
+                file.seek(0)
+            told = output.read().decode(), error.read().decode(errors="replace")
+        self.costs.append((words[0], used.ru_utime + used.ru_stime, used.ru_maxrss << 10))
+        return child.returncode, *told
 
     def certified(self, source, target):
-        """How many steps `certify` finds, None where it finds none, and what is wrong with what it prints."""
+        """How many steps `certify` finds, or why it finds none, and what is wrong with what it prints."""
         status, output, error = self.call("certify", source, target)
-        if status == 1 and error == NONE_FOUND and output:
-            return None, None
-        if status != 0:
+        if (status, error) == (1, NONE_FOUND) and output.startswith(REASONS):
+            return output.splitlines()[0], None
+        if status:
             return None, f"certify: status {status}, {error!r}, {len(output)} bytes printed"
         told = self.call("check", source, target, self.file(output))
         right = (0, f"accepted {steps_in(output)}\n", "")
         return steps_in(output), None if told == right else f"check: {told}"
 
+    def dear(self, most=MEMORY):
+        """The calls that took more memory than is allowed."""
+        return [f"{command}: {taken >> 20} MiB" for command, _, taken in self.costs if taken > most]
+
 
 def limited():
     """Limits the memory of a process, and ends it where it hangs."""
-    resource.setrlimit(resource.RLIMIT_AS, (MEMORY, MEMORY))
-    resource.setrlimit(resource.RLIMIT_CPU, (SECONDS, SECONDS))
+    resource.setrlimit(resource.RLIMIT_AS, (GUARD, GUARD))
+    resource.setrlimit(resource.RLIMIT_CPU, (HANGS, HANGS))
 
 
 def steps_in(text):
     """How many steps a certificate has."""
     return text.count("(step ")
+
+
+def found_within(found, known):
+    """Whether so many steps are found, at most `TIMES` as many as are known."""
+    return isinstance(found, int) and found <= TIMES * known
+
+
+def told_of(found):
+    """What was found, in a word or two."""
+    return str(found) if isinstance(found, int) else "none"

@@ -144,6 +144,7 @@ def families(share=1):
         "squared stages": of_numbers(to_the_right(["(arr (mul x x))"] * some(20))),
         "terms in the first part": of_numbers(arr(repeated(some(250), lambda e, k: f"(add {e} {k})"))),
         "terms in the second part": of_numbers(arr(repeated(some(250), lambda e, k: f"(add {k} {e})"))),
+        "inputs in the first part": of_numbers(arr(repeated(some(250), lambda e, _: f"(add {e} x)"))),
         "events of events": of_events(arr(repeated(some(120), lambda e, k: f"(on {e} (none Int) (event (add (snd x) {k})))"))),
         "events after events": of_events(arr(repeated(some(120), lambda e, k: f"(then {e} (on x (none Int) (event (add (snd x) {k}))))"))),
         "ifs in ifs": of_numbers(arr(repeated(some(250), lambda e, k: f"(if (less x {k}) {e} x)"))),

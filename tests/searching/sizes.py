@@ -1,24 +1,17 @@
 """What commands tell of the families of large networks: each ends, within its memory, with an answer that it may give."""
-from searching.calls import TIMES, steps_in
-from searching.families import families
+from searching.calls import found_within, steps_in, told_of
 
 # The most steps that each takes.
 MOST_STEPS = {"optimise": 1_000, "improve": 10_000}
 
 
-def all_families(caller, only, share):
-    """The names of the kinds with the word in them, what is wrong with each, and what was found."""
-    for name, text in families(share).items():
-        if only in name:
-            yield name, *faults_of(caller, text)
-
-
-def faults_of(caller, text):
-    """What is wrong with what the commands tell of a network, and what they found."""
+def family_found(caller, text):
+    """What is wrong with what the commands tell of a network, what they found, and how much of it."""
     net = caller.file(text)
     faults = [fault for view in (types_fault, outline_fault, laws_fault) if (fault := view(caller, net))]
     found = [rewriting_ends(caller, net, command) for command in MOST_STEPS]
-    return sum([more for more, _ in found], faults), ", ".join(said for _, said in found)
+    counts = [sum(column) for column in zip(*(count for _, _, count in found))]
+    return sum([more for more, _, _ in found], faults), ", ".join(said for _, said, _ in found), {"families": counts}
 
 
 def types_fault(caller, net):
@@ -56,17 +49,16 @@ def laws_fault(caller, net):
 
 
 def rewriting_ends(caller, net, command):
-    """What is wrong with what the command makes of a network, and with the certificate that `certify` finds to that; what was found."""
+    """What is wrong with what the command makes of a network, what `certify` finds to that, and whether it is few steps."""
     status, output, error = caller.call(command, net)
     printed = caller.call(command, net, "--certificate")
     if (status, error) != (0, "") or printed[0] != 0:
-        return [f"{command}: status {status}, {error!r}; {printed[0]}, {printed[2]!r}"], command
+        return [f"{command}: status {status}, {error!r}; {printed[0]}, {printed[2]!r}"], command, (1, 0, 0)
     target, steps = caller.file(output), steps_in(printed[1])
     checked = caller.call("check", net, target, caller.file(printed[1]))
     found, fault = caller.certified(net, target)
     right = checked == (0, f"accepted {steps}\n", "") and steps <= MOST_STEPS[command]
     faults = [] if right else [f"check of {command}: {checked}, {steps} steps"]
     faults += [f"certify, {command}: {fault}"] if fault else []
-    if found is not None and found > max(TIMES * steps, 1):
-        faults.append(f"certify, {command}: {found} steps where {steps} are known")
-    return faults, f"{command} {steps} steps, {'none' if found is None else found} found"
+    why = "" if isinstance(found, int) else f" ({found})"
+    return faults, f"{command} {told_of(found)} of {steps}{why}", (1, isinstance(found, int), found_within(found, steps))

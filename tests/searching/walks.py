@@ -1,24 +1,25 @@
-"""Random walks: steps forward from a network, which `certify` is to find again.
+"""Each example: what `certify` finds to its `optimise`, to its `improve`, and to the ends of its random walks.
 
 A line of tests/searching/walked is a walk: the example that it starts from, `:`, and its steps, with `;` between them: a law and the
-numbers of its position. They were drawn from what `laws` prints, at random positions.
+numbers of its position. tests/searching/drawing.py draws them.
 """
 from pathlib import Path
 
-from searching.calls import TIMES
+from searching.calls import found_within, steps_in, told_of
 
 TOP = Path(__file__).resolve().parent.parent.parent
-# Of all walks so many are to be found, and so many by at most `TIMES` as many steps as they have.
-FOUND = 0.98
-SHORT = 0.3
+EXAMPLES = TOP / "examples"
+WALKED = TOP / "tests/searching/walked"
 
 
 def walks():
-    """The walks: the name of the example, and the steps."""
-    for line in (TOP / "tests/searching/walked").read_text().splitlines():
+    """The walks of each example that has one: lists of steps by its name."""
+    found: dict[str, list[list[str]]] = {}
+    for line in WALKED.read_text().splitlines():
         if not line.startswith("; "):
             name, steps = line.split(": ")
-            yield name, steps.split("; ")
+            found.setdefault(name, []).append(steps.split("; "))
+    return found
 
 
 def certificate_of(steps):
@@ -27,27 +28,25 @@ def certificate_of(steps):
     return "\n".join(["laws 2", *told, ""])
 
 
-def walk_found(caller, name, steps):
-    """How many steps `certify` finds to where a walk ends, None where it finds none, and what is wrong."""
-    source = str(TOP / "examples" / name / "net")
-    status, target, error = caller.call("apply", source, caller.file(certificate_of(steps)))
-    if status:
-        return None, f"apply: status {status}, {error!r}"
-    return caller.certified(source, caller.file(target))
+def ends_of(caller, source, taken):
+    """The networks to which steps from the source are known: what they are, their text, and how many steps lead there."""
+    for command in "optimise", "improve":
+        yield command, caller.call(command, source)[1], steps_in(caller.call(command, source, "--certificate")[1])
+    for number, steps in enumerate(taken):
+        yield f"walk {number}", caller.call("apply", source, caller.file(certificate_of(steps)))[1], len(steps)
 
 
-def all_walks(caller, only):
-    """What is wrong with the walks whose example has the word in its name, and how many were found."""
-    faults, found, short, count = [], 0, 0, 0
-    for number, (name, steps) in enumerate(walks()):
-        if only in name:
-            length, fault = walk_found(caller, name, steps)
-            faults += [f"walk {number}, {name}: {fault}"] if fault else []
-            found += length is not None
-            short += length is not None and length <= TIMES * len(steps)
-            count += 1
-    if found < FOUND * count:
-        faults.append(f"fewer than {FOUND:.0%} found")
-    if not only and short < SHORT * count:
-        faults.append(f"fewer than {SHORT:.0%} with at most {TIMES} times the steps")
-    return faults, f"{found} of {count} found, {short} with at most {TIMES} times the steps"
+def example_found(caller, name, taken):
+    """What is wrong with what `certify` prints of an example, what it finds, and how much of it: of rewritings, and of walks."""
+    source = str(EXAMPLES / name / "net")
+    faults, said, counts = [], [], {"rewritings": [0, 0, 0], "walks": [0, 0, 0]}
+    for what, target, known in ends_of(caller, source, taken):
+        found, fault = caller.certified(source, caller.file(target)) if target else (None, "nothing is printed")
+        faults += [f"{what}: {fault}"] if fault else []
+        walked = what.startswith("walk")
+        said += [] if walked else [f"{what} {told_of(found)} of {known}"]
+        count = counts["walks" if walked else "rewritings"]
+        for place, more in enumerate((True, isinstance(found, int), found_within(found, known))):
+            count[place] += more
+    count = counts["walks"]
+    return faults, ", ".join([*said, *([f"walks {count[1]} of {count[0]}, {count[2]} short"] if count[0] else [])]), counts

@@ -1,0 +1,71 @@
+"""Draws the random walks that tests/searching/walked holds.
+
+Of each example so many walks, by a seed that is its name and the walk's number: from its network 30 steps forward, or fewer where no
+more are possible, drawn evenly from all those that `laws` prints of the network that the ones before lead to: one, or of many one in
+five, none of them below another. Equal walks are kept once, so an example with few steps has few walks.
+"""
+import random
+import tempfile
+from pathlib import Path
+
+from searching.calls import Caller
+from searching.walks import EXAMPLES, WALKED, certificate_of
+
+WALKS = 10
+STEPS = 30
+HEAD = "; A walk a line: the example, and steps forward from its network, each a law and a position; drawn by tests/searches --draw."
+
+
+def possible(caller, net):
+    """The steps that `laws` prints, each a law and the numbers of its position."""
+    status, output, error = caller.call("laws", net)
+    if status:
+        raise ValueError(f"laws: status {status}, {error!r}")
+    lines = [line[6:-2] for line in output.splitlines() if line.startswith("(step ")]
+    return [line.replace(" forward (at", "") for line in lines]
+
+
+def drawn(choices, draws, room):
+    """Some of the steps, none below another."""
+    taken: list[list[str]] = []
+    for step in map(str.split, draws.sample(choices, len(choices))):
+        if len(taken) < min(room, max(1, len(choices) // 5)) and not any(beneath(step[1:], other[1:]) for other in taken):
+            taken.append(step)
+    return [" ".join(step) for step in taken]
+
+
+def beneath(one, other):
+    """Whether one of two positions is below the other, or both are one."""
+    return all(first == second for first, second in zip(one, other))
+
+
+def walk_of(caller, source, draws):
+    """A walk from a network."""
+    steps, net = [], source
+    while len(steps) < STEPS and (choices := possible(caller, net)):
+        steps += (taken := drawn(choices, draws, STEPS - len(steps)))
+        status, output, error = caller.call("apply", net, caller.file(certificate_of(taken)))
+        if status:
+            raise ValueError(f"apply {taken}: status {status}, {error!r}")
+        net = caller.file(output)
+    return steps
+
+
+def walks_of(job):
+    """The different walks of an example, each a line."""
+    program, name = job
+    lines = []
+    with tempfile.TemporaryDirectory(prefix="walks-") as folder:
+        caller = Caller(program, folder)
+        for number in range(WALKS):
+            steps = walk_of(caller, str(EXAMPLES / name / "net"), random.Random(f"{name} {number}"))
+            lines += [f"{name}: {'; '.join(steps)}"] if steps else []
+    return list(dict.fromkeys(lines))
+
+
+def draw(pool, program):
+    """Writes the walks of all examples anew."""
+    names = sorted(net.parent.name for net in Path(EXAMPLES).glob("*/net"))
+    found = pool.map(walks_of, [(program, name) for name in names], chunksize=1)
+    WALKED.write_text("\n".join([HEAD, *(line for lines in found for line in lines), ""]))
+    return sum(map(len, found))
