@@ -32,7 +32,7 @@ class Caller:
     def call(self, *words):
         """The status of a call, and what it writes on both streams."""
         with tempfile.TemporaryFile() as output, tempfile.TemporaryFile() as error:
-            child = subprocess.Popen([self.program, *words], stdin=subprocess.DEVNULL, stdout=output, stderr=error, preexec_fn=limited)
+            child = subprocess.Popen([self.program, *words], stdin=subprocess.DEVNULL, stdout=output, stderr=error)
             _, status, used = os.wait4(child.pid, 0)
             child.returncode = os.waitstatus_to_exitcode(status)
             for file in output, error:
@@ -57,8 +57,8 @@ class Caller:
         return [f"{command}: {taken >> 20} MiB" for command, _, taken in self.costs if taken > most]
 
 
-def limited():
-    """Limits the memory of a process, and ends it where it hangs."""
+def limit():
+    """Limits the memory of what this process starts, and ends what hangs."""
     resource.setrlimit(resource.RLIMIT_AS, (GUARD, GUARD))
     resource.setrlimit(resource.RLIMIT_CPU, (HANGS, HANGS))
 
