@@ -66,16 +66,29 @@ def there(name: str) -> bool:
 def tool(name: str, *words: object, stream: str | bytes = b"", folder: Path | None = None, **settings: str) -> tuple[int, str, str]:
     """A tool's status, and what it prints."""
     data = stream.encode() if isinstance(stream, str) else stream
-    command, env = [TOP / "tools/tool", name, *map(str, words)], {**os.environ, **settings}
-    patience = SECONDS * (3 if os.environ.get("DEAR") else 1)
-    ran = subprocess.run(command, input=data, capture_output=True, cwd=folder, env=env, timeout=patience, check=False)
+    command, env = [TOP / "tools/tool", name, *patient(map(str, words))], {**os.environ, **settings}
+    most = SECONDS * (3 if os.environ.get("DEAR") else 1) * patience()
+    ran = subprocess.run(command, input=data, capture_output=True, cwd=folder, env=env, timeout=most, check=False)
     return ran.returncode, ran.stdout.decode(errors="replace"), ran.stderr.decode(errors="replace")
+
+
+def patience() -> int:
+    """How many times the usual seconds all may take."""
+    return int(os.environ.get("PATIENCE", "1"))
+
+
+def patient(words: Iterable[str]) -> Iterator[str]:
+    """The words, with as many more seconds."""
+    before = ""
+    for word in words:
+        yield str(patience() * int(word)) if before == "--seconds" and word.isdecimal() else word
+        before = word
 
 
 def each(run: Callable[[Any], Any], items: Iterable[Any], at_once: int | None = None) -> list[tuple[Any, Any]]:
     """Each item, as an example, with what comes of it; several are run at once, or as many as is told."""
     items = list(items)
-    with ThreadPoolExecutor(at_once or os.cpu_count()) as pool:
+    with ThreadPoolExecutor(at_once or len(os.sched_getaffinity(0))) as pool:
         return list(zip(items, pool.map(run, items)))
 
 

@@ -1,6 +1,6 @@
 """The encoding that z3 is given, beside the program: random networks, each sample's output, with numbers and with z3's terms."""
+import os
 import random
-import time
 
 from generator.making import Maker
 from model.texts import network_text, read_stream
@@ -12,6 +12,7 @@ from workbench.program import call, kept
 from tooling.common import leave_out, want
 
 NEEDS = ["z3"]
+# How many networks, in how many seconds of a processor.
 NETWORKS, SECONDS, LISTS, LEAVES, HEAVY, STEPS = 500, 30, 5, 1_000, 3_000, 12
 FORMS = "arr >>> first parB loopPre iPre delay hold accumBy after repeatedly time integral switch dSwitch rSwitch kSwitch pSwitch old --> >-- drSwitch rpSwitchB".split()
 
@@ -110,9 +111,14 @@ def plain(term):
     return z3.is_true(term) if z3.is_bool(term) else term.as_signed_long()
 
 
+def processor_seconds() -> float:
+    """How long a processor has worked for this process and the runs of the program."""
+    return sum(os.times()[:4])
+
+
 def try_all() -> None:
-    until, number, ways, forms, told = time.monotonic() + SECONDS, 0, [], set(), []
-    while ways.count("numbers") < NETWORKS and time.monotonic() < until:
+    until, number, ways, forms, told = processor_seconds() + SECONDS, 0, [], set(), []
+    while ways.count("numbers") < NETWORKS and processor_seconds() < until:
         found = compared(number)
         number += 1
         if found:

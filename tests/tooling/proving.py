@@ -136,7 +136,8 @@ def bad_lines_are_told():
         ("guarantee g (arr (less many 1))", "unknown word many"),
         ("guarantee g", "the file ends; a tree is wanted"),
         ("assume g (arr (less (snd x) few))", "source:5:8: assume g: network: mismatch in (at 0)"),
-        ("promise g (arr true)", "the network is whole before this"),
+        ("promise g (arr true)", "the network is whole before this; behind it stand assume, guarantee and invariant alone"),
+        ("def late 5", "the network is whole before this; def stands before input"),
     ):
         status, output, error = in_folder(("prove", "source"), source=source + line)
         want(f"bad line {line}", status == 1 and not output and wanted in error and error.count("\n") == 1, error)

@@ -205,7 +205,7 @@ def arguments():
     words.add_argument("recordings", metavar="FOLDER|FILE", nargs="+")
     words.add_argument("--out", metavar="FOLDER", type=Path, help="writes each output there, under the recording's name")
     words.add_argument("--expect", metavar="FOLDER", type=Path, help="compares each output with the file of that name there")
-    words.add_argument("--jobs", metavar="N", type=int, default=os.cpu_count(), help="how many run at once, each on a processor")
+    words.add_argument("--jobs", metavar="N", type=int, default=len(os.sched_getaffinity(0)), help="how many run at once, each on a processor")
     words.add_argument("--cluster", metavar="ADDRESS", help="the Dask scheduler whose workers run them, such as 127.0.0.1:8786")
     given = words.parse_args()
     if given.jobs < 1:

@@ -243,7 +243,12 @@ def network_of(reader: TreeReader, source: Source) -> None:
     while named and reader.peek() in PROPERTIES:
         source.properties.append(property_of(reader))
     if not reader.ended():
-        raise reader.fault(reader.tokens[reader.read], "the network is whole before this")
+        raise reader.fault(reader.tokens[reader.read], "the network is whole before this" + (stands_elsewhere(reader.peek()) if named else ""))
+
+
+def stands_elsewhere(word: str) -> str:
+    """Where an item stands, or what stands behind a network in its place."""
+    return f"; {word} stands before input" if word in ITEMS else f"; behind it stand {', '.join(PROPERTIES[:-1])} and {PROPERTIES[-1]} alone"
 
 
 def property_of(reader: TreeReader) -> Property:

@@ -213,7 +213,7 @@ def in_long_recordings(wishes: Wishes) -> Way:
 
 def random_ways(seed: int, question: Question, wishes: Wishes) -> dict[str, Way]:
     """One for each processor."""
-    return {f"random {number}": at_random(f"{seed} {number}", question.numbers, wishes) for number in range(os.cpu_count() or 1)}
+    return {f"random {number}": at_random(f"{seed} {number}", question.numbers, wishes) for number in range(len(os.sched_getaffinity(0)))}
 
 
 def certifying(source: str, target: str) -> Way:

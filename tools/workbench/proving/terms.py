@@ -6,6 +6,8 @@ import z3
 
 from model.trees import GREATEST
 
+# z3's checks of how its Python part is called take a quarter of the time.
+z3.z3.Z3_DEBUG = False
 LEAST = -GREATEST - 1
 MOST_STEPS = 60_000
 
