@@ -60,6 +60,11 @@ UNWOUND = ("(if full (sum kept) (add (sum kept) error))", "(add (sum kept) error
 LESS = ("(sub (aim kept) 100)", "(sub (aim kept) 200)")
 MUTANTS = [("cruise", UNWOUND, []), ("cruise", UNWOUND, SANE), ("cruise", LESS, []), ("junction", FORGETS, [])]
 
+# A network with a fault that `falsify` finds by a goal, or, where none is named, beside the network without it; and in how many seconds.
+PLANTED = [("junction", FORGETS, "fair", []), ("junction", FORGETS, "soon", ["--steps", "1"]), ("cruise", UNWOUND, "", []), ("cruise", LESS, "", [])]
+PLANTED += [("junction", change, "", []) for change in (FORGETS, HASTY, SHORT)]
+SOON = 10
+
 # A network, and what makes of it one that does the same: a file beside it, a command of the program, or what is changed in it.
 LATER = ("(not (less (sub clock (since kept)) d))", "(not (less clock (add d (since kept))))")
 TURNED = ("(if (equal (phase x) 0) 1 (if (equal (phase x) 1) 2 0))", "(if (equal (phase x) 1) 2 (if (equal (phase x) 0) 1 0))")
@@ -131,14 +136,35 @@ def other_of(name, how):
         return call([how, str(folder / "net")]).output.decode()
 
 
+def both_of(name, text):
+    """The file of an observer of whether a network does the same as another of which this is the file."""
+    (given, net), (_, other) = (read_network(one.encode()) for one in (flat(text_of(name)), text))
+    return network_text(given, expanded((">>>", ("&&&", net, other), ("arr", ("equal", ("fst", "x"), ("snd", "x"))))))
+
+
+def with_goal(text, goal):
+    """The file with this guarantee alone."""
+    first, *goals = re.split(r"^(?=guarantee )", text, flags=re.M)
+    return first + "".join(one for one in goals if one.split()[1] == goal)
+
+
+def planted_faults_are_falsified():
+    """Each in ten seconds of a machine that does nothing else."""
+    most = SOON * len(os.sched_getaffinity(0))
+    for name, change, goal, words in PLANTED * DEAR:
+        text = text_of(name, change)
+        net, before = with_goal(text, goal) if goal else both_of(name, flat(text)), sum(os.times()[2:4])
+        status, output, error = in_folder(("falsify", "net", "--seconds", "60", *words), net=net)
+        seconds = sum(os.times()[2:4]) - before
+        want(f"falsify {name} with {change[1]} {goal}", status == 1 and seconds < most, f"{seconds} s of processors: {output}{error}")
+
+
 def equal_ones_are_proved():
     """By z3 alone: of an observer that runs both."""
 
     def told(case):
         name, how = case
-        (given, net), (_, other) = (read_network(text.encode()) for text in (flat(text_of(name)), other_of(name, how)))
-        both = network_text(given, expanded((">>>", ("&&&", net, other), ("arr", ("equal", ("fst", "x"), ("snd", "x"))))))
-        return in_folder(("prove", "both", "--seconds", "110", "--lists", "5"), both=both)
+        return in_folder(("prove", "both", "--seconds", "110", "--lists", "5"), both=both_of(name, other_of(name, how)))
 
     for (name, how), (status, output, error) in each(told, EQUAL, 2) + each(told, DEAR_EQUAL * DEAR, 1):
         want(f"{name} does the same by {how}", status == 0 and output.startswith("holds on every recording"), output + error)
@@ -148,6 +174,7 @@ def try_all() -> None:
     goals_are_decided()
     counts_are_found()
     mutants_are_told_apart()
+    planted_faults_are_falsified()
     equal_ones_are_proved()
     if not DEAR:
         leave_out("the properties and pairs that take long: `tests/tools --dear` tries them")
