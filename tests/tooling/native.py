@@ -1,10 +1,29 @@
 """Networks run as compiled programs."""
 import os
+import subprocess
 from pathlib import Path
 
-from tooling.common import EXAMPLES, NUMBERS, each, in_files, own_folder, stream_of, tool, want
+from tooling.common import EXAMPLES, NUMBERS, TOP, each, in_files, own_folder, stream_of, tool, want
+from workbench.ending import Refused
+from workbench.stacks import deepest
 
 PATH = os.environ["PATH"]
+# Lists of lists of numbers, of which each is as large as its room: with 1,000 elements 8,008,008 bytes, more than most limits of a stack.
+LISTS = "yampa 1 input (List (List Int)) (arr (if (less 3 (len x)) x (list (List Int) (list Int 5))))"
+# What gcc tells of four functions, of which `main` calls all: the frames along its longest chain are 16 + 32 + 40.
+GRAPH = r"""graph: { title: "n.c"
+node: { title: "n.c:low" label: "low\nn.c:1:1\n40 bytes (static)" }
+node: { title: "n.c:left" label: "left\nn.c:2:1\n8 bytes (static)" }
+edge: { sourcename: "n.c:left" targetname: "n.c:low" label: "n.c:2:9" }
+node: { title: "n.c:right" label: "right\nn.c:3:1\n32 bytes (dynamic,bounded)" }
+edge: { sourcename: "n.c:right" targetname: "n.c:low" }
+edge: { sourcename: "n.c:right" targetname: "memset" }
+node: { title: "memset" label: "__builtin_memset\n<built-in>" shape : ellipse }
+node: { title: "main" label: "main\nn.c:4:1\n16 bytes (static)" }
+edge: { sourcename: "main" targetname: "n.c:left" label: "n.c:4:9" }
+edge: { sourcename: "main" targetname: "n.c:right" label: "n.c:5:9" }
+}
+"""
 
 
 def runs_as_the_program(cache: Path) -> None:
@@ -15,7 +34,7 @@ def runs_as_the_program(cache: Path) -> None:
             status, error = ((example / name).read_text() if (example / name).exists() else "" for name in ("status", "error"))
             wanted = int(status or 0), (example / "output").read_text(), error
             want(f"native {example.name}", found == wanted, found)
-    kept = [path.name for path in (cache / "yampa").iterdir() if path.name.startswith("native-")]
+    kept = [path.name for path in (cache / "yampa").iterdir() if path.name.startswith("native-") and not path.suffix]
     want("native keeps a program a network", len(kept) == len(EXAMPLES), kept)
 
 
@@ -39,8 +58,46 @@ def what_is_refused(folder: Path, cache: Path) -> None:
     want("native without a cache", found == (0, "8\n", ""), found)
 
 
+def limited(limit: str, *words: object, **settings: str) -> tuple[int, str, str]:
+    """What `native` tells of one sample where the limits of the stack are these, the soft one and the hard one."""
+    command = ["prlimit", f"--stack={limit}", TOP / "tools/tool", "native", *words]
+    env = {**os.environ, **settings}
+    ran = subprocess.run([*map(str, command)], input=b"(list (list 6))\n", capture_output=True, env=env, timeout=120, check=False)
+    return ran.returncode, ran.stdout.decode(), ran.stderr.decode()
+
+
+def counts_the_longest_chain() -> None:
+    want("stacks of a graph", deepest(GRAPH) == {"n.c:low": 40, "n.c:left": 48, "n.c:right": 72, "main": 88}, deepest(GRAPH))
+    for name, old, new in [("low", '"n.c:left" targetname', '"n.c:low" targetname'), ("right", "dynamic,bounded", "dynamic")]:
+        try:
+            want(f"stacks of {name}", False, deepest(GRAPH.replace(old, new)))
+        except Refused as refused:
+            want(f"stacks of {name}", f"n.c:{name}" in str(refused), refused)
+
+
+def takes_much_stack(folder: Path, cache: Path) -> None:
+    """Values that are larger than the stack may be at first: 9 MB each, of which a step holds more than one."""
+    net, other = in_files(folder, large=LISTS, other='#!/bin/sh\ncase "$*" in *callgraph*) exit 1 ;; *) exec cc "$@" ;; esac\n')
+    other.chmod(0o755)
+    settings, soft = {"XDG_CACHE_HOME": str(cache)}, 8 << 20
+    status, printed, error = tool("native", "--stack", "--most", 1000, net, **settings)
+    rows = dict(line.split() for line in printed.splitlines())
+    want("native --stack", (status, list(rows), error) == (0, ["yampa_init", "yampa_step", "main"], ""), (printed, error))
+    want("native --stack counts values", int(rows["yampa_init"]) < 1000 < 2 * 8_008_008 < min(int(rows[name]) for name in ["yampa_step", "main"]))
+    found = limited(f"{soft}:", "--most", 1000, net, **settings)
+    want("native raises the limit", found == (0, "(list (list 5))\n", ""), found)
+    found = limited(f"{soft}:{soft}", "--most", 1000, net, **settings)
+    want("native over the limit", found[:2] == (3, "") and f"memory: {rows['main']} bytes" in found[2] and found[2].count("\n") == 1, found)
+    found = limited(f"{soft}:", "--most", 1000, net, CC=str(other), **settings)
+    want("native without a measure", found[:2] == (3, "") and "signal 11" in found[2] and found[2].count("\n") == 1, found)
+    found = tool("native", "--stack", net, "--most", 2, CC=str(other), **settings)
+    want("native --stack without gcc", found[:2] == (3, "") and "gcc" in found[2] and found[2].count("\n") == 1, found)
+
+
 def try_all() -> None:
+    counts_the_longest_chain()
     with own_folder() as folder:
         cache = folder / "cache"
         runs_as_the_program(cache)
         what_is_refused(folder, cache)
+        takes_much_stack(folder, cache)
