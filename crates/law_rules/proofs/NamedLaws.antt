@@ -80,6 +80,6 @@ module _ (olds : ℕ) where
   law46-gives (seq (arr e) (rp_switch fs m t)) = kept-gives e m fs t
   law46-gives _ = tt
 
-pub sees-is : {f s : Network Expression} → SeesSteps s → law20 (seq f s) ≡ Some s
-sees-is after_sees = refl
-sees-is _ = refl
+pub sees-is : (f : Network Expression) {s : Network Expression} → SeesSteps s → law20 (seq f s) ≡ Some s
+sees-is f after_sees = refl
+sees-is f _ = refl

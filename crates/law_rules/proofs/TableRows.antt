@@ -9,7 +9,7 @@ use Rattle.net_tree.specs.Network.{Network, Networks, no_members, and_member, ar
 use Rattle.net_tree.specs.Place.{member}
 use Rattle.net_meaning.specs.Typing.{members}
 use Rattle.law_patterns.specs.declared.net_sym.NetSym.{NetSym}
-use Rattle.law_patterns.specs.Matching.{FoundLetters, going}
+use Rattle.law_patterns.specs.Matching.{going}
 use Rattle.law_patterns.specs.Rule.{Related}
 use Rattle.law_patterns.specs.NetMatching.{NetFound, beside, net_ended, net_built, net_rewritten}
 use Rattle.law_patterns.specs.NetPattern.{NetAssignment, net_filled}
@@ -36,14 +36,15 @@ made R.ElementsApart olds left right n = law42 n
 made R.Unchanging olds left right n = law46 n
 
 -- at the second place of a letter the same expression stands
-again : (s : NetFound) (found : FoundLetters) (e : Expression) → net_built (right_at 23) (net_ended (beside [] s (going (same_by expression_code e e) [] found))) ≡ net_built (right_at 23) (Some (record s { exprs = found }))
-again s found e =
-    ap (λ b. net_built (right_at 23) (net_ended (beside [] s (going b [] found)))) ((same_by_decides expression_code e e).1 refl)
+again : (s : NetFound) (e : Expression) → net_built (right_at 23) (net_ended (beside [] s (going (same_by expression_code e e) [] s.exprs))) ≡ net_built (right_at 23) (Some s)
+again s e =
+    ap (λ b. net_built (right_at 23) (net_ended (beside [] s (going b [] s.exprs)))) ((same_by_decides expression_code e e).1 refl)
 
 -- a right side is what the law of its number makes of the left one
 pub made-is : {n olds : ℕ} {l r : Network Expression} → NetworkRow n olds l r → made (rule_at n) olds (left_at n) (right_at n) l ≡ Some r
-made-is (row_l20 s) = sees-is s
-made-is (row_l23 {g = g}) = again _ _ g
+made-is (row_l20 {f = f} s) = sees-is f s
+made-is (row_l23 {T = T} {c = c} {g = g}) =
+    again (record { f = None; g = None; h = None; q = None; exprs = record { f = Some c; g = Some g; h = None; i = None; t = Some T } }) g
 made-is {olds = olds} (row_l38 {f = f}) = ap (λ b. cond b (Some f) None) (same-number olds)
 made-is (row_l39 {r = r} {fs = fs} some few) = ap (λ b. cond b (Some (par (behind_routes r 0 fs))) None) (in_bounds (members fs) some few)
 made-is (row_l40 {i = i} {fs = fs} few h) = ap (λ b. cond b (member fs i) None) (le-leb (members fs) 64 few) ∙ h
