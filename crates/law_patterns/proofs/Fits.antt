@@ -39,7 +39,7 @@ agrees-with a s L.H c = record { f = c.f; g = c.g; h = refl; i = c.i; t = c.t }
 agrees-with a s L.I c = record { f = c.f; g = c.g; h = c.h; i = refl; t = c.t }
 
 -- what goes on from a match: the rest to match is es, and the chosen trees agree
-abbrev GoesOn : Assignment → List Expression → Matching → Type 0
+abbrev pub GoesOn : Assignment → List Expression → Matching → Type 0
 GoesOn a es m = (s : FoundLetters) × (m ≡ matching es s) × Agrees a s
 
 bound-complete : (o : Option Expression) (k : Letter) (a : Assignment) (es : List Expression) (s : FoundLetters) → AgreesAt o (letter_choice a k) → Agrees a s → GoesOn a es (letter_bound o k (letter_choice a k) es s)
@@ -78,7 +78,7 @@ fits-put S.If a s (e ∷ b ∷ d ∷ xs) c = (s, refl, c)
 fits-put S.On a s (e ∷ b ∷ d ∷ xs) c = (s, refl, c)
 fits-put _ a s _ c = tt
 
-fits-made : (y : Sym) (a : Assignment) (s : FoundLetters) (xs es : List Expression) → put_before a y xs ≡ Some es → Agrees a s → GoesOn a xs (step y (matching es s))
+pub fits-made : (y : Sym) (a : Assignment) (s : FoundLetters) (xs es : List Expression) → put_before a y xs ≡ Some es → Agrees a s → GoesOn a xs (step y (matching es s))
 fits-made y a s xs es p c = subst (FitsMade y a s xs) p (fits-put y a s xs c)
 
 -- a pattern fits what it writes
@@ -110,7 +110,7 @@ pub never-failed : {P : Type 0} (xs : List Expression) (r : FoundLetters) → fa
 never-failed xs r p = absurd (cc)
 
 -- what a symbol that has met an expression writes
-abbrev Writes : Assignment → Sym → List Expression → List Expression → FoundLetters → Type 0
+abbrev pub Writes : Assignment → Sym → List Expression → List Expression → FoundLetters → Type 0
 Writes a y xs es s = (put_before a y xs ≡ Some es) × Agrees a s
 
 form-sound : (y : Sym) (a : Assignment) (ds es xs : List Expression) (s r : FoundLetters) → put_before a y ds ≡ Some es → matching ds s ≡ matching xs r → Agrees a r → Writes a y xs es s
@@ -184,6 +184,11 @@ met-sound S.Add (add b d) a es xs s r q c = form-sound S.Add a (b ∷ d ∷ es) 
 met-sound S.If (if_expr f b d) a es xs s r q c = form-sound S.If a (f ∷ b ∷ d ∷ es) (if_expr f b d ∷ es) xs s r refl q c
 met-sound S.On (on f b d) a es xs s r q c = form-sound S.On a (f ∷ b ∷ d ∷ es) (on f b d ∷ es) xs s r refl q c
 met-sound _ _ a es xs s r q c = never-failed xs r q
+
+-- the same where something may be missing
+pub step-sound : (y : Sym) (a : Assignment) (es xs : List Expression) (s r : FoundLetters) → step y (matching es s) ≡ matching xs r → Agrees a r → Writes a y xs es s
+step-sound y a [] xs s r q c = never-failed xs r q
+step-sound y a (e ∷ es) xs s r q c = met-sound y e a es xs s r q c
 
 -- a pattern writes what it fits, with any trees that agree with those found
 abbrev WritesAll : Assignment → List Sym → List Expression → FoundLetters → Type 0

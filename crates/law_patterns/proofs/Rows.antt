@@ -22,7 +22,7 @@ SameLengths None None = Unit {0}
 SameLengths (Some xs) (Some ys) = SameLength xs ys
 SameLengths _ _ = ⊥
 
-put-alike : (y : Sym) (a b : Assignment) (xs ys : List Expression) → SameLength xs ys → SameLengths (put_before a y xs) (put_before b y ys)
+pub put-alike : (y : Sym) (a b : Assignment) (xs ys : List Expression) → SameLength xs ys → SameLengths (put_before a y xs) (put_before b y ys)
 put-alike (S.Letter k) a b xs ys h = h
 put-alike S.Input a b xs ys h = h
 put-alike S.Unit a b xs ys h = h

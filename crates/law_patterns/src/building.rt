@@ -37,7 +37,12 @@ pub(crate) fn build(
 
 /// Puts on the stack what the symbol makes: a letter's expression, or the form with the parts that
 /// it takes off. Whether they were there.
-fn make(alloc: Global, sym: Sym, letters: &Letters, stack: &mut Stack) -> Result<bool, Memory>
+pub(crate) fn make(
+    alloc: Global,
+    sym: Sym,
+    letters: &Letters,
+    stack: &mut Stack,
+) -> Result<bool, Memory>
     ensures { IfOk result (λ b. there b stack.new ≡ put_before (completed (found_of letters.now)) sym stack.old) }
 {
     match sym {

@@ -37,7 +37,11 @@ pub(crate) fn fit<'t>(
 }
 
 /// Matches the next expression against the symbol: whether they agree.
-fn meet<'t>(sym: Sym, todo: &mut Todo<'t>, letters: &mut Letters<'t>) -> Result<bool, Memory>
+pub(crate) fn meet<'t>(
+    sym: Sym,
+    todo: &mut Todo<'t>,
+    letters: &mut Letters<'t>,
+) -> Result<bool, Memory>
     ensures { IfOk result (λ b. going b todo.new (found_of letters.new) ≡ step sym (matching todo.old (found_of letters.old))) }
 {
     match todo.pop() {

@@ -8,9 +8,8 @@ pub mod Scopes
 pub mod NetworkLaws
 pub mod SameSides
 pub mod NamedLaws
-pub mod RowsExact
-pub mod Numbers
 pub mod AnsweredParts
 pub mod Gathered
 pub mod TableRows
+pub mod Numbers
 pub mod Answered
