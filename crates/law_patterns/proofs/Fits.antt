@@ -2,7 +2,7 @@
 use Rattle.std.proofs.Common.{◌≡◌, Bool, true, false, List, [], ◌∷◌, Option, Some, None, refl, sym, ap, ◌∙◌, subst}
 use Rattle.sample_core.specs.TypeTree.{TypeTree}
 use Rattle.sample_core.specs.TypeCode.{type_code}
-use Rattle.leaf_core.specs.Expression.{Expression, input, unit_expr, bool_expr, no_event_expr, fst, snd, event_expr, pair_expr, then_expr, add, if_expr, on}
+use Rattle.leaf_core.specs.Expression.{Expression, input, unit_expr, bool_expr, no_event_expr, fst, snd, event_expr, pair_expr, then_expr, neg, not_expr, add, sub, mul, if_expr, on}
 use Rattle.leaf_core.specs.ExpressionCode.{expression_code}
 use Rattle.leaf_core.specs.EqualityByCode.{same_by, same_by_decides}
 use Rattle.law_patterns.specs.declared.sym.Letter.{Letter}
@@ -73,7 +73,11 @@ fits-put S.Snd a s (d ∷ xs) c = (s, refl, c)
 fits-put S.Event a s (d ∷ xs) c = (s, refl, c)
 fits-put S.Pair a s (b ∷ d ∷ xs) c = (s, refl, c)
 fits-put S.Then a s (b ∷ d ∷ xs) c = (s, refl, c)
+fits-put S.Neg a s (d ∷ xs) c = (s, refl, c)
+fits-put S.Not a s (d ∷ xs) c = (s, refl, c)
 fits-put S.Add a s (b ∷ d ∷ xs) c = (s, refl, c)
+fits-put S.Sub a s (b ∷ d ∷ xs) c = (s, refl, c)
+fits-put S.Mul a s (b ∷ d ∷ xs) c = (s, refl, c)
 fits-put S.If a s (e ∷ b ∷ d ∷ xs) c = (s, refl, c)
 fits-put S.On a s (e ∷ b ∷ d ∷ xs) c = (s, refl, c)
 fits-put _ a s _ c = tt
@@ -180,7 +184,11 @@ met-sound S.Snd (snd d) a es xs s r q c = form-sound S.Snd a (d ∷ es) (snd d �
 met-sound S.Event (event_expr d) a es xs s r q c = form-sound S.Event a (d ∷ es) (event_expr d ∷ es) xs s r refl q c
 met-sound S.Pair (pair_expr b d) a es xs s r q c = form-sound S.Pair a (b ∷ d ∷ es) (pair_expr b d ∷ es) xs s r refl q c
 met-sound S.Then (then_expr b d) a es xs s r q c = form-sound S.Then a (b ∷ d ∷ es) (then_expr b d ∷ es) xs s r refl q c
+met-sound S.Neg (neg d) a es xs s r q c = form-sound S.Neg a (d ∷ es) (neg d ∷ es) xs s r refl q c
+met-sound S.Not (not_expr d) a es xs s r q c = form-sound S.Not a (d ∷ es) (not_expr d ∷ es) xs s r refl q c
 met-sound S.Add (add b d) a es xs s r q c = form-sound S.Add a (b ∷ d ∷ es) (add b d ∷ es) xs s r refl q c
+met-sound S.Sub (sub b d) a es xs s r q c = form-sound S.Sub a (b ∷ d ∷ es) (sub b d ∷ es) xs s r refl q c
+met-sound S.Mul (mul b d) a es xs s r q c = form-sound S.Mul a (b ∷ d ∷ es) (mul b d ∷ es) xs s r refl q c
 met-sound S.If (if_expr f b d) a es xs s r q c = form-sound S.If a (f ∷ b ∷ d ∷ es) (if_expr f b d ∷ es) xs s r refl q c
 met-sound S.On (on f b d) a es xs s r q c = form-sound S.On a (f ∷ b ∷ d ∷ es) (on f b d ∷ es) xs s r refl q c
 met-sound _ _ a es xs s r q c = never-failed xs r q

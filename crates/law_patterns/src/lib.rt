@@ -29,5 +29,6 @@ pub use laws::pattern_laws;
 pub use net_sym::{NetLetter, NetSym};
 pub use rewrite::{rewrite_expr, rewrite_net};
 pub use sym::{
-    ADD, EVENT, F, FALSE, FST, G, H, I, IF, Letter, NONE, ON, PAIR, SND, Sym, THEN, TRUE, UNIT, X,
+    ADD, EVENT, F, FALSE, FST, G, H, I, IF, Letter, MUL, NEG, NONE, NOT, ON, PAIR, SND, SUB, Sym,
+    THEN, TRUE, UNIT, X,
 };
