@@ -5,6 +5,7 @@ from model.laws import (
     FOLDED,
     SWITCH_LAWS,
     StepFault,
+    accumulated,
     arr,
     forward,
     laws_by_word,
@@ -14,7 +15,7 @@ from model.laws import (
     taken,
 )
 from model.texts import LAWS, NEW_LAWS, Step
-from model.trees import at, children, expanded, head, is_literal, is_network, preorder, replaced
+from model.trees import SWAP, at, children, expanded, head, is_literal, is_network, preorder, replaced
 from model.typed import WEIGHT, ExpressionFault, ExpressionWalk, Scope, check_types, event, is_form, list_of, pair, weight
 
 
@@ -173,12 +174,26 @@ class LeftSides:
             return both, seq(("first", self.n(given, output)), arr(right(self.e(other, d)))), pair(output, d)
         if law == "L8":
             return both, seq(("first", self.n(given, output)), arr(("fst", "x"))), output
+        if law == "L47":
+            return both, ("first", ("loopPre", self.c(d), self.n(pair(given, d), pair(output, d)))), out
+        if law == "L48":
+            second = seq(arr(SWAP), seq(("first", self.n(other, d)), arr(SWAP)))
+            return both, seq(("first", self.n(given, output)), second), pair(output, d)
         made = seq(("first", ("first", self.n(given, output))), arr(ASSOC))
         return pair(both, d), made, pair(output, pair(other, d))
 
     def pair_cell_side(self, _law, given, _output):
         both = given if is_form("Pair", given) else pair(given, self.t())
         return both, ("iPre", ("pair", self.c(both[1]), self.c(both[2]))), both
+
+    def cell_side(self, law, given, output):
+        if law == "L49":
+            return given, ("iPre", self.c(given)), given
+        if law == "L50":
+            return event(output), ("hold", self.c(output)), output
+        source, kept = self.carried(given), self.carried(output)
+        loop = ("loopPre", self.c(kept), arr(accumulated(self.e(pair(kept, source), kept), kept)))
+        return event(source), loop, event(kept)
 
     def loop_side(self, law, given, output):
         c, d = self.t(), self.t()
@@ -302,8 +317,9 @@ EXPRESSION_SIDES = sides(
 )
 NETWORK_SIDES = sides(
     arrow_side="L1 L2 L3 L4 L10 L11 L25 L26",
-    first_side="L5 L6 L7 L8 L9",
+    first_side="L5 L6 L7 L8 L9 L47 L48",
     pair_cell_side="L12",
+    cell_side="L49 L50 L51",
     loop_side="L13 L14 L15 L16 L17",
     event_side="L18 L19 L20 L21 L22",
     mapped_side="L23 L24",
