@@ -19,9 +19,15 @@ LEFT_WORDS = {
     "fst": "E7",
     "snd": "E8",
     "pair": "E9",
-    "if": "E10 E11 E12",
+    "if": "E10 E11 E12 E25",
     "on": "E13 E14",
     "add": "E15 E16 E17",
+    "sub": "E15 E19",
+    "mul": "E15 E20 E21 E22",
+    "and": "E15 E23",
+    "or": "E15 E23",
+    "not": "E15 E24",
+    "equal": "E15 E26",
     "nth": "E18",
     ">>>": "L1 L2 L3 L4 L7 L8 L9 L10 L11 L13 L14 L18 L19 L20 L21 L22 L23 L24 L25 L26 L27 L28 L29 L30 L35 L36 L40 L41 L45 L46 L48",
     "-->": "L43",
@@ -35,7 +41,7 @@ LEFT_WORDS = {
     "kSwitch": "L37 L38",
     "pSwitch": "L39",
     "arr": "L42",
-} | dict.fromkeys("neg sub mul less equal not and or".split(), "E15")
+} | dict.fromkeys(["neg", "less"], "E15")
 
 
 def laws_by_word(among):
@@ -115,6 +121,29 @@ def of_expressions(law, tree):
             return ("add", a, ("add", b, c))
         case "E18", ("nth", ("list", _, *elements), int(i), d) if elements:
             return elements[i] if 0 <= i < len(elements) else d
+    return of_operators(law, tree)
+
+
+def of_operators(law, tree):
+    match law, tree:
+        case "E19", ("sub", a, b):
+            return ("add", a, ("neg", b))
+        case "E20", ("mul", a, b):
+            return ("mul", b, a)
+        case "E21", ("mul", ("mul", a, b), c):
+            return ("mul", a, ("mul", b, c))
+        case "E22", ("mul", a, ("add", b, c)):
+            return ("add", ("mul", a, b), ("mul", a, c))
+        case "E23", ("and" | "or" as o, a, b):
+            if a not in ("true", "false"):
+                return (o, b, a)
+            return b if (a == "true") == (o == "and") else a
+        case "E24", ("not", ("not", a)):
+            return a
+        case "E25", ("if", ("not", c), a, b):
+            return ("if", c, b, a)
+        case "E26", ("equal", a, b):
+            return "true" if a == b else ("equal", b, a)
     return None
 
 

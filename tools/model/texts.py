@@ -24,8 +24,8 @@ from model.trees import (
 FILE_BYTES = 1_048_576
 LINE_BYTES = 65_536
 OPEN = 600
-LAWS = [f"E{k}" for k in range(1, 19)] + [f"L{k}" for k in range(1, 52)]
-LAWS_SINCE = {"2": ["L43", "L44", "L45", "L46"], "3": ["L47", "L48", "L49", "L50", "L51"]}
+LAWS = [f"E{k}" for k in range(1, 27)] + [f"L{k}" for k in range(1, 52)]
+LAWS_SINCE = {"2": ["L43", "L44", "L45", "L46"], "3": [f"E{k}" for k in range(19, 27)] + [f"L{k}" for k in range(47, 52)]}
 NEW_LAWS = [*LAWS_SINCE["2"], *LAWS_SINCE["3"]]
 
 

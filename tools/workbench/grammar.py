@@ -281,7 +281,7 @@ class Reader:
         if token.text in self.missing:
             version = next(version for version, laws in LAWS_SINCE.items() if token.text in laws)
             return SyntaxFault(token.at, f"{token.text} is a law of version {version}", f"write `laws {version}` in the first line", length=len(token.text))
-        return SyntaxFault(token.at, f"unknown law {token.text}", "laws are E1 to E18 and L1 to L51", length=len(token.text))
+        return SyntaxFault(token.at, f"unknown law {token.text}", "laws are E1 to E26 and L1 to L51", length=len(token.text))
 
     def word(self, word, mend):
         token = self.take(f"the word {word}")

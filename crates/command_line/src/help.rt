@@ -156,7 +156,7 @@ pub const TGT: &str = "The file of the network that the certificate leads to";
 
 /// Help on CERT.
 pub const CERT: &str =
-    "The certificate's file: `laws 1` or `laws 2`, and steps, such as `(step L4 forward (at))`";
+    "The certificate's file: `laws 1`, `2` or `3`, and steps, such as `(step L4 forward (at))`";
 
 /// Help on `check`.
 pub const CHECK: HelpText<'static> = HelpText {
