@@ -211,7 +211,7 @@ def laws_are_the_pages() -> None:
             told[name] = [re.sub(r"\bS\b", switch, side.replace("`", "")) for side in (left, right)]
     remarks = dict(re.findall(r"\bIn (E\d+), (.*?)\.", page.replace("`", "")))
     table = [line.split("\t") for line in (TOP / "tools/workbench/laws.tsv").read_text(encoding="utf-8").splitlines()]
-    want("the laws of the page", len(told) == 69 and [name for name, *_ in table] == list(told), len(told))
+    want("the laws of the page", len(told) == 77 and [name for name, *_ in table] == list(told), len(told))
     for name, left, right, *note in table:
         said = [f"{left}, {note[0].replace(' is ', ' ', 1)}" if note and name not in remarks else left, right]
         want(f"{name} of the page", told[name] == said and (name not in remarks or note == [remarks[name]]), (told[name], said))
