@@ -462,9 +462,11 @@ class Maker:
     # ---- texts
 
     def spaced(self, text):
-        """The text of a file with other space between its tokens, and comments; with nothing new in it sometimes of version 2."""
+        """The text of a file with other space between its tokens, and comments; sometimes of a later version than it needs."""
         if self.version == 2 and self.chance(0.2):
             text = text.replace("yampa 1", "yampa 2", 1).replace("laws 1", "laws 2", 1)
+            if self.chance(0.5):
+                text = text.replace("laws 2", "laws 3", 1)
         if self.chance(0.5):
             return text.encode()
         gaps = [" ", " ", " ", "\n", "\t", "\r\n", "  ", " ; a comment ( \n", ";\n"]

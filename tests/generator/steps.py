@@ -5,6 +5,7 @@ from model.laws import (
     FOLDED,
     SWITCH_LAWS,
     StepFault,
+    accumulated,
     arr,
     forward,
     laws_by_word,
@@ -14,7 +15,7 @@ from model.laws import (
     taken,
 )
 from model.texts import LAWS, NEW_LAWS, Step
-from model.trees import at, children, expanded, head, is_literal, is_network, preorder, replaced
+from model.trees import SWAP, at, children, expanded, head, is_literal, is_network, preorder, replaced
 from model.typed import WEIGHT, ExpressionFault, ExpressionWalk, Scope, check_types, event, is_form, list_of, pair, weight
 
 
@@ -126,6 +127,8 @@ class LeftSides:
     def if_side(self, law, given, output):
         e, f = self.e(given, output), self.e(given, output)
         condition = {"E10": "true", "E11": "false"}.get(law) or self.e(given, "Bool")
+        if law == "E25":
+            condition = ("not", condition)
         return given, ("if", condition, e, e if law == "E12" else f), output
 
     def folded_side(self, _law, given, output):
@@ -140,6 +143,20 @@ class LeftSides:
     def sum_side(self, law, given, _output):
         a, b = self.e(given, "Int"), self.e(given, "Int")
         return given, ("add", a, b) if law == "E16" else ("add", ("add", a, b), self.e(given, "Int")), "Int"
+
+    def product_side(self, law, given, _output):
+        a, b, c = [self.e(given, "Int") for _ in range(3)]
+        return given, {"E19": ("sub", a, b), "E20": ("mul", a, b), "E21": ("mul", ("mul", a, b), c)}.get(law, ("mul", a, ("add", b, c))), "Int"
+
+    def logic_side(self, law, given, _output):
+        if law == "E24":
+            return given, ("not", ("not", self.e(given, "Bool"))), "Bool"
+        if law == "E26":
+            kind = self.rng.choice(["Int", "Bool", self.t()])
+            a = self.e(given, kind)
+            return given, ("equal", a, a if self.maker.chance(0.5) else self.e(given, kind)), "Bool"
+        a = self.rng.choice(["true", "false", self.e(given, "Bool"), self.e(given, "Bool")])
+        return given, (self.rng.choice(["and", "or"]), a, self.e(given, "Bool")), "Bool"
 
     def nth_side(self, _law, given, output):
         elements = [self.e(given, output) for _ in range(self.rng.randint(1, 4))]
@@ -173,12 +190,26 @@ class LeftSides:
             return both, seq(("first", self.n(given, output)), arr(right(self.e(other, d)))), pair(output, d)
         if law == "L8":
             return both, seq(("first", self.n(given, output)), arr(("fst", "x"))), output
+        if law == "L47":
+            return both, ("first", ("loopPre", self.c(d), self.n(pair(given, d), pair(output, d)))), out
+        if law == "L48":
+            second = seq(arr(SWAP), seq(("first", self.n(other, d)), arr(SWAP)))
+            return both, seq(("first", self.n(given, output)), second), pair(output, d)
         made = seq(("first", ("first", self.n(given, output))), arr(ASSOC))
         return pair(both, d), made, pair(output, pair(other, d))
 
     def pair_cell_side(self, _law, given, _output):
         both = given if is_form("Pair", given) else pair(given, self.t())
         return both, ("iPre", ("pair", self.c(both[1]), self.c(both[2]))), both
+
+    def cell_side(self, law, given, output):
+        if law == "L49":
+            return given, ("iPre", self.c(given)), given
+        if law == "L50":
+            return event(output), ("hold", self.c(output)), output
+        source, kept = self.carried(given), self.carried(output)
+        loop = ("loopPre", self.c(kept), arr(accumulated(self.e(pair(kept, source), kept), kept)))
+        return event(source), loop, event(kept)
 
     def loop_side(self, law, given, output):
         c, d = self.t(), self.t()
@@ -295,15 +326,18 @@ EXPRESSION_SIDES = sides(
     on_side="E5 E13 E14",
     constant_side="E6",
     pair_side="E7 E8 E9",
-    if_side="E10 E11 E12",
+    if_side="E10 E11 E12 E25",
     folded_side="E15",
     sum_side="E16 E17",
     nth_side="E18",
+    product_side="E19 E20 E21 E22",
+    logic_side="E23 E24 E26",
 )
 NETWORK_SIDES = sides(
     arrow_side="L1 L2 L3 L4 L10 L11 L25 L26",
-    first_side="L5 L6 L7 L8 L9",
+    first_side="L5 L6 L7 L8 L9 L47 L48",
     pair_cell_side="L12",
+    cell_side="L49 L50 L51",
     loop_side="L13 L14 L15 L16 L17",
     event_side="L18 L19 L20 L21 L22",
     mapped_side="L23 L24",
@@ -320,6 +354,7 @@ class StepMaker:
 
     def __init__(self, maker):
         self.maker, self.rng = maker, maker.rng
+        self.expression_growths = EXPRESSION_GROWTHS + NEW_GROWTHS * (maker.version == 2)
         self.laws_by_word = laws_by_word([law for law in LAWS if maker.version == 2 or law not in NEW_LAWS])
         self.network_growths = NETWORK_GROWTHS + ["L43", "L44", "L46"] * (maker.version == 2)
 
@@ -378,7 +413,7 @@ class StepMaker:
         """A step backward from any place to a larger tree, or None."""
         position, tree = self.rng.choice(list(preorder(typed.places[()].tree)))
         place = typed.places[position]
-        law = self.rng.choice(self.network_growths if is_network(tree) else EXPRESSION_GROWTHS)
+        law = self.rng.choice(self.network_growths if is_network(tree) else self.expression_growths)
         given = self.grown(law, tree, place)
         return None if given is None else Step(law, "backward", position, expanded(given))
 
@@ -422,6 +457,27 @@ class StepMaker:
                 return ("add", ("add", a, b), c)
             case "E18", _:
                 return ("nth", ("list", place.output, tree), self.rng.choice([0, 0, 5]), tree)
+            case "E19", ("add", a, ("neg", b)):
+                return ("sub", a, b)
+            case "E20", ("mul", a, b):
+                return ("mul", b, a)
+            case "E21", ("mul", a, ("mul", b, c)):
+                return ("mul", ("mul", a, b), c)
+            case "E22", ("add", ("mul", a, b), ("mul", d, c)) if a == d:
+                return ("mul", a, ("add", b, c))
+            case "E23", ("and" | "or" as o, a, b) if b not in ("true", "false"):
+                return (o, b, a)
+            case "E23", _ if place.output == "Bool":
+                return self.rng.choice([("and", "true", tree), ("or", "false", tree)])
+            case "E24", _ if place.output == "Bool":
+                return ("not", ("not", tree))
+            case "E25", ("if", c, a, b):
+                return ("if", ("not", c), b, a)
+            case "E26", ("equal", a, b) if a != b:
+                return ("equal", b, a)
+            case "E26", "true":
+                a = e(t)
+                return ("equal", a, a)
         return self.grown_network(law, tree, place, e, t)
 
     def grown_network(self, law, tree, place, e, t):
@@ -556,3 +612,4 @@ def turned(step, before):
 
 NETWORK_GROWTHS = "L1 L2 L3 L5 L13 L17 L18 L20 L25 L31 L32 L35 L37 L38 L40 L42".split()
 EXPRESSION_GROWTHS = "E1 E2 E3 E6 E7 E8 E9 E10 E11 E12 E13 E14 E15 E16 E17 E18".split()
+NEW_GROWTHS = "E19 E20 E21 E22 E23 E24 E25 E26".split()

@@ -149,6 +149,7 @@ CERTIFICATE_MISTAKES = [
     (DOUBLED, AT_ONCE, "laws 1 (step L4 (at))", "behind the law stands forward or backward"),
     (DOUBLED, AT_ONCE, "laws 1 (step L99 forward (at))", "unknown law L99"),
     (DOUBLED, AT_ONCE, "laws 1 (step L43 forward (at))", "L43 is a law of version 2"),
+    (DOUBLED, AT_ONCE, "laws 2 (step L47 forward (at))", "L47 is a law of version 3"),
     (DOUBLED, AT_ONCE, DOUBLED, "this is a network, and a certificate is wanted"),
     (DOUBLED, AT_ONCE, "laws 1 (step L4 forward (at 65536))", "this number is from 0 to 65535"),
     (DOUBLED, AT_ONCE, "laws 1 (step L1 backward (at) " + "(>>> time " * 600, "the 601st parenthesis"),
@@ -210,7 +211,7 @@ def laws_are_the_pages() -> None:
             told[name] = [re.sub(r"\bS\b", switch, side.replace("`", "")) for side in (left, right)]
     remarks = dict(re.findall(r"\bIn (E\d+), (.*?)\.", page.replace("`", "")))
     table = [line.split("\t") for line in (TOP / "tools/workbench/laws.tsv").read_text(encoding="utf-8").splitlines()]
-    want("the laws of the page", len(told) == 64 and [name for name, *_ in table] == list(told), len(told))
+    want("the laws of the page", len(told) == 77 and [name for name, *_ in table] == list(told), len(told))
     for name, left, right, *note in table:
         said = [f"{left}, {note[0].replace(' is ', ' ', 1)}" if note and name not in remarks else left, right]
         want(f"{name} of the page", told[name] == said and (name not in remarks or note == [remarks[name]]), (told[name], said))

@@ -6,7 +6,8 @@ from model.typed import TypeFault, check_types
 
 ASSOC = ("pair", ("fst", ("fst", "x")), ("pair", ("snd", ("fst", "x")), ("snd", "x")))
 UNASSOC = ("pair", ("pair", ("fst", "x"), ("fst", ("snd", "x"))), ("snd", ("snd", "x")))
-REGROUPED = ("pair", ("pair", ("fst", ("fst", "x")), ("snd", "x")), ("snd", ("fst", "x")))
+CROSS = ("pair", ("pair", ("fst", ("fst", "x")), ("snd", "x")), ("snd", ("fst", "x")))
+HELD = ("on", ("fst", "x"), ("pair", ("snd", "x"), ("snd", "x")), ("pair", ("snd", "x"), ("snd", "x")))
 
 DISTRIBUTED = "pair fst snd neg add sub mul less equal not and or if event nth len list".split()
 FOLDED = "neg add sub mul less equal not and or".split()
@@ -18,22 +19,29 @@ LEFT_WORDS = {
     "fst": "E7",
     "snd": "E8",
     "pair": "E9",
-    "if": "E10 E11 E12",
+    "if": "E10 E11 E12 E25",
     "on": "E13 E14",
     "add": "E15 E16 E17",
+    "sub": "E15 E19",
+    "mul": "E15 E20 E21 E22",
+    "and": "E15 E23",
+    "or": "E15 E23",
+    "not": "E15 E24",
+    "equal": "E15 E26",
     "nth": "E18",
-    ">>>": "L1 L2 L3 L4 L7 L8 L9 L10 L11 L13 L14 L18 L19 L20 L21 L22 L23 L24 L25 L26 L27 L28 L29 L30 L35 L36 L40 L41 L45 L46",
+    ">>>": "L1 L2 L3 L4 L7 L8 L9 L10 L11 L13 L14 L18 L19 L20 L21 L22 L23 L24 L25 L26 L27 L28 L29 L30 L35 L36 L40 L41 L45 L46 L48",
     "-->": "L43",
     ">--": "L44",
-    "first": "L5 L6 L33 L34",
-    "iPre": "L12",
-    "loopPre": "L15 L16 L17",
+    "first": "L5 L6 L33 L34 L47",
+    "iPre": "L12 L49",
+    "hold": "L50",
+    "loopPre": "L15 L16 L17 L51",
     "switch": "L31",
     "dSwitch": "L32",
     "kSwitch": "L37 L38",
     "pSwitch": "L39",
     "arr": "L42",
-} | dict.fromkeys("neg sub mul less equal not and or".split(), "E15")
+} | dict.fromkeys(["neg", "less"], "E15")
 
 
 def laws_by_word(among):
@@ -51,6 +59,11 @@ def right(g):
 
 def mapped(g, carried):
     return ("on", "x", ("none", carried), ("event", ("then", ("snd", "x"), g)))
+
+
+def accumulated(g, kept):
+    both = ("pair", ("snd", ("fst", "x")), ("snd", "x"))
+    return ("on", ("fst", "x"), ("pair", ("none", kept), ("snd", "x")), ("then", both, ("then", g, ("pair", ("event", "x"), "x"))))
 
 
 def seq(f, g):
@@ -108,6 +121,29 @@ def of_expressions(law, tree):
             return ("add", a, ("add", b, c))
         case "E18", ("nth", ("list", _, *elements), int(i), d) if elements:
             return elements[i] if 0 <= i < len(elements) else d
+    return of_operators(law, tree)
+
+
+def of_operators(law, tree):
+    match law, tree:
+        case "E19", ("sub", a, b):
+            return ("add", a, ("neg", b))
+        case "E20", ("mul", a, b):
+            return ("mul", b, a)
+        case "E21", ("mul", ("mul", a, b), c):
+            return ("mul", a, ("mul", b, c))
+        case "E22", ("mul", a, ("add", b, c)):
+            return ("add", ("mul", a, b), ("mul", a, c))
+        case "E23", ("and" | "or" as o, a, b):
+            if a not in ("true", "false"):
+                return (o, b, a)
+            return b if (a == "true") == (o == "and") else a
+        case "E24", ("not", ("not", a)):
+            return a
+        case "E25", ("if", ("not", c), a, b):
+            return ("if", c, b, a)
+        case "E26", ("equal", a, b):
+            return "true" if a == b else ("equal", b, a)
     return None
 
 
@@ -192,6 +228,17 @@ def of_loops(law, tree):
             return ("loopPre", ("pair", c, d), seq(arr(UNASSOC), seq(f, arr(ASSOC))))
         case "L17", ("loopPre", _, ("first", f)):
             return f
+        case "L47", ("first", ("loopPre", c, f)):
+            return ("loopPre", c, seq(arr(CROSS), seq(("first", f), arr(CROSS))))
+        case "L48", (">>>", ("first", f), (">>>", ("arr", before), (">>>", ("first", g), ("arr", behind)))) if before == behind == SWAP:
+            return seq(seq(arr(SWAP), seq(("first", g), arr(SWAP))), ("first", f))
+        case "L49", ("iPre", c):
+            return ("loopPre", c, arr(SWAP))
+        case "L50", ("hold", c):
+            return ("loopPre", c, arr(HELD))
+        case "L51", ("loopPre", z, ("arr", e)):
+            g = accumulator(e)
+            return None if g is None else ("accumBy", g, z)
     return None
 
 
@@ -217,6 +264,14 @@ def mapper(tree):
     return None
 
 
+def accumulator(tree):
+    """The function that an accumulator takes with each event, where that is all that an expression does."""
+    match tree:
+        case ("on", ("fst", "x"), ("pair", ("none", kept), _), ("then", _, ("then", g, _))) if tree == accumulated(g, kept):
+            return g
+    return None
+
+
 SWITCH_LAWS = {f"L{k}": "switch" if k % 2 else "dSwitch" for k in range(27, 35)} | dict.fromkeys(["L35", "L36", "L37"])
 
 
@@ -230,7 +285,7 @@ def of_switches(law, tree):
         case ("L31" | "L32"), (word, (">>>", f, ("arr", ("pair", "x", ("none", _)))), _) if word == s:
             return f
         case ("L33" | "L34"), ("first", (word, f, t)) if word == s:
-            return (s, seq(("first", f), arr(REGROUPED)), ("first", t))
+            return (s, seq(("first", f), arr(CROSS)), ("first", t))
         case "L35", (">>>", ("arr", ("pair", e, ("none", _))), ("rSwitch", f, _)):
             return seq(arr(e), f)
         case "L36", (">>>", ("rSwitch", f, t), ("arr", h)):

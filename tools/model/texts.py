@@ -24,8 +24,9 @@ from model.trees import (
 FILE_BYTES = 1_048_576
 LINE_BYTES = 65_536
 OPEN = 600
-LAWS = [f"E{k}" for k in range(1, 19)] + [f"L{k}" for k in range(1, 47)]
-NEW_LAWS = ["L43", "L44", "L45", "L46"]
+LAWS = [f"E{k}" for k in range(1, 27)] + [f"L{k}" for k in range(1, 52)]
+LAWS_SINCE = {"2": ["L43", "L44", "L45", "L46"], "3": [f"E{k}" for k in range(19, 27)] + [f"L{k}" for k in range(47, 52)]}
+NEW_LAWS = [*LAWS_SINCE["2"], *LAWS_SINCE["3"]]
 
 
 class TextFault(Exception):
@@ -60,6 +61,8 @@ def step_text(step):
 
 def certificate_text(steps):
     version = 2 if any(step.law in NEW_LAWS or is_new(step.given) for step in steps) else 1
+    if any(step.law in LAWS_SINCE["3"] for step in steps):
+        version = 3
     return "".join(line + "\n" for line in [f"laws {version}", *map(step_text, steps)])
 
 
@@ -80,7 +83,10 @@ SORTS = {
     "E": (EXPRESSION_WORDS, {**EXPRESSION_FORMS, **EXPRESSION_SUGAR}),
     "N": (NETWORK_WORDS + NETWORK_SUGAR_WORDS, {**NETWORK_FORMS, **NETWORK_SUGAR}),
 }
-VERSIONS = {"1": NEW_FORMS + NEW_LAWS, "2": []}
+VERSIONS = {
+    "yampa": {"1": NEW_FORMS, "2": []},
+    "laws": {"1": NEW_FORMS + NEW_LAWS, "2": LAWS_SINCE["3"], "3": []},
+}
 
 
 def tokens_of(text):
@@ -133,10 +139,10 @@ class Reader:
     def header(self, before, *behind):
         """Takes the words before the version, the version and those behind it; what the version lacks isn't read from there on."""
         found = [token for token, _ in self.tokens[: 2 + len(behind)]]
-        if len(found) < 2 + len(behind) or [found[0], *found[2:]] != [before, *behind] or found[1] not in VERSIONS:
+        if len(found) < 2 + len(behind) or [found[0], *found[2:]] != [before, *behind] or found[1] not in VERSIONS[before]:
             raise TextFault("header")
         self.read = len(found)
-        self.missing = VERSIONS[found[1]]
+        self.missing = VERSIONS[before][found[1]]
 
     def number(self, token, place):
         if not re.fullmatch(r"-?[0-9]+", token):

@@ -1,7 +1,7 @@
 """Reads the text of one network or certificate strictly from the left; the first word that doesn't fit is explained."""
 import re
 
-from model.texts import LAWS, OPEN, SORTS, VERSIONS
+from model.texts import LAWS, LAWS_SINCE, OPEN, SORTS, VERSIONS
 from model.trees import EXPRESSION_WORDS, NETWORK_SUGAR_WORDS, NETWORK_WORDS, NUMBERS
 from workbench.written import Node, SyntaxFault, near, place, tokens_of
 
@@ -63,9 +63,9 @@ class Reader:
     def header(self):
         """The words `yampa`, the version and `input`."""
         texts = [token.text for token in self.tokens[:3]]
-        if len(texts) < 3 or texts[0] != "yampa" or texts[1] not in VERSIONS or texts[2] != "input":
+        if len(texts) < 3 or texts[0] != "yampa" or texts[1] not in VERSIONS["yampa"] or texts[2] != "input":
             raise self.no_header(texts)
-        self.read, self.missing = 3, VERSIONS[texts[1]]
+        self.read, self.missing = 3, VERSIONS["yampa"][texts[1]]
         return texts[1]
 
     def no_header(self, texts):
@@ -84,7 +84,7 @@ class Reader:
         if texts[0] != "yampa":
             why = "this looks like a stream" if re.match(r"^\+?-?[0-9]|^\(|^(unit|true|false|none)$", texts[0]) else "the word yampa is missing"
             return SyntaxFault(self.tokens[0].at, why, mend, "header", len(texts[0]))
-        if len(texts) < 2 or texts[1] not in VERSIONS:
+        if len(texts) < 2 or texts[1] not in VERSIONS["yampa"]:
             at = self.tokens[1].at if len(texts) > 1 else len(data)
             named = "a file with names, which begins `yampa source 1`, is made one by `yampa expand`"
             return SyntaxFault(at, "behind yampa stands the version, 1 or 2", f"{mend}; {named}", "header")
@@ -279,8 +279,9 @@ class Reader:
 
     def no_law(self, token):
         if token.text in self.missing:
-            return SyntaxFault(token.at, f"{token.text} is a law of version 2", "write `laws 2` in the first line", length=len(token.text))
-        return SyntaxFault(token.at, f"unknown law {token.text}", "laws are E1 to E18 and L1 to L46", length=len(token.text))
+            version = next(version for version, laws in LAWS_SINCE.items() if token.text in laws)
+            return SyntaxFault(token.at, f"{token.text} is a law of version {version}", f"write `laws {version}` in the first line", length=len(token.text))
+        return SyntaxFault(token.at, f"unknown law {token.text}", "laws are E1 to E26 and L1 to L51", length=len(token.text))
 
     def word(self, word, mend):
         token = self.take(f"the word {word}")

@@ -13,9 +13,12 @@ MEANINGS = {
     "SWAP": "(pair (snd x) (fst x))",
     "UNASSOC": "(pair (pair (fst x) (fst (snd x))) (snd (snd x)))",
     "ASSOC": "(pair (fst (fst x)) (pair (snd (fst x)) (snd x)))",
+    "CROSS": "(pair (pair (fst (fst x)) (snd x)) (snd (fst x)))",
+    "HELD": "(on (fst x) (pair (snd x) (snd x)) (pair (snd x) (snd x)))",
     "LEFT(g)": "(pair (then (fst x) g) (snd x))",
     "RIGHT(g)": "(pair (fst x) (then (snd x) g))",
     "MAP(g)": "(on x (none T) (event (then (snd x) g)))",
+    "ACCUM(g)": "(on (fst x) (pair (none T) (snd x)) (then (pair (snd (fst x)) (snd x)) (then g (pair (event x) x))))",
 }
 
 

@@ -127,10 +127,10 @@ def read_steps(data):
         raise SyntaxFault(FILE_BYTES, f"the file has over {FILE_BYTES:,} bytes", kind="too long")
     reader = Reader(data)
     texts = [token.text for token in reader.tokens[:2]]
-    if len(texts) < 2 or texts[0] != "laws" or texts[1] not in VERSIONS:
+    if len(texts) < 2 or texts[0] != "laws" or texts[1] not in VERSIONS["laws"]:
         why = "this is a network, and a certificate is wanted" if texts[:1] == ["yampa"] else "a certificate begins with `laws 1`"
         raise SyntaxFault(reader.tokens[0].at if texts else 0, why, "behind it stand its steps", "header")
-    reader.read, reader.missing = 2, VERSIONS[texts[1]]
+    reader.read, reader.missing = 2, VERSIONS["laws"][texts[1]]
     steps = []
     while not reader.ended():
         steps.append(reader.step())

@@ -13,7 +13,7 @@ use Rattle.net_tree.specs.LawStep.{Step}
 use Rattle.net_tree.specs.declared.law_step.Law.{Law}
 use Rattle.net_tree.specs.declared.law_step.Direction.{Direction}
 use Rattle.expr_laws.proofs.Numbers.{one_right_side}
-use Rattle.law_rules.proofs.RowsExact.{one-right_side}
+use Rattle.law_rules.proofs.Numbers.{one-right_side}
 use Rattle.expr_laws.specs.Answer as E
 use Rattle.expr_laws.specs.Answer.{ExpressionAnswer}
 use Rattle.law_rules.specs.Answer as N

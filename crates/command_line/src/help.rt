@@ -17,7 +17,7 @@ pub const PROGRAM: &str = "Checks and runs networks of signal functions.";
 /// The program's version, the language's, and what both are proved with.
 pub const VERSION: &str = "\
 2.1
-language 2, and 1
+language 3, 2 and 1
 proved with rattle-kit-13f, logic dac8208d650f15bf";
 
 /// The text behind the program's commands and options.
@@ -156,7 +156,7 @@ pub const TGT: &str = "The file of the network that the certificate leads to";
 
 /// Help on CERT.
 pub const CERT: &str =
-    "The certificate's file: `laws 1` or `laws 2`, and steps, such as `(step L4 forward (at))`";
+    "The certificate's file: `laws 1`, `2` or `3`, and steps, such as `(step L4 forward (at))`";
 
 /// Help on `check`.
 pub const CHECK: HelpText<'static> = HelpText {

@@ -4,4 +4,5 @@ pub mod Numbers
 pub mod RowValues
 pub mod RowTypes
 pub mod Elements
+pub mod Products
 pub mod Answered

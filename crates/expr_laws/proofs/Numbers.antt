@@ -15,7 +15,7 @@ numbered : {n : ℕ} {l r : Expression} → ExpressionRow n l r → (1 ≤ n) ×
 numbered row_e1 = (omega arith, omega arith)
 numbered _ = (omega arith, omega arith)
 
--- there is a row of a number exactly from 1 to 18
+-- there is a row of a number exactly from 1 to the last law's
 pub row_numbers : RowNumbersLaw
 row_numbers n = (
   λ s. (let h = numbered s.2 in (h.0, omega (arith, h.1))),

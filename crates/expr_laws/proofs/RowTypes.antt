@@ -7,7 +7,7 @@ use Rattle.leaf_core.specs.Expression.{Expression, Expressions}
 use Rattle.leaf_core.specs.ExpressionValue.{value_of}
 use Rattle.leaf_core.specs.ExpressionTyping.{ExpressionTyped, ExpressionsTyped, input_typed, param_typed, unit_typed, bool_typed, int_typed, pair_typed, fst_typed, snd_typed, then_typed, neg_typed, add_typed, sub_typed, mul_typed, less_typed, equal_typed, not_typed, and_typed, or_typed, if_typed, no_event_typed, event_typed, on_typed, list_typed, nth_typed, len_typed, no_more_typed, and_then_typed}
 use Rattle.leaf_core.proofs.Uniqueness.{one_type}
-use Rattle.expr_laws.specs.Rows.{each_then, literal_for, element_or, picked, Spread, pair_spread, fst_spread, snd_spread, neg_spread, add_spread, sub_spread, mul_spread, less_spread, equal_spread, not_spread, and_spread, or_spread, if_spread, event_spread, nth_spread, len_spread, list_spread, HasNoPart, param_constant, unit_constant, bool_constant, int_constant, no_event_constant, list_constant, OnLiterals, neg_literal, add_literals, sub_literals, mul_literals, less_literals, equal_units, equal_bools, equal_ints, not_literal, and_literals, or_literals, ExpressionRow, row_e1, row_e2, row_e3, row_e4, row_e5, row_e6, row_e7, row_e8, row_e9, row_e10, row_e11, row_e12, row_e13, row_e14, row_e15, row_e16, row_e17, row_e18}
+use Rattle.expr_laws.specs.Rows.{each_then, literal_for, element_or, picked, Spread, pair_spread, fst_spread, snd_spread, neg_spread, add_spread, sub_spread, mul_spread, less_spread, equal_spread, not_spread, and_spread, or_spread, if_spread, event_spread, nth_spread, len_spread, list_spread, HasNoPart, param_constant, unit_constant, bool_constant, int_constant, no_event_constant, list_constant, OnLiterals, neg_literal, add_literals, sub_literals, mul_literals, less_literals, equal_units, equal_bools, equal_ints, not_literal, and_literals, or_literals, ExpressionRow, row_e1, row_e2, row_e3, row_e4, row_e5, row_e6, row_e7, row_e8, row_e9, row_e10, row_e11, row_e12, row_e13, row_e14, row_e15, row_e16, row_e17, row_e18, row_e19, row_e20, row_e21, row_e22, row_e23, row_e24, row_e25, row_e26, Turned, and_true, and_false, or_true, or_false, and_turned, or_turned, Compared, equal_same, equal_turned}
 
 each_typed : {f : Expression} {es : Expressions} {Ps : List TypeTree} {A C T : TypeTree} → ExpressionTyped f Ps A C → ExpressionsTyped es Ps C T → ExpressionsTyped (each_then f es) Ps A T
 each_typed f no_more_typed = no_more_typed
@@ -63,6 +63,18 @@ picked_typed : {es : Expressions} {d : Expression} {Ps : List TypeTree} {A T : T
 picked_typed (pos n) hs k = element_typed n hs k
 picked_typed (negsuc n) hs k = k
 
+turned_typed : {o r : Expression} {Ps : List TypeTree} {A B : TypeTree} → Turned o r → ExpressionTyped o Ps A B → ExpressionTyped r Ps A B
+turned_typed and_true (and_typed h k) = k
+turned_typed and_false (and_typed h k) = bool_typed
+turned_typed or_true (or_typed h k) = bool_typed
+turned_typed or_false (or_typed h k) = k
+turned_typed (and_turned q) (and_typed h k) = and_typed k h
+turned_typed (or_turned q) (or_typed h k) = or_typed k h
+
+compared_typed : {o r : Expression} {Ps : List TypeTree} {A B : TypeTree} → Compared o r → ExpressionTyped o Ps A B → ExpressionTyped r Ps A B
+compared_typed equal_same (equal_typed h k) = bool_typed
+compared_typed (equal_turned q) (equal_typed h k) = equal_typed k h
+
 second_same : {A B C D : TypeTree} → pair_ty A B ≡ pair_ty C D → B ≡ D
 second_same q = cc
 
@@ -88,3 +100,11 @@ row_type n l r (row_e15 c) Ps A B h = literal_typed c h _ _
 row_type n l r row_e16 Ps A B (add_typed h k) = add_typed k h
 row_type n l r row_e17 Ps A B (add_typed (add_typed h k) m) = add_typed h (add_typed k m)
 row_type n l r (row_e18 {i = i}) Ps A B (nth_typed (list_typed hs) k d) = picked_typed i hs d
+row_type n l r row_e19 Ps A B (sub_typed h k) = add_typed h (neg_typed k)
+row_type n l r row_e20 Ps A B (mul_typed h k) = mul_typed k h
+row_type n l r row_e21 Ps A B (mul_typed (mul_typed h k) m) = mul_typed h (mul_typed k m)
+row_type n l r row_e22 Ps A B (mul_typed h (add_typed k m)) = add_typed (mul_typed h k) (mul_typed h m)
+row_type n l r (row_e23 t) Ps A B h = turned_typed t h
+row_type n l r row_e24 Ps A B (not_typed (not_typed h)) = h
+row_type n l r row_e25 Ps A B (if_typed (not_typed h) k m) = if_typed h m k
+row_type n l r (row_e26 c) Ps A B h = compared_typed c h

@@ -1,16 +1,19 @@
 -- Both sides of a row have one value, at typed parameters and inputs.
-use Rattle.std.proofs.Common.{◌≡◌, ℕ, zero, suc, pos, ◌+ℤ◌, Bool, true, false, List, refl, sym, ap, ◌∙◌, w64, ◌∷◌}
+use Rattle.std.proofs.Common.{◌≡◌, ℕ, zero, suc, pos, ◌+ℤ◌, ◌*ℤ◌, neg_ℤ, Bool, true, false, not, ◌&&◌, ◌||◌, List, refl, sym, ap, ap₂, ◌∙◌, w64, ◌∷◌}
 use Rattle.std.specs.Int.{int_wrap}
-use Rattle.std.proofs.lemmas.Int.{int_wrap-add_left, int_wrap-add_right}
-use Rattle.std.proofs.Math.IntN.{+ℤ_comm, +ℤ_assoc}
-use Rattle.sample_core.specs.Datum.{Datum, pair, int, list, left, right, int_of, list_of}
-use Rattle.sample_core.specs.TypeTree.{TypeTree, pair_ty}
-use Rattle.sample_core.specs.HasType.{HasType, pair_has, TypedParams}
-use Rattle.leaf_core.specs.Expression.{Expression, Expressions, pair_expr, fst, snd, no_more, and_then}
-use Rattle.leaf_core.specs.ExpressionValue.{value_of, values_of, choose, is_true, wrap, nth_of}
-use Rattle.leaf_core.specs.ExpressionTyping.{ExpressionTyped, pair_typed, fst_typed}
+use Rattle.std.proofs.lemmas.Int.{int_wrap-add_left, int_wrap-add_right, int_wrap-mul_left, int_wrap-mul_right}
+use Rattle.std.proofs.Math.IntN.{+ℤ_comm, +ℤ_assoc, *ℤ_comm}
+use Rattle.std.proofs.Math.Bool.{and_comm, or_comm, not-not}
+use Rattle.sample_core.specs.Datum.{Datum, pair, bool, int, list, left, right, int_of, list_of}
+use Rattle.sample_core.specs.TypeTree.{TypeTree, bool_ty, pair_ty}
+use Rattle.sample_core.specs.HasType.{HasType, bool_has, pair_has, TypedParams}
+use Rattle.leaf_core.specs.Expression.{Expression, Expressions, pair_expr, fst, snd, not_expr, no_more, and_then}
+use Rattle.leaf_core.specs.ExpressionValue.{value_of, values_of, choose, is_true, wrap, nth_of, same_datum}
+use Rattle.leaf_core.specs.ExpressionTyping.{ExpressionTyped, pair_typed, fst_typed, not_typed, and_typed, or_typed}
+use Rattle.leaf_core.proofs.SameDatum.{same_datum-refl, same_datum-true, Decides-same_datum, as_same_datum}
 use Rattle.leaf_core.proofs.Soundness.{typed_value}
-use Rattle.expr_laws.specs.Rows.{each_then, literal_for, element_or, Spread, list_spread, HasNoPart, param_constant, OnLiterals, neg_literal, ExpressionRow, row_e4, row_e6, row_e9, row_e12, row_e15, row_e16, row_e17, row_e18}
+use Rattle.expr_laws.specs.Rows.{each_then, literal_for, element_or, Spread, list_spread, HasNoPart, param_constant, OnLiterals, neg_literal, ExpressionRow, row_e4, row_e6, row_e9, row_e12, row_e15, row_e16, row_e17, row_e18, row_e19, row_e20, row_e21, row_e22, row_e23, row_e24, row_e25, row_e26, Turned, and_true, and_false, or_true, or_false, and_turned, or_turned, Compared, equal_same, equal_turned}
+use Rattle.expr_laws.proofs.Products.{*ℤ-+ℤ, *ℤ_assoc}
 
 values_of_each : (f : Expression) (es : Expressions) (ps : List Datum) (x : Datum) → values_of es ps (value_of f ps x) ≡ values_of (each_then f es) ps x
 values_of_each f no_more ps x = refl
@@ -45,6 +48,33 @@ element_value no_more n d ps x = refl
 element_value (and_then e es) zero d ps x = refl
 element_value (and_then e es) (suc n) d ps x = element_value es n d ps x
 
+-- a truth value is one
+truth : {v : Datum} → HasType v bool_ty → bool (is_true v) ≡ v
+truth bool_has = refl
+
+turned_value : {o r : Expression} → Turned o r → (Ps : List TypeTree) (A B : TypeTree) → ExpressionTyped o Ps A B → (ps : List Datum) (x : Datum) → TypedParams Ps ps → HasType x A
+    → value_of o ps x ≡ value_of r ps x
+turned_value (and_true {b = e}) Ps A B (and_typed h k) ps x i j = truth (typed_value e Ps A bool_ty k ps x i j)
+turned_value and_false Ps A B h ps x i j = refl
+turned_value or_true Ps A B h ps x i j = refl
+turned_value (or_false {b = e}) Ps A B (or_typed h k) ps x i j = truth (typed_value e Ps A bool_ty k ps x i j)
+turned_value (and_turned {a = a} {b = b} q) Ps A B h ps x i j = ap bool (and_comm (is_true (value_of a ps x)) (is_true (value_of b ps x)))
+turned_value (or_turned {a = a} {b = b} q) Ps A B h ps x i j = ap bool (or_comm (is_true (value_of a ps x)) (is_true (value_of b ps x)))
+
+compared_value : {o r : Expression} → Compared o r → (ps : List Datum) (x : Datum) → value_of o ps x ≡ value_of r ps x
+compared_value (equal_same {a = a}) ps x = ap bool (same_datum-refl (value_of a ps x))
+compared_value (equal_turned {a = a} {b = b} q) ps x =
+    let v = value_of a ps x in
+    let w = value_of b ps x in
+    ap bool (as_same_datum (same_datum v w) w v (λ e. sym (same_datum-true v w e), λ e. (Decides-same_datum v w).1 (sym e)))
+
+other_choice : (t : Bool) (v w : Datum) → choose (not t) v w ≡ choose t w v
+other_choice true v w = refl
+other_choice false v w = refl
+
+twice_not : {e : Expression} {Ps : List TypeTree} {A B : TypeTree} → ExpressionTyped (not_expr (not_expr e)) Ps A B → ExpressionTyped e Ps A bool_ty
+twice_not (not_typed (not_typed h)) = h
+
 pub row_value : (n : ℕ) (l r : Expression) → ExpressionRow n l r → (Ps : List TypeTree) (A B : TypeTree) → ExpressionTyped l Ps A B → (ps : List Datum) (x : Datum) → TypedParams Ps ps
     → HasType x A → value_of l ps x ≡ value_of r ps x
 row_value n l r (row_e4 s) Ps A B h ps x i j = spread_value s ps x
@@ -59,4 +89,22 @@ row_value n l r (row_e17 {a = a} {b = b} {c = c}) Ps A B h ps x i j =
     let o = int_of (value_of c ps x) in
     ap int (int_wrap-add_left w64 (m +ℤ n) o ∙ ap (int_wrap w64) (+ℤ_assoc m n o) ∙ sym (int_wrap-add_right w64 m (n +ℤ o)))
 row_value n l r (row_e18 {e = e} {es = es} {i = pos m} {d = d}) Ps A B h ps x i j = element_value (and_then e es) m d ps x
+row_value n l r (row_e19 {a = a} {b = b}) Ps A B h ps x i j = sym (ap int (int_wrap-add_right w64 (int_of (value_of a ps x)) (neg_ℤ (int_of (value_of b ps x)))))
+row_value n l r (row_e20 {a = a} {b = b}) Ps A B h ps x i j = ap wrap (*ℤ_comm (int_of (value_of a ps x)) (int_of (value_of b ps x)))
+row_value n l r (row_e21 {a = a} {b = b} {c = c}) Ps A B h ps x i j =
+    let m = int_of (value_of a ps x) in
+    let n = int_of (value_of b ps x) in
+    let o = int_of (value_of c ps x) in
+    ap int (int_wrap-mul_left w64 (m *ℤ n) o ∙ ap (int_wrap w64) (*ℤ_assoc m n o) ∙ sym (int_wrap-mul_right w64 m (n *ℤ o)))
+row_value n l r (row_e22 {a = a} {b = b} {c = c}) Ps A B h ps x i j =
+    let m = int_of (value_of a ps x) in
+    let n = int_of (value_of b ps x) in
+    let o = int_of (value_of c ps x) in
+    ap int
+    (int_wrap-mul_right w64 m (n +ℤ o) ∙ ap (int_wrap w64) (*ℤ-+ℤ m n o)
+    ∙ sym (int_wrap-add_left w64 (m *ℤ n) (int_wrap w64 (m *ℤ o)) ∙ int_wrap-add_right w64 (m *ℤ n) (m *ℤ o)))
+row_value n l r (row_e23 t) Ps A B h ps x i j = turned_value t Ps A B h ps x i j
+row_value n l r (row_e24 {a = a}) Ps A B h ps x i j = ap bool (not-not (is_true (value_of a ps x))) ∙ truth (typed_value a Ps A bool_ty (twice_not h) ps x i j)
+row_value n l r (row_e25 {c = c} {a = a} {b = b}) Ps A B h ps x i j = other_choice (is_true (value_of c ps x)) (value_of a ps x) (value_of b ps x)
+row_value n l r (row_e26 c) Ps A B h ps x i j = compared_value c ps x
 row_value n l r _ Ps A B h ps x i j = refl

@@ -11,13 +11,13 @@ use Rattle.law_patterns.specs.Matching.{FoundLetters, going, ended, built, rewri
 use Rattle.law_patterns.specs.Pattern.{Assignment, filled}
 use Rattle.law_patterns.specs.Rule.{Related, RuleInstance}
 use Rattle.law_patterns.proofs.Rows.{rewritten-some}
-use Rattle.expr_laws.specs.Rows.{literal_for, neg_spread, unit_constant, equal_units, ExpressionRow, row_e1, row_e2, row_e3, row_e4, row_e5, row_e6, row_e7, row_e8, row_e9, row_e10, row_e11, row_e12, row_e13, row_e14, row_e15, row_e16, row_e17, row_e18}
-use Rattle.expr_laws.specs.Direct.{law4, law6, law15, law18}
+use Rattle.expr_laws.specs.Rows.{literal_for, neg_spread, unit_constant, equal_units, ExpressionRow, row_e1, row_e2, row_e3, row_e4, row_e5, row_e6, row_e7, row_e8, row_e9, row_e10, row_e11, row_e12, row_e13, row_e14, row_e15, row_e16, row_e17, row_e18, row_e19, row_e20, row_e21, row_e22, row_e23, row_e24, row_e25, row_e26, and_true, equal_same}
+use Rattle.expr_laws.specs.Direct.{law4, law6, law15, law18, law23, law26}
 use Rattle.expr_laws.specs.Table.{rule_at, left_at, right_at}
 use Rattle.expr_laws.specs.declared.table.Rule.{Rule}
 use Rattle.expr_laws.specs.declared.table.Rule.TheVariants as R
 use Rattle.expr_laws.specs.declared.table.TheConstants.{LAWS}
-use Rattle.expr_laws.proofs.NamedLaws.{IsRight, law4-gives, law6-gives, law15-gives, law18-gives, spread-is, constant-is, on_literals-is}
+use Rattle.expr_laws.proofs.NamedLaws.{IsRight, law4-gives, law6-gives, law15-gives, law18-gives, law23-gives, law26-gives, spread-is, constant-is, on_literals-is, turned-is, compared-is}
 
 -- what a rule makes of an expression, if anything
 abbrev pub made : Rule → List Sym → List Sym → Expression → Option Expression
@@ -27,6 +27,8 @@ made R.Spread left right e = law4 e
 made R.Constant left right e = law6 e
 made R.Compute left right e = law15 e
 made R.Pick left right e = law18 e
+made R.Turn left right e = law23 e
+made R.Compare left right e = law26 e
 
 -- at the second place of a letter the same expression stands
 again : (n : ℕ) (s : FoundLetters) (e : Expression) → built (right_at n) (ended (going (same_by expression_code e e) [] s)) ≡ built (right_at n) (Some s)
@@ -39,6 +41,8 @@ made-is (row_e6 {k = k} c) = ap (λ b. cond b (Some k) None) (constant-is c)
 made-is (row_e9 {e = e}) = again 9 _ e
 made-is (row_e12 {e = e}) = again 12 _ e
 made-is (row_e15 {o = o} c) = ap (λ b. cond b (Some (literal_for (value_of o [] unit))) None) (on_literals-is c)
+made-is (row_e23 t) = turned-is t
+made-is (row_e26 c) = compared-is c
 made-is row_e1 = refl
 made-is _ = refl
 
@@ -99,6 +103,14 @@ all =
     (λ a. row_e16) and
     (λ a. row_e17) and
     (found (row_e18 {T = unit_ty} {e = input} {es = no_more} {i = pos 0} {d = input}), law18-gives) and
+    (λ a. row_e19) and
+    (λ a. row_e20) and
+    (λ a. row_e21) and
+    (λ a. row_e22) and
+    (found (row_e23 (and_true {b = input})), law23-gives) and
+    (λ a. row_e24) and
+    (λ a. row_e25) and
+    (found (row_e26 (equal_same {a = input})), law26-gives) and
     tt
 
 -- what stands at any number

@@ -4,7 +4,9 @@ use Rattle.std.specs.Prelude.{ℤ, Bool, true, false, ◌&&◌, cond, [], Option
 use Rattle.sample_core.specs.Datum.{unit}
 use Rattle.leaf_core.specs.Expression.{Expression, Expressions, param, unit_expr, bool_expr, int_expr, pair_expr, fst, snd, then_expr, neg, add, sub, mul, less, equal, not_expr, and_expr, or_expr, if_expr, no_event_expr, event_expr, list_expr, nth, len, no_more, and_then}
 use Rattle.leaf_core.specs.ExpressionValue.{value_of}
-use Rattle.expr_laws.specs.Rows.{each_then, literal_for, picked}
+use Rattle.leaf_core.specs.ExpressionCode.{expression_code}
+use Rattle.leaf_core.specs.EqualityByCode.{same_by}
+use Rattle.expr_laws.specs.Rows.{each_then, literal_for, picked, is_bool}
 
 -- an operator with each of its parts behind f
 abbrev pub spread : Expression → Expression → Option Expression
@@ -52,11 +54,6 @@ abbrev pub is_int : Expression → Bool
 is_int (int_expr n) = true
 is_int _ = false
 
--- whether an expression is `true` or `false`
-abbrev pub is_bool : Expression → Bool
-is_bool (bool_expr b) = true
-is_bool _ = false
-
 -- whether two expressions are literals of one type
 abbrev pub are_alike : Expression → Expression → Bool
 are_alike unit_expr unit_expr = true
@@ -95,3 +92,31 @@ picked_from _ _ d = None
 abbrev pub law18 : Expression → Option Expression
 law18 (nth e i d) = picked_from e i d
 law18 _ = None
+
+-- what `and` of two expressions is where the first is a literal, else `and` of the second and the
+-- first
+abbrev pub turned_and : Expression → Expression → Expression
+turned_and (bool_expr true) b = b
+turned_and (bool_expr false) b = bool_expr false
+turned_and a b = and_expr b a
+
+-- the same of `or`
+abbrev pub turned_or : Expression → Expression → Expression
+turned_or (bool_expr true) b = bool_expr true
+turned_or (bool_expr false) b = b
+turned_or a b = or_expr b a
+
+-- the same of an expression that is one of both
+abbrev pub law23 : Expression → Option Expression
+law23 (and_expr a b) = Some (turned_and a b)
+law23 (or_expr a b) = Some (turned_or a b)
+law23 _ = None
+
+-- `true` where two expressions are the same, else `equal` of the second and the first
+abbrev pub turned_equal : Expression → Expression → Expression
+turned_equal a b = cond (same_by expression_code a b) (bool_expr true) (equal b a)
+
+-- the same of an expression that is `equal`
+abbrev pub law26 : Expression → Option Expression
+law26 (equal a b) = Some (turned_equal a b)
+law26 _ = None

@@ -7,6 +7,7 @@ use Rattle.leaf_core.specs.Expression.{Expression}
 use Rattle.leaf_core.specs.ExpressionValue.{value_of}
 use Rattle.leaf_core.specs.ExpressionTyping.{ExpressionTyped}
 use Rattle.expr_laws.specs.Rows.{ExpressionRow}
+use Rattle.expr_laws.specs.declared.table.TheConstants.{LAST_LAW}
 
 -- where a row's left side is typed, both sides have one value at all parameters and inputs of those
 -- types
@@ -24,7 +25,7 @@ RowTypeLaw = (n : ℕ) (l r : Expression) → ExpressionRow n l r → (Ps : List
 abbrev pub OneRightSideLaw : Type 0
 OneRightSideLaw = (n : ℕ) (l r s : Expression) → ExpressionRow n l r → ExpressionRow n l s → r ≡ s
 
--- there is a row of a number exactly from 1 to 18
+-- there is a row of a number exactly from 1 to the last law's
 abbrev pub RowNumbersLaw : Type 0
 RowNumbersLaw = (n : ℕ)
-    → ((l : Expression) × (r : Expression) × ExpressionRow n l r) ↔ ((1 ≤ n) × (n ≤ 18))
+    → ((l : Expression) × (r : Expression) × ExpressionRow n l r) ↔ ((1 ≤ n) × (n ≤ LAST_LAW))

@@ -1,6 +1,6 @@
 -- The laws of expressions: each row's left and right side, over letters that stand for any
 -- expressions, types, parameters and numbers, typed or not.
-use Rattle.std.specs.Prelude.{ℕ, zero, suc, ℤ, pos, negsuc, Bool, true, false, []}
+use Rattle.std.specs.Prelude.{ℕ, zero, suc, ℤ, pos, negsuc, Bool, true, false, ◌≡◌, []}
 use Rattle.sample_core.specs.TypeTree.{TypeTree}
 use Rattle.sample_core.specs.Datum.{Datum, unit, bool, int}
 use Rattle.leaf_core.specs.Expression.{Expression, Expressions, input, param, unit_expr, bool_expr, int_expr, pair_expr, fst, snd, then_expr, neg, add, sub, mul, less, equal, not_expr, and_expr, or_expr, if_expr, no_event_expr, event_expr, on, list_expr, nth, len, no_more, and_then}
@@ -76,6 +76,26 @@ abbrev pub picked : Expressions → ℤ → Expression → Expression
 picked es (pos n) d = element_or es n d
 picked es (negsuc n) d = d
 
+-- whether an expression is `true` or `false`
+abbrev pub is_bool : Expression → Bool
+is_bool (bool_expr b) = true
+is_bool _ = false
+
+-- `and` or `or`, and what it is where its first part is a literal, else the same with its parts
+-- exchanged
+pub data Turned : Expression → Expression → Type 0 where
+  and_true : {b : Expression} → Turned (and_expr (bool_expr true) b) b
+  and_false : {b : Expression} → Turned (and_expr (bool_expr false) b) (bool_expr false)
+  or_true : {b : Expression} → Turned (or_expr (bool_expr true) b) (bool_expr true)
+  or_false : {b : Expression} → Turned (or_expr (bool_expr false) b) b
+  and_turned : {a b : Expression} → is_bool a ≡ false → Turned (and_expr a b) (and_expr b a)
+  or_turned : {a b : Expression} → is_bool a ≡ false → Turned (or_expr a b) (or_expr b a)
+
+-- `equal` of two expressions: `true` where they are the same, else with its parts exchanged
+pub data Compared : Expression → Expression → Type 0 where
+  equal_same : {a : Expression} → Compared (equal a a) (bool_expr true)
+  equal_turned : {a b : Expression} → (a ≡ b → ⊥) → Compared (equal a b) (equal b a)
+
 -- a law's number, its left side and its right side; a letter that comes twice on the left stands
 -- for one expression
 pub data ExpressionRow : ℕ → Expression → Expression → Type 0 where
@@ -104,3 +124,11 @@ pub data ExpressionRow : ℕ → Expression → Expression → Type 0 where
   row_e18 : {T : TypeTree} {e : Expression} {es : Expressions} {i : ℤ} {d : Expression}
       → ExpressionRow 18 (nth (list_expr T (and_then e es)) (int_expr i) d)
       (picked (and_then e es) i d)
+  row_e19 : {a b : Expression} → ExpressionRow 19 (sub a b) (add a (neg b))
+  row_e20 : {a b : Expression} → ExpressionRow 20 (mul a b) (mul b a)
+  row_e21 : {a b c : Expression} → ExpressionRow 21 (mul (mul a b) c) (mul a (mul b c))
+  row_e22 : {a b c : Expression} → ExpressionRow 22 (mul a (add b c)) (add (mul a b) (mul a c))
+  row_e23 : {o r : Expression} → Turned o r → ExpressionRow 23 o r
+  row_e24 : {a : Expression} → ExpressionRow 24 (not_expr (not_expr a)) a
+  row_e25 : {c a b : Expression} → ExpressionRow 25 (if_expr (not_expr c) a b) (if_expr c b a)
+  row_e26 : {o r : Expression} → Compared o r → ExpressionRow 26 o r

@@ -5,11 +5,13 @@ ghost use Rattle.leaf_core.specs.ExpressionView.{expression_of};
 ghost use Rattle.expr_laws.specs.Rows.{ExpressionRow};
 ghost use Rattle.expr_laws.specs.Answer.{IsExpressionAnswer, IsRightSide, given_of};
 
+use crate::compare::compared;
 use crate::constant::constant_behind;
 use crate::literals::computed;
 use crate::pick::pick_element;
 use crate::spread::spread_then;
 use crate::table::{Rule, law_rule};
+use crate::turn::turned;
 use law_patterns::rewrite_expr;
 use leaf_core::{Expr, same_expr};
 use net_tree::{Direction, Law};
@@ -52,6 +54,8 @@ fn forward(alloc: Global, number: u8, expr: &Expr) -> Result<Option<Expr>, Memor
         Rule::Constant => constant_behind(alloc, expr),
         Rule::Compute => computed(alloc, expr),
         Rule::Pick => pick_element(alloc, expr),
+        Rule::Turn => turned(alloc, expr),
+        Rule::Compare => compared(expr),
     }
 }
 

@@ -1,4 +1,4 @@
-//! The laws of expressions, E1 to E18: what each makes of an expression, forward and backward, and
+//! The laws of expressions, E1 to E26: what each makes of an expression, forward and backward, and
 //! that it keeps the expression's value and type.
 //!
 //!     let right = apply_expr(alloc, law, Direction::Forward, &expr, None)?;
@@ -12,12 +12,15 @@
 #![tactic(auto)]
 
 mod apply;
+mod compare;
 mod constant;
 mod laws;
 mod literals;
 mod pick;
 mod spread;
 mod table;
+mod turn;
 
 pub use apply::apply_expr;
 pub use laws::{answer_laws, row_laws};
+pub use table::LAST_LAW;

@@ -3,9 +3,10 @@
 ghost use Rattle.std.specs.Prelude.{◌≡◌, [], get_or, map};
 ghost use Rattle.expr_laws.specs.Table.{left_at, right_at, rule_at};
 
-use Rule::{Compute, Constant, Nothing, Pick, Sides, Spread};
+use Rule::{Compare, Compute, Constant, Nothing, Pick, Sides, Spread, Turn};
 use law_patterns::{
-    ADD, EVENT, F, FALSE, FST, G, H, I, IF, NONE, ON, PAIR, SND, Sym, THEN, TRUE, X,
+    ADD, EVENT, F, FALSE, FST, G, H, I, IF, MUL, NEG, NONE, NOT, ON, PAIR, SND, SUB, Sym, THEN,
+    TRUE, X,
 };
 
 /// What a law is.
@@ -23,13 +24,20 @@ pub enum Rule {
     Compute,
     /// An element of a list at a number literal is that element.
     Pick,
+    /// `and` or `or` absorbs a literal that is its first part, or is turned round.
+    Turn,
+    /// `equal` of one expression is `true`, another is turned round.
+    Compare,
 }
 
 /// What a law is, and its two sides, if it has any: each form is written before its parts.
 pub type Row = (Rule, &'static [Sym], &'static [Sym]);
 
+/// The greatest number of a law.
+pub const LAST_LAW: u8 = 26;
+
 /// The laws by number, from 0.
-pub const LAWS: [Row; 19] = [
+pub const LAWS: [Row; 27] = [
     (Nothing, &[], &[]),
     (Sides, &[THEN, X, F], &[F]),
     (Sides, &[THEN, F, X], &[F]),
@@ -55,6 +63,14 @@ pub const LAWS: [Row; 19] = [
     (Sides, &[ADD, F, G], &[ADD, G, F]),
     (Sides, &[ADD, ADD, F, G, H], &[ADD, F, ADD, G, H]),
     (Pick, &[], &[]),
+    (Sides, &[SUB, F, G], &[ADD, F, NEG, G]),
+    (Sides, &[MUL, F, G], &[MUL, G, F]),
+    (Sides, &[MUL, MUL, F, G, H], &[MUL, F, MUL, G, H]),
+    (Sides, &[MUL, F, ADD, G, H], &[ADD, MUL, F, G, MUL, F, H]),
+    (Turn, &[], &[]),
+    (Sides, &[NOT, NOT, F], &[F]),
+    (Sides, &[IF, NOT, F, G, H], &[IF, F, H, G]),
+    (Compare, &[], &[]),
 ];
 
 /// The law of this number.

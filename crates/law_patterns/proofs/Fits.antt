@@ -2,7 +2,7 @@
 use Rattle.std.proofs.Common.{◌≡◌, Bool, true, false, List, [], ◌∷◌, Option, Some, None, refl, sym, ap, ◌∙◌, subst}
 use Rattle.sample_core.specs.TypeTree.{TypeTree}
 use Rattle.sample_core.specs.TypeCode.{type_code}
-use Rattle.leaf_core.specs.Expression.{Expression, input, unit_expr, bool_expr, no_event_expr, fst, snd, event_expr, pair_expr, then_expr, add, if_expr, on}
+use Rattle.leaf_core.specs.Expression.{Expression, input, unit_expr, bool_expr, no_event_expr, fst, snd, event_expr, pair_expr, then_expr, neg, not_expr, add, sub, mul, if_expr, on}
 use Rattle.leaf_core.specs.ExpressionCode.{expression_code}
 use Rattle.leaf_core.specs.EqualityByCode.{same_by, same_by_decides}
 use Rattle.law_patterns.specs.declared.sym.Letter.{Letter}
@@ -39,7 +39,7 @@ agrees-with a s L.H c = record { f = c.f; g = c.g; h = refl; i = c.i; t = c.t }
 agrees-with a s L.I c = record { f = c.f; g = c.g; h = c.h; i = refl; t = c.t }
 
 -- what goes on from a match: the rest to match is es, and the chosen trees agree
-abbrev GoesOn : Assignment → List Expression → Matching → Type 0
+abbrev pub GoesOn : Assignment → List Expression → Matching → Type 0
 GoesOn a es m = (s : FoundLetters) × (m ≡ matching es s) × Agrees a s
 
 bound-complete : (o : Option Expression) (k : Letter) (a : Assignment) (es : List Expression) (s : FoundLetters) → AgreesAt o (letter_choice a k) → Agrees a s → GoesOn a es (letter_bound o k (letter_choice a k) es s)
@@ -73,12 +73,16 @@ fits-put S.Snd a s (d ∷ xs) c = (s, refl, c)
 fits-put S.Event a s (d ∷ xs) c = (s, refl, c)
 fits-put S.Pair a s (b ∷ d ∷ xs) c = (s, refl, c)
 fits-put S.Then a s (b ∷ d ∷ xs) c = (s, refl, c)
+fits-put S.Neg a s (d ∷ xs) c = (s, refl, c)
+fits-put S.Not a s (d ∷ xs) c = (s, refl, c)
 fits-put S.Add a s (b ∷ d ∷ xs) c = (s, refl, c)
+fits-put S.Sub a s (b ∷ d ∷ xs) c = (s, refl, c)
+fits-put S.Mul a s (b ∷ d ∷ xs) c = (s, refl, c)
 fits-put S.If a s (e ∷ b ∷ d ∷ xs) c = (s, refl, c)
 fits-put S.On a s (e ∷ b ∷ d ∷ xs) c = (s, refl, c)
 fits-put _ a s _ c = tt
 
-fits-made : (y : Sym) (a : Assignment) (s : FoundLetters) (xs es : List Expression) → put_before a y xs ≡ Some es → Agrees a s → GoesOn a xs (step y (matching es s))
+pub fits-made : (y : Sym) (a : Assignment) (s : FoundLetters) (xs es : List Expression) → put_before a y xs ≡ Some es → Agrees a s → GoesOn a xs (step y (matching es s))
 fits-made y a s xs es p c = subst (FitsMade y a s xs) p (fits-put y a s xs c)
 
 -- a pattern fits what it writes
@@ -110,7 +114,7 @@ pub never-failed : {P : Type 0} (xs : List Expression) (r : FoundLetters) → fa
 never-failed xs r p = absurd (cc)
 
 -- what a symbol that has met an expression writes
-abbrev Writes : Assignment → Sym → List Expression → List Expression → FoundLetters → Type 0
+abbrev pub Writes : Assignment → Sym → List Expression → List Expression → FoundLetters → Type 0
 Writes a y xs es s = (put_before a y xs ≡ Some es) × Agrees a s
 
 form-sound : (y : Sym) (a : Assignment) (ds es xs : List Expression) (s r : FoundLetters) → put_before a y ds ≡ Some es → matching ds s ≡ matching xs r → Agrees a r → Writes a y xs es s
@@ -180,10 +184,19 @@ met-sound S.Snd (snd d) a es xs s r q c = form-sound S.Snd a (d ∷ es) (snd d �
 met-sound S.Event (event_expr d) a es xs s r q c = form-sound S.Event a (d ∷ es) (event_expr d ∷ es) xs s r refl q c
 met-sound S.Pair (pair_expr b d) a es xs s r q c = form-sound S.Pair a (b ∷ d ∷ es) (pair_expr b d ∷ es) xs s r refl q c
 met-sound S.Then (then_expr b d) a es xs s r q c = form-sound S.Then a (b ∷ d ∷ es) (then_expr b d ∷ es) xs s r refl q c
+met-sound S.Neg (neg d) a es xs s r q c = form-sound S.Neg a (d ∷ es) (neg d ∷ es) xs s r refl q c
+met-sound S.Not (not_expr d) a es xs s r q c = form-sound S.Not a (d ∷ es) (not_expr d ∷ es) xs s r refl q c
 met-sound S.Add (add b d) a es xs s r q c = form-sound S.Add a (b ∷ d ∷ es) (add b d ∷ es) xs s r refl q c
+met-sound S.Sub (sub b d) a es xs s r q c = form-sound S.Sub a (b ∷ d ∷ es) (sub b d ∷ es) xs s r refl q c
+met-sound S.Mul (mul b d) a es xs s r q c = form-sound S.Mul a (b ∷ d ∷ es) (mul b d ∷ es) xs s r refl q c
 met-sound S.If (if_expr f b d) a es xs s r q c = form-sound S.If a (f ∷ b ∷ d ∷ es) (if_expr f b d ∷ es) xs s r refl q c
 met-sound S.On (on f b d) a es xs s r q c = form-sound S.On a (f ∷ b ∷ d ∷ es) (on f b d ∷ es) xs s r refl q c
 met-sound _ _ a es xs s r q c = never-failed xs r q
+
+-- the same where something may be missing
+pub step-sound : (y : Sym) (a : Assignment) (es xs : List Expression) (s r : FoundLetters) → step y (matching es s) ≡ matching xs r → Agrees a r → Writes a y xs es s
+step-sound y a [] xs s r q c = never-failed xs r q
+step-sound y a (e ∷ es) xs s r q c = met-sound y e a es xs s r q c
 
 -- a pattern writes what it fits, with any trees that agree with those found
 abbrev WritesAll : Assignment → List Sym → List Expression → FoundLetters → Type 0

@@ -2,94 +2,129 @@
 use Rattle.std.proofs.Common.{◌≡◌, ℕ, List, [], ◌∷◌, Option, Some, None, Result, Ok, Err, IfOk, MatchOption, refl, sym, ap, ◌∙◌}
 use Rattle.leaf_core.specs.Expression.{Expression}
 use Rattle.leaf_core.specs.declared.expr.Expr.{Expr}
-use Rattle.net_tree.specs.Network.{Network, accum_by}
+use Rattle.net_tree.specs.Network.{Network}
 use Rattle.net_tree.specs.NetworkView.{tree_of}
 use Rattle.net_tree.specs.declared.net.Net.{Net}
-use Rattle.law_patterns.specs.declared.sym.Sym.{Sym}
 use Rattle.law_patterns.specs.declared.net_sym.NetSym.{NetSym}
 use Rattle.law_patterns.specs.declared.net_sym.NetSym.TheVariants as S
-use Rattle.law_patterns.specs.Pattern.{Assignment, only, filled}
-use Rattle.law_patterns.specs.NetPattern.{NetAssignment, leaf_before, leaves_before, leaf_around, net_put_before, net_put_before_some, net_written, net_filled, NetPatternRow}
+use Rattle.law_patterns.specs.Pattern.{around_one, around_two, around_three}
+use Rattle.law_patterns.specs.NetPattern.{NetAssignment, Written, both, of_leaf, of_leaves, of_fed, with_nets, with_exprs, net_put_before, net_put_before_some, net_written, only_net, net_filled, NetPatternRow}
 use Rattle.law_patterns.specs.NetMatching.{NetFound, no_nets_found, net_fitted, or_time, or_zero, net_completed, net_built, net_rewritten}
 use Rattle.law_patterns.proofs.Fits.{AgreesAt}
-use Rattle.law_patterns.proofs.Rows.{SameLength, SameLengths, only-alike, only-is, filled-alike, completed-agrees, nothing-agrees}
+use Rattle.law_patterns.proofs.Rows.{SameLength, SameLengths, put-alike, completed-agrees, nothing-agrees}
 use Rattle.law_patterns.proofs.NetFits.{NetAgrees, net_fits-written, net_written-fitted}
 
--- two that are there, or two that aren't
-abbrev BothOrNone : Option Expression → Option Expression → Type 0
-BothOrNone None None = Unit {0}
-BothOrNone (Some d) (Some e) = Unit {0}
-BothOrNone _ _ = ⊥
+-- as many expressions and as many networks, or two that aren't there
+abbrev SameSizes : Option Written → Option Written → Type 0
+SameSizes None None = Unit {0}
+SameSizes (Some (both ds fs)) (Some (both es gs)) = SameLength ds es × SameLength fs gs
+SameSizes _ _ = ⊥
 
-both-or-none : (v w : Option Expression) → (v ≡ None → w ≡ None) → (w ≡ None → v ≡ None) → BothOrNone v w
-both-or-none None None p q = tt
-both-or-none (Some d) (Some e) p q = tt
-both-or-none None (Some e) p q = absurd (cc (p refl))
-both-or-none (Some d) None p q = absurd (cc (q refl))
+nets-alike : (xs ys : List Expression) (v w : Option (List (Network Expression))) → SameLength xs ys → SameLengths v w → SameSizes (with_exprs xs v) (with_exprs ys w)
+nets-alike xs ys None None h k = tt
+nets-alike xs ys (Some fs) (Some gs) h k = (h, k)
+nets-alike xs ys None (Some gs) h k = absurd k
+nets-alike xs ys (Some fs) None h k = absurd k
 
--- whether a pattern is an expression doesn't depend on its letters' trees
-filled-both : (p : List Sym) (a b : Assignment) → BothOrNone (filled a p) (filled b p)
-filled-both p a b = both-or-none (filled a p) (filled b p) (filled-alike p a b) (filled-alike p b a)
+exprs-alike : (v w : Option (List Expression)) (fs gs : List (Network Expression)) → SameLengths v w → SameLength fs gs → SameSizes (with_nets v fs) (with_nets w gs)
+exprs-alike None None fs gs h k = tt
+exprs-alike (Some xs) (Some ys) fs gs h k = (h, k)
+exprs-alike None (Some ys) fs gs h k = absurd h
+exprs-alike (Some xs) None fs gs h k = absurd h
 
-leaf-alike : (f g : Expression → Network Expression) (v w : Option Expression) (xs ys : List (Network Expression)) → BothOrNone v w → SameLength xs ys → SameLengths (leaf_before f v xs) (leaf_before g w ys)
-leaf-alike f g None None xs ys b h = tt
-leaf-alike f g (Some d) (Some e) xs ys b h = h
-leaf-alike f g None (Some e) xs ys b h = absurd b
-leaf-alike f g (Some d) None xs ys b h = absurd b
+leaf-alike : (f g : Expression → Network Expression) (xs ys : List Expression) (fs gs : List (Network Expression)) → SameLength xs ys → SameLength fs gs → SameSizes (of_leaf f xs fs) (of_leaf g ys gs)
+leaf-alike f g [] [] fs gs h k = tt
+leaf-alike f g (x ∷ xs) (y ∷ ys) fs gs h k = (h, k)
+leaf-alike f g [] (y ∷ ys) fs gs h k = absurd h
+leaf-alike f g (x ∷ xs) [] fs gs h k = absurd h
 
-leaves-alike : (v w v' w' : Option Expression) (xs ys : List (Network Expression)) → BothOrNone v w → BothOrNone v' w' → SameLength xs ys → SameLengths (leaves_before accum_by v v' xs) (leaves_before accum_by w w' ys)
-leaves-alike None None v' w' xs ys b c h = tt
-leaves-alike (Some d) (Some e) v' w' xs ys b c h = leaf-alike (accum_by d) (accum_by e) v' w' xs ys c h
-leaves-alike None (Some e) v' w' xs ys b c h = absurd b
-leaves-alike (Some d) None v' w' xs ys b c h = absurd b
+leaves-alike : (form : Expression → Expression → Network Expression) (xs ys : List Expression) (fs gs : List (Network Expression)) → SameLength xs ys → SameLength fs gs → SameSizes (of_leaves form xs fs) (of_leaves form ys gs)
+leaves-alike form (x ∷ x' ∷ xs) (y ∷ y' ∷ ys) fs gs h k = (h, k)
+leaves-alike form [] [] fs gs h k = tt
+leaves-alike form (x ∷ []) (y ∷ []) fs gs h k = tt
+leaves-alike form _ _ fs gs h k = absurd h
 
-around-alike : (form : Expression → Network Expression → Network Expression) (v w : Option Expression) (xs ys : List (Network Expression)) → BothOrNone v w → SameLength xs ys
-    → SameLengths (leaf_around form v xs) (leaf_around form w ys)
-around-alike form None None xs ys b h = tt
-around-alike form (Some d) (Some e) [] [] b h = tt
-around-alike form (Some d) (Some e) (x ∷ xs) (y ∷ ys) b h = h
-around-alike form (Some d) (Some e) [] (y ∷ ys) b h = absurd h
-around-alike form (Some d) (Some e) (x ∷ xs) [] b h = absurd h
-around-alike form None (Some e) xs ys b h = absurd b
-around-alike form (Some d) None xs ys b h = absurd b
+fed-alike : (form : Expression → Network Expression → Network Expression) (xs ys : List Expression) (fs gs : List (Network Expression)) → SameLength xs ys → SameLength fs gs → SameSizes (of_fed form xs fs) (of_fed form ys gs)
+fed-alike form (x ∷ xs) (y ∷ ys) (f ∷ fs) (g ∷ gs) h k = (h, k)
+fed-alike form [] [] fs gs h k = tt
+fed-alike form (x ∷ xs) (y ∷ ys) [] [] h k = tt
+fed-alike form (x ∷ xs) (y ∷ ys) [] (g ∷ gs) h k = absurd k
+fed-alike form (x ∷ xs) (y ∷ ys) (f ∷ fs) [] h k = absurd k
+fed-alike form [] (y ∷ ys) fs gs h k = absurd h
+fed-alike form (x ∷ xs) [] fs gs h k = absurd h
 
-put-alike : (y : NetSym) (a b : NetAssignment) (xs ys : List (Network Expression)) → SameLength xs ys → SameLengths (net_put_before a y xs) (net_put_before b y ys)
-put-alike (S.Letter k) a b xs ys h = h
-put-alike (S.Arr p) a b xs ys h = leaf-alike _ _ _ _ xs ys (filled-both p.now a.exprs b.exprs) h
-put-alike (S.IPre p) a b xs ys h = leaf-alike _ _ _ _ xs ys (filled-both p.now a.exprs b.exprs) h
-put-alike (S.Hold p) a b xs ys h = leaf-alike _ _ _ _ xs ys (filled-both p.now a.exprs b.exprs) h
-put-alike (S.Delay p) a b xs ys h = leaf-alike _ _ _ _ xs ys (filled-both p.now a.exprs b.exprs) h
-put-alike (S.After p) a b xs ys h = leaf-alike _ _ _ _ xs ys (filled-both p.now a.exprs b.exprs) h
-put-alike (S.Repeatedly p) a b xs ys h = leaf-alike _ _ _ _ xs ys (filled-both p.now a.exprs b.exprs) h
-put-alike (S.AccumBy p r) a b xs ys h =
-    leaves-alike _ _ _ _ xs ys (filled-both p.now a.exprs b.exprs) (filled-both r.now a.exprs b.exprs) h
-put-alike (S.LoopPre p) a b xs ys h = around-alike _ _ _ xs ys (filled-both p.now a.exprs b.exprs) h
-put-alike (S.InitialOut p) a b xs ys h = around-alike _ _ _ xs ys (filled-both p.now a.exprs b.exprs) h
-put-alike (S.InitialIn p) a b xs ys h = around-alike _ _ _ xs ys (filled-both p.now a.exprs b.exprs) h
-put-alike S.First a b (x ∷ xs) (y ∷ ys) h = h
-put-alike S.Seq a b (x ∷ x' ∷ xs) (y ∷ y' ∷ ys) h = h
-put-alike S.Switch a b (x ∷ x' ∷ xs) (y ∷ y' ∷ ys) h = h
-put-alike S.DSwitch a b (x ∷ x' ∷ xs) (y ∷ y' ∷ ys) h = h
-put-alike S.RSwitch a b (x ∷ x' ∷ xs) (y ∷ y' ∷ ys) h = h
-put-alike S.DrSwitch a b (x ∷ x' ∷ xs) (y ∷ y' ∷ ys) h = h
-put-alike S.KSwitch a b (x ∷ x' ∷ x'' ∷ xs) (y ∷ y' ∷ y'' ∷ ys) h = h
-put-alike _ a b [] [] h = tt
-put-alike _ a b (x ∷ []) (y ∷ []) h = tt
-put-alike _ a b (x ∷ x' ∷ []) (y ∷ y' ∷ []) h = tt
-put-alike _ a b _ _ h = absurd h
+one-alike : (form : Network Expression → Network Expression) (fs gs : List (Network Expression)) → SameLength fs gs → SameLengths (around_one form fs) (around_one form gs)
+one-alike form [] [] k = tt
+one-alike form (f ∷ fs) (g ∷ gs) k = k
+one-alike form _ _ k = absurd k
 
-put-some-alike : (y : NetSym) (a b : NetAssignment) (v w : Option (List (Network Expression))) → SameLengths v w → SameLengths (net_put_before_some a y v) (net_put_before_some b y w)
+two-alike : (form : Network Expression → Network Expression → Network Expression) (fs gs : List (Network Expression)) → SameLength fs gs → SameLengths (around_two form fs) (around_two form gs)
+two-alike form (f ∷ f' ∷ fs) (g ∷ g' ∷ gs) k = k
+two-alike form [] [] k = tt
+two-alike form (f ∷ []) (g ∷ []) k = tt
+two-alike form _ _ k = absurd k
+
+three-alike : (form : Network Expression → Network Expression → Network Expression → Network Expression) (fs gs : List (Network Expression)) → SameLength fs gs
+    → SameLengths (around_three form fs) (around_three form gs)
+three-alike form (f ∷ f' ∷ f'' ∷ fs) (g ∷ g' ∷ g'' ∷ gs) k = k
+three-alike form [] [] k = tt
+three-alike form (f ∷ []) (g ∷ []) k = tt
+three-alike form (f ∷ f' ∷ []) (g ∷ g' ∷ []) k = tt
+three-alike form _ _ k = absurd k
+
+net_put-alike : (y : NetSym) (a b : NetAssignment) (xs ys : List Expression) (fs gs : List (Network Expression)) → SameLength xs ys → SameLength fs gs
+    → SameSizes (net_put_before a y (both xs fs)) (net_put_before b y (both ys gs))
+net_put-alike (S.Letter k) a b xs ys fs gs h i = (h, i)
+net_put-alike (S.Leaf s) a b xs ys fs gs h i = exprs-alike _ _ fs gs (put-alike s a.exprs b.exprs xs ys h) i
+net_put-alike S.Arr a b xs ys fs gs h i = leaf-alike _ _ xs ys fs gs h i
+net_put-alike S.IPre a b xs ys fs gs h i = leaf-alike _ _ xs ys fs gs h i
+net_put-alike S.Hold a b xs ys fs gs h i = leaf-alike _ _ xs ys fs gs h i
+net_put-alike S.Delay a b xs ys fs gs h i = leaf-alike _ _ xs ys fs gs h i
+net_put-alike S.After a b xs ys fs gs h i = leaf-alike _ _ xs ys fs gs h i
+net_put-alike S.Repeatedly a b xs ys fs gs h i = leaf-alike _ _ xs ys fs gs h i
+net_put-alike S.AccumBy a b xs ys fs gs h i = leaves-alike _ xs ys fs gs h i
+net_put-alike S.LoopPre a b xs ys fs gs h i = fed-alike _ xs ys fs gs h i
+net_put-alike S.InitialOut a b xs ys fs gs h i = fed-alike _ xs ys fs gs h i
+net_put-alike S.InitialIn a b xs ys fs gs h i = fed-alike _ xs ys fs gs h i
+net_put-alike S.First a b xs ys fs gs h i = nets-alike xs ys _ _ h (one-alike _ fs gs i)
+net_put-alike S.Seq a b xs ys fs gs h i = nets-alike xs ys _ _ h (two-alike _ fs gs i)
+net_put-alike S.Switch a b xs ys fs gs h i = nets-alike xs ys _ _ h (two-alike _ fs gs i)
+net_put-alike S.DSwitch a b xs ys fs gs h i = nets-alike xs ys _ _ h (two-alike _ fs gs i)
+net_put-alike S.RSwitch a b xs ys fs gs h i = nets-alike xs ys _ _ h (two-alike _ fs gs i)
+net_put-alike S.DrSwitch a b xs ys fs gs h i = nets-alike xs ys _ _ h (two-alike _ fs gs i)
+net_put-alike S.KSwitch a b xs ys fs gs h i = nets-alike xs ys _ _ h (three-alike _ fs gs i)
+
+put-some-alike : (y : NetSym) (a b : NetAssignment) (v w : Option Written) → SameSizes v w → SameSizes (net_put_before_some a y v) (net_put_before_some b y w)
 put-some-alike y a b None None h = tt
-put-some-alike y a b (Some xs) (Some ys) h = put-alike y a b xs ys h
-put-some-alike y a b _ _ h = absurd h
+put-some-alike y a b (Some (both xs fs)) (Some (both ys gs)) h = net_put-alike y a b xs ys fs gs h.0 h.1
+put-some-alike y a b None (Some (both ys gs)) h = absurd h
+put-some-alike y a b (Some (both xs fs)) None h = absurd h
 
-written-alike : (ss : List NetSym) (a b : NetAssignment) → SameLengths (net_written a ss) (net_written b ss)
-written-alike [] a b = tt
+written-alike : (ss : List NetSym) (a b : NetAssignment) → SameSizes (net_written a ss) (net_written b ss)
+written-alike [] a b = (tt, tt)
 written-alike (y ∷ ys) a b = put-some-alike y a b (net_written a ys) (net_written b ys) (written-alike ys a b)
+
+only_net-alike : (v w : Option Written) → SameSizes v w → only_net v ≡ None → only_net w ≡ None
+only_net-alike v None h p = refl
+only_net-alike v (Some (both (y ∷ ys) gs)) h p = refl
+only_net-alike v (Some (both [] [])) h p = refl
+only_net-alike v (Some (both [] (g ∷ g' ∷ gs))) h p = refl
+only_net-alike (Some (both [] (f ∷ []))) (Some (both [] (g ∷ []))) h p = absurd (cc)
+only_net-alike None (Some (both [] (g ∷ []))) h p = absurd h
+only_net-alike (Some (both (x ∷ xs) fs)) (Some (both [] (g ∷ []))) h p = absurd h.0
+only_net-alike (Some (both [] [])) (Some (both [] (g ∷ []))) h p = absurd h.1
+only_net-alike (Some (both [] (f ∷ f' ∷ fs))) (Some (both [] (g ∷ []))) h p = absurd h.1
 
 -- whether a pattern is one network doesn't depend on its letters' trees
 net_filled-alike : (ss : List NetSym) (a b : NetAssignment) → net_filled a ss ≡ None → net_filled b ss ≡ None
-net_filled-alike ss a b p = only-alike (net_written a ss) (net_written b ss) (written-alike ss a b) p
+net_filled-alike ss a b p = only_net-alike (net_written a ss) (net_written b ss) (written-alike ss a b) p
+
+pub only_net-is : (w : Option Written) (f : Network Expression) → only_net w ≡ Some f → w ≡ Some (both [] (f ∷ []))
+only_net-is None f p = absurd (cc)
+only_net-is (Some (both [] [])) f p = absurd (cc)
+only_net-is (Some (both [] (g ∷ []))) f p = cc
+only_net-is (Some (both [] (g ∷ g' ∷ gs))) f p = absurd (cc)
+only_net-is (Some (both (e ∷ es) gs)) f p = absurd (cc)
 
 or_time-agrees : (o : Option (Network Expression)) → AgreesAt o (or_time o)
 or_time-agrees None = tt
@@ -111,22 +146,22 @@ net_completed-agrees s = record {
 no_nets-agree : (a : NetAssignment) → NetAgrees a no_nets_found
 no_nets-agree a = record { f = tt; g = tt; h = tt; q = tt; exprs = nothing-agrees a.exprs }
 
-some-row : (left right : List NetSym) (n r : Network Expression) (o : Option NetFound) → net_fitted left (n ∷ []) no_nets_found ≡ o → net_built right o ≡ Some r → NetPatternRow left right n r
+some-row : (left right : List NetSym) (n r : Network Expression) (o : Option NetFound) → net_fitted left [] (n ∷ []) no_nets_found ≡ o → net_built right o ≡ Some r → NetPatternRow left right n r
 some-row left right n r None q p = absurd (cc)
 some-row left right n r (Some s) q p = record {
   letters = net_completed s;
-  left_is = ap only (net_written-fitted left (net_completed s) (n ∷ []) no_nets_found s q (net_completed-agrees s)).0;
+  left_is = ap only_net (net_written-fitted left (net_completed s) [] (n ∷ []) no_nets_found s q (net_completed-agrees s)).0;
   right_is = p;
 }
 
 -- what is built is what the row makes
 pub net_rewritten-some : (left right : List NetSym) (n r : Network Expression) → net_rewritten left right n ≡ Some r → NetPatternRow left right n r
-net_rewritten-some left right n r p = some-row left right n r (net_fitted left (n ∷ []) no_nets_found) refl p
+net_rewritten-some left right n r p = some-row left right n r (net_fitted left [] (n ∷ []) no_nets_found) refl p
 
 -- where nothing is built, the row makes nothing
 pub net_rewritten-none : (left right : List NetSym) (n r : Network Expression) → net_rewritten left right n ≡ None → NetPatternRow left right n r → ⊥
 net_rewritten-none left right n r p row =
-    let f = net_fits-written left row.letters (n ∷ []) no_nets_found (only-is (net_written row.letters left) n row.left_is) (no_nets-agree row.letters) in
+    let f = net_fits-written left row.letters [] (n ∷ []) no_nets_found (only_net-is (net_written row.letters left) n row.left_is) (no_nets-agree row.letters) in
     let e = net_filled-alike right (net_completed f.0) row.letters (sym (ap (net_built right) f.1) ∙ p) in
     absurd (cc (e, row.right_is))
 

@@ -1,5 +1,5 @@
 -- Single steps of matching and building networks.
-use Rattle.std.proofs.Common.{◌≡◌, ℕ, zero, suc, ◌+◌, ◌-◌, ◌<◌, ◌≤◌, arith, Bool, IsTrue, ◌↔◌, List, [], ◌∷◌, Option, Some, None, length, get_or, drop, refl, sym, ap, ◌∙◌}
+use Rattle.std.proofs.Common.{◌≡◌, ℕ, zero, suc, ◌+◌, ◌-◌, ◌<◌, ◌≤◌, arith, Bool, true, false, IsTrue, ◌↔◌, List, [], ◌∷◌, Option, Some, None, length, get_or, drop, refl, sym, ap, ◌∙◌}
 use Rattle.std.proofs.lemmas.List.{drop_more}
 use Rattle.leaf_core.specs.Expression.{Expression}
 use Rattle.leaf_core.specs.ExpressionCode.{expression_code}
@@ -8,15 +8,28 @@ use Rattle.net_tree.specs.Network.{Network}
 use Rattle.net_tree.specs.NetworkCode.{network_code}
 use Rattle.law_patterns.specs.declared.net_sym.NetLetter.{NetLetter}
 use Rattle.law_patterns.specs.declared.net_sym.NetSym.{NetSym}
-use Rattle.law_patterns.specs.Pattern.{only}
-use Rattle.law_patterns.specs.NetPattern.{NetAssignment, net_put_before, net_put_before_some, net_written, net_filled}
-use Rattle.law_patterns.specs.NetMatching.{NetFound, NetMatching, net_failed, net_going, net_bound, net_step, net_matched, net_ended}
+use Rattle.law_patterns.specs.Building.{there}
+use Rattle.law_patterns.specs.Matching.{FoundLetters, going}
+use Rattle.law_patterns.specs.NetBuilding.{both_there}
+use Rattle.law_patterns.specs.NetPattern.{NetAssignment, Written, with_nets, net_put_before, net_put_before_some, net_written, only_net, net_filled}
+use Rattle.law_patterns.specs.NetMatching.{NetFound, NetMatching, net_failed, net_going, net_bound, beside, net_step, net_matched, net_ended}
 
 -- a letter that has a network already
-pub net_bound-again : (o : Option (Network Expression)) (m n : Network Expression) (k : NetLetter) (fs : List (Network Expression)) (s : NetFound) (r : Bool)
-    → Some m ≡ o → IsTrue r ↔ (m ≡ n) → net_going r fs s ≡ net_bound o k n fs s
-net_bound-again o m n k fs s r p h =
-    ap (λ b. net_going b fs s) (same_by_is (network_code expression_code) m n r h) ∙ ap (λ o. net_bound o k n fs s) p
+pub net_bound-again : (o : Option (Network Expression)) (m n : Network Expression) (k : NetLetter) (es : List Expression) (fs : List (Network Expression)) (s : NetFound) (r : Bool)
+    → Some m ≡ o → IsTrue r ↔ (m ≡ n) → net_going r es fs s ≡ net_bound o k n es fs s
+net_bound-again o m n k es fs s r p h =
+    ap (λ b. net_going b es fs s) (same_by_is (network_code expression_code) m n r h) ∙ ap (λ o. net_bound o k n es fs s) p
+
+-- a match of expressions that goes on, or has failed, beside networks
+pub going-beside : (b : Bool) (es : List Expression) (fs : List (Network Expression)) (s : NetFound) (found : FoundLetters)
+    → net_going b es fs (record s { exprs = found }) ≡ beside fs s (going b es found)
+going-beside true es fs s found = refl
+going-beside false es fs s found = refl
+
+-- expressions that are there, or not, beside networks
+pub there-beside : (b : Bool) (es : List Expression) (fs : List (Network Expression)) → both_there b es fs ≡ with_nets (there b es) fs
+there-beside true es fs = refl
+there-beside false es fs = refl
 
 -- a match that has failed stays so
 pub net_matched-failed : (ss : List NetSym) → net_matched ss net_failed ≡ net_failed
@@ -36,12 +49,12 @@ net_none-behind a (suc i) [] p = absurd (cc)
 net_none-behind a (suc i) (s ∷ ss) p = ap (net_put_before_some a s) (net_none-behind a i ss p)
 
 -- a pattern where the form before the rest lacks parts
-pub net_lacks-parts : (a : NetAssignment) (ss : List NetSym) (n : ℕ) (d : NetSym) (fs : List (Network Expression)) → 0 < n → n ≤ length ss
-    → net_written a (drop n ss) ≡ Some fs → None ≡ net_put_before a (get_or ss (n - 1) d) fs → net_filled a ss ≡ None
-net_lacks-parts a ss n d fs lt le p q =
+pub net_lacks-parts : (a : NetAssignment) (ss : List NetSym) (n : ℕ) (d : NetSym) (w : Written) → 0 < n → n ≤ length ss
+    → net_written a (drop n ss) ≡ Some w → None ≡ net_put_before a (get_or ss (n - 1) d) w → net_filled a ss ≡ None
+net_lacks-parts a ss n d w lt le p q =
     let here : (n - 1) + 1 ≡ n = omega arith in
     let within : n - 1 < length ss = omega arith in
-    ap only
+    ap only_net
     (net_none-behind a (n - 1) ss
     (ap (net_written a) (drop_more ss (n - 1) d within)
     ∙ ap (λ m. net_put_before_some a (get_or ss (n - 1) d) (net_written a (drop m ss))) here

@@ -22,7 +22,7 @@ SameLengths None None = Unit {0}
 SameLengths (Some xs) (Some ys) = SameLength xs ys
 SameLengths _ _ = ⊥
 
-put-alike : (y : Sym) (a b : Assignment) (xs ys : List Expression) → SameLength xs ys → SameLengths (put_before a y xs) (put_before b y ys)
+pub put-alike : (y : Sym) (a b : Assignment) (xs ys : List Expression) → SameLength xs ys → SameLengths (put_before a y xs) (put_before b y ys)
 put-alike (S.Letter k) a b xs ys h = h
 put-alike S.Input a b xs ys h = h
 put-alike S.Unit a b xs ys h = h
@@ -33,7 +33,11 @@ put-alike S.Snd a b (x ∷ xs) (y ∷ ys) h = h
 put-alike S.Event a b (x ∷ xs) (y ∷ ys) h = h
 put-alike S.Pair a b (x ∷ x' ∷ xs) (y ∷ y' ∷ ys) h = h
 put-alike S.Then a b (x ∷ x' ∷ xs) (y ∷ y' ∷ ys) h = h
+put-alike S.Neg a b (x ∷ xs) (y ∷ ys) h = h
+put-alike S.Not a b (x ∷ xs) (y ∷ ys) h = h
 put-alike S.Add a b (x ∷ x' ∷ xs) (y ∷ y' ∷ ys) h = h
+put-alike S.Sub a b (x ∷ x' ∷ xs) (y ∷ y' ∷ ys) h = h
+put-alike S.Mul a b (x ∷ x' ∷ xs) (y ∷ y' ∷ ys) h = h
 put-alike S.If a b (x ∷ x' ∷ x'' ∷ xs) (y ∷ y' ∷ y'' ∷ ys) h = h
 put-alike S.On a b (x ∷ x' ∷ x'' ∷ xs) (y ∷ y' ∷ y'' ∷ ys) h = h
 put-alike _ a b [] [] h = tt

@@ -1,6 +1,6 @@
 -- Building symbol by symbol.
 use Rattle.std.specs.Prelude.{Bool, true, false, List, Option, Some, None}
-use Rattle.leaf_core.specs.Expression.{Expression, fst, snd, event_expr, pair_expr, then_expr, add, if_expr, on}
+use Rattle.leaf_core.specs.Expression.{Expression, fst, snd, event_expr, pair_expr, then_expr, neg, not_expr, add, sub, mul, if_expr, on}
 use Rattle.law_patterns.specs.declared.sym.Sym.{Sym}
 use Rattle.law_patterns.specs.declared.sym.Sym.TheVariants as S
 
@@ -13,12 +13,16 @@ there false es = None
 abbrev pub one_form : Sym → Expression → Expression
 one_form S.Fst a = fst a
 one_form S.Snd a = snd a
+one_form S.Neg a = neg a
+one_form S.Not a = not_expr a
 one_form _ a = event_expr a
 
 -- the form of two parts
 abbrev pub two_form : Sym → Expression → Expression → Expression
 two_form S.Pair a b = pair_expr a b
 two_form S.Then a b = then_expr a b
+two_form S.Sub a b = sub a b
+two_form S.Mul a b = mul a b
 two_form _ a b = add a b
 
 -- the form of three parts

@@ -5,7 +5,7 @@ use Rattle.sample_core.specs.TypeTree.{TypeTree, unit_ty}
 use Rattle.sample_core.specs.TypeCode.{type_code}
 use Rattle.sample_core.specs.TypeView.{type_of}
 use Rattle.sample_core.specs.declared.ty.Ty.{Ty}
-use Rattle.leaf_core.specs.Expression.{Expression, input, unit_expr, bool_expr, no_event_expr, fst, snd, event_expr, pair_expr, then_expr, add, if_expr, on}
+use Rattle.leaf_core.specs.Expression.{Expression, input, unit_expr, bool_expr, no_event_expr, fst, snd, event_expr, pair_expr, then_expr, neg, not_expr, add, sub, mul, if_expr, on}
 use Rattle.leaf_core.specs.ExpressionCode.{expression_code}
 use Rattle.leaf_core.specs.EqualityByCode.{same_by}
 use Rattle.leaf_core.specs.ExpressionView.{expression_of}
@@ -101,7 +101,11 @@ met S.Snd (snd d) es s = matching (d ∷ es) s
 met S.Event (event_expr d) es s = matching (d ∷ es) s
 met S.Pair (pair_expr c d) es s = matching (c ∷ d ∷ es) s
 met S.Then (then_expr c d) es s = matching (c ∷ d ∷ es) s
+met S.Neg (neg d) es s = matching (d ∷ es) s
+met S.Not (not_expr d) es s = matching (d ∷ es) s
 met S.Add (add c d) es s = matching (c ∷ d ∷ es) s
+met S.Sub (sub c d) es s = matching (c ∷ d ∷ es) s
+met S.Mul (mul c d) es s = matching (c ∷ d ∷ es) s
 met S.If (if_expr b c d) es s = matching (b ∷ c ∷ d ∷ es) s
 met S.On (on b c d) es s = matching (b ∷ c ∷ d ∷ es) s
 met _ _ es s = failed

@@ -9,13 +9,12 @@ use Rattle.net_tree.specs.Network.{Network, arr, seq, first, loop_pre, initial_o
 use Rattle.net_tree.specs.NetworkCode.{network_code}
 use Rattle.net_tree.specs.NetworkView.{tree_of}
 use Rattle.net_tree.specs.declared.net.Net.{Net}
-use Rattle.law_patterns.specs.declared.sym.Sym.{Sym}
 use Rattle.law_patterns.specs.declared.net_sym.NetLetter.{NetLetter}
 use Rattle.law_patterns.specs.declared.net_sym.NetLetter.TheVariants as L
 use Rattle.law_patterns.specs.declared.net_sym.NetSym.{NetSym}
 use Rattle.law_patterns.specs.declared.net_sym.NetSym.TheVariants as S
 use Rattle.law_patterns.specs.declared.net_letters.NetLetters.{NetLetters}
-use Rattle.law_patterns.specs.Matching.{FoundLetters, nothing_found, found_of, fitted, completed}
+use Rattle.law_patterns.specs.Matching.{FoundLetters, Matching, failed, matching, nothing_found, found_of, step, completed}
 use Rattle.law_patterns.specs.NetPattern.{NetAssignment, net_filled}
 
 -- the trees that letters have by now
@@ -57,66 +56,72 @@ net_found_with s L.F n = record s { f = Some n }
 net_found_with s L.G n = record s { g = Some n }
 net_found_with s L.H n = record s { h = Some n }
 
--- how far a match has come: the networks that are still to be matched, and the trees of the letters
+-- how far a match has come: the expressions and the networks that are still to be matched, and the
+-- trees of the letters
 pub data NetMatching : Type 0 where
   net_failed : NetMatching
-  net_matching : List (Network Expression) → NetFound → NetMatching
+  net_matching : List Expression → List (Network Expression) → NetFound → NetMatching
 
 -- a match that goes on, or has failed
-abbrev pub net_going : Bool → List (Network Expression) → NetFound → NetMatching
-net_going true fs s = net_matching fs s
-net_going false fs s = net_failed
+abbrev pub net_going : Bool → List Expression → List (Network Expression) → NetFound → NetMatching
+net_going true es fs s = net_matching es fs s
+net_going false es fs s = net_failed
 
 -- a letter that had that network, if any, at this one
 abbrev pub net_bound : Option (Network Expression) → NetLetter → Network Expression
-    → List (Network Expression) → NetFound → NetMatching
-net_bound None k n fs s = net_matching fs (net_found_with s k n)
-net_bound (Some m) k n fs s = net_going (same_by (network_code expression_code) m n) fs s
+    → List Expression → List (Network Expression) → NetFound → NetMatching
+net_bound None k n es fs s = net_matching es fs (net_found_with s k n)
+net_bound (Some m) k n es fs s =
+    net_going (same_by (network_code expression_code) m n) es fs s
 
 -- the number letter, which had that number, if any, at this one
-abbrev pub number_bound : Option ℕ → ℕ → List (Network Expression) → NetFound → NetMatching
-number_bound None q fs s = net_matching fs (record s { q = Some q })
-number_bound (Some r) q fs s = net_going (nat_eq r q) fs s
-
--- with these trees for the letters of expressions, if they were found
-abbrev pub leaf_found : Option FoundLetters → List (Network Expression) → NetFound → NetMatching
-leaf_found None fs s = net_failed
-leaf_found (Some es) fs s = net_matching fs (record s { exprs = es })
-
--- an expression's pattern at this expression
-abbrev pub leaf_step : List Sym → Expression → NetMatching → NetMatching
-leaf_step p e net_failed = net_failed
-leaf_step p e (net_matching fs s) = leaf_found (fitted p (e ∷ []) s.exprs) fs s
-
--- a symbol at a network: the networks of a form are to be matched next
-abbrev pub net_met : NetSym → Network Expression → List (Network Expression) → NetFound
+abbrev pub number_bound : Option ℕ → ℕ → List Expression → List (Network Expression) → NetFound
     → NetMatching
-net_met (S.Letter k) n fs s = net_bound (net_found_at s k) k n fs s
-net_met (S.Arr p) (arr e) fs s = leaf_step p.now e (net_matching fs s)
-net_met (S.IPre p) (i_pre e) fs s = leaf_step p.now e (net_matching fs s)
-net_met (S.Hold p) (hold e) fs s = leaf_step p.now e (net_matching fs s)
-net_met (S.Delay p) (delay q e) fs s = leaf_step p.now e (number_bound s.q q fs s)
-net_met (S.After p) (after q e) fs s = leaf_step p.now e (number_bound s.q q fs s)
-net_met (S.Repeatedly p) (repeatedly q e) fs s = leaf_step p.now e (number_bound s.q q fs s)
-net_met (S.AccumBy p r) (accum_by g z) fs s =
-    leaf_step r.now z (leaf_step p.now g (net_matching fs s))
-net_met (S.LoopPre p) (loop_pre c f) fs s = leaf_step p.now c (net_matching (f ∷ fs) s)
-net_met (S.InitialOut p) (initial_out c f) fs s = leaf_step p.now c (net_matching (f ∷ fs) s)
-net_met (S.InitialIn p) (initial_in c f) fs s = leaf_step p.now c (net_matching (f ∷ fs) s)
-net_met S.First (first f) fs s = net_matching (f ∷ fs) s
-net_met S.Seq (seq f g) fs s = net_matching (f ∷ g ∷ fs) s
-net_met S.Switch (switch at_once f g) fs s = net_matching (f ∷ g ∷ fs) s
-net_met S.DSwitch (switch delayed f g) fs s = net_matching (f ∷ g ∷ fs) s
-net_met S.RSwitch (r_switch at_once f g) fs s = net_matching (f ∷ g ∷ fs) s
-net_met S.DrSwitch (r_switch delayed f g) fs s = net_matching (f ∷ g ∷ fs) s
-net_met S.KSwitch (k_switch f g h) fs s = net_matching (f ∷ g ∷ h ∷ fs) s
-net_met _ _ fs s = net_failed
+number_bound None q es fs s = net_matching es fs (record s { q = Some q })
+number_bound (Some r) q es fs s = net_going (nat_eq r q) es fs s
+
+-- a match of expressions, with these networks still to be matched
+abbrev pub beside : List (Network Expression) → NetFound → Matching → NetMatching
+beside fs s failed = net_failed
+beside fs s (matching es found) = net_matching es fs (record s { exprs = found })
+
+-- a letter or a form at a network: the parts of the form are to be matched next
+abbrev pub net_met : NetSym → Network Expression → List Expression → List (Network Expression)
+    → NetFound → NetMatching
+net_met (S.Letter k) n es fs s = net_bound (net_found_at s k) k n es fs s
+net_met S.Arr (arr e) es fs s = net_matching (e ∷ es) fs s
+net_met S.IPre (i_pre e) es fs s = net_matching (e ∷ es) fs s
+net_met S.Hold (hold e) es fs s = net_matching (e ∷ es) fs s
+net_met S.Delay (delay q e) es fs s = number_bound s.q q (e ∷ es) fs s
+net_met S.After (after q e) es fs s = number_bound s.q q (e ∷ es) fs s
+net_met S.Repeatedly (repeatedly q e) es fs s = number_bound s.q q (e ∷ es) fs s
+net_met S.AccumBy (accum_by g z) es fs s = net_matching (g ∷ z ∷ es) fs s
+net_met S.LoopPre (loop_pre c f) es fs s = net_matching (c ∷ es) (f ∷ fs) s
+net_met S.InitialOut (initial_out c f) es fs s = net_matching (c ∷ es) (f ∷ fs) s
+net_met S.InitialIn (initial_in c f) es fs s = net_matching (c ∷ es) (f ∷ fs) s
+net_met S.First (first f) es fs s = net_matching es (f ∷ fs) s
+net_met S.Seq (seq f g) es fs s = net_matching es (f ∷ g ∷ fs) s
+net_met S.Switch (switch at_once f g) es fs s = net_matching es (f ∷ g ∷ fs) s
+net_met S.DSwitch (switch delayed f g) es fs s = net_matching es (f ∷ g ∷ fs) s
+net_met S.RSwitch (r_switch at_once f g) es fs s = net_matching es (f ∷ g ∷ fs) s
+net_met S.DrSwitch (r_switch delayed f g) es fs s = net_matching es (f ∷ g ∷ fs) s
+net_met S.KSwitch (k_switch f g h) es fs s = net_matching es (f ∷ g ∷ h ∷ fs) s
+net_met _ _ es fs s = net_failed
+
+-- a letter or a form at the next network
+abbrev pub next_met : NetSym → List Expression → List (Network Expression) → NetFound → NetMatching
+next_met y es [] s = net_failed
+next_met y es (n ∷ fs) s = net_met y n es fs s
+
+-- a symbol at the expressions and networks
+abbrev pub met_by : NetSym → List Expression → List (Network Expression) → NetFound → NetMatching
+met_by (S.Leaf y) es fs s = beside fs s (step y (matching es s.exprs))
+met_by y es fs s = next_met y es fs s
 
 -- one symbol of a pattern
 abbrev pub net_step : NetSym → NetMatching → NetMatching
 net_step y net_failed = net_failed
-net_step y (net_matching [] s) = net_failed
-net_step y (net_matching (f ∷ fs) s) = net_met y f fs s
+net_step y (net_matching es fs s) = met_by y es fs s
 
 -- a pattern, symbol by symbol
 abbrev pub net_matched : List NetSym → NetMatching → NetMatching
@@ -125,12 +130,13 @@ net_matched (y ∷ ys) m = net_matched ys (net_step y m)
 
 -- the trees of the letters at the end, where nothing is left to match
 abbrev pub net_ended : NetMatching → Option NetFound
-net_ended (net_matching [] s) = Some s
+net_ended (net_matching [] [] s) = Some s
 net_ended _ = None
 
--- the trees of the letters where the pattern fits the networks
-abbrev pub net_fitted : List NetSym → List (Network Expression) → NetFound → Option NetFound
-net_fitted pattern fs s = net_ended (net_matched pattern (net_matching fs s))
+-- the trees of the letters where the pattern fits the expressions and networks
+abbrev pub net_fitted : List NetSym → List Expression → List (Network Expression) → NetFound
+    → Option NetFound
+net_fitted pattern es fs s = net_ended (net_matched pattern (net_matching es fs s))
 
 -- the network, or `time`
 abbrev pub or_time : Option (Network Expression) → Network Expression
@@ -160,4 +166,4 @@ net_built right (Some s) = net_filled (net_completed s) right
 -- what matching the left side and building the right side makes of a network
 abbrev pub net_rewritten : List NetSym → List NetSym → Network Expression
     → Option (Network Expression)
-net_rewritten left right n = net_built right (net_fitted left (n ∷ []) no_nets_found)
+net_rewritten left right n = net_built right (net_fitted left [] (n ∷ []) no_nets_found)

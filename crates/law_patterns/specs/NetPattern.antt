@@ -6,7 +6,7 @@ use Rattle.law_patterns.specs.declared.net_sym.NetLetter.{NetLetter}
 use Rattle.law_patterns.specs.declared.net_sym.NetLetter.TheVariants as L
 use Rattle.law_patterns.specs.declared.net_sym.NetSym.{NetSym}
 use Rattle.law_patterns.specs.declared.net_sym.NetSym.TheVariants as S
-use Rattle.law_patterns.specs.Pattern.{Assignment, around_one, around_two, around_three, only, filled}
+use Rattle.law_patterns.specs.Pattern.{Assignment, around_one, around_two, around_three, put_before}
 
 -- a choice of trees for the letters: networks f, g and h, a number q, and what the letters of
 -- expressions stand for
@@ -23,62 +23,79 @@ net_chosen a L.F = a.f
 net_chosen a L.G = a.g
 net_chosen a L.H = a.h
 
--- a form of one expression, before some networks; None where the expression isn't there
-abbrev pub leaf_before : (Expression → Network Expression) → Option Expression
-    → List (Network Expression) → Option (List (Network Expression))
-leaf_before form None fs = None
-leaf_before form (Some e) fs = Some (form e ∷ fs)
+-- expressions, and networks
+pub data Written : Type 0 where
+  both : List Expression → List (Network Expression) → Written
+
+-- a form of one expression, around the first; None if there is none
+abbrev pub of_leaf : (Expression → Network Expression) → List Expression
+    → List (Network Expression) → Option Written
+of_leaf form (e ∷ es) fs = Some (both es (form e ∷ fs))
+of_leaf form _ fs = None
 
 -- a form of two expressions
-abbrev pub leaves_before : (Expression → Expression → Network Expression) → Option Expression
-    → Option Expression → List (Network Expression) → Option (List (Network Expression))
-leaves_before form None r fs = None
-leaves_before form (Some d) r fs = leaf_before (form d) r fs
+abbrev pub of_leaves : (Expression → Expression → Network Expression) → List Expression
+    → List (Network Expression) → Option Written
+of_leaves form (d ∷ e ∷ es) fs = Some (both es (form d e ∷ fs))
+of_leaves form _ fs = None
 
--- a form of an expression and a network, around the first of some networks
-abbrev pub leaf_around : (Expression → Network Expression → Network Expression)
-    → Option Expression → List (Network Expression) → Option (List (Network Expression))
-leaf_around form None fs = None
-leaf_around form (Some e) fs = around_one (form e) fs
+-- a form of an expression and a network
+abbrev pub of_fed : (Expression → Network Expression → Network Expression) → List Expression
+    → List (Network Expression) → Option Written
+of_fed form (e ∷ es) (f ∷ fs) = Some (both es (form e f ∷ fs))
+of_fed form _ _ = None
 
--- a symbol before networks, of which a form takes the first ones as its parts; None where there are
--- too few, or where a pattern isn't one expression
-abbrev pub net_put_before : NetAssignment → NetSym → List (Network Expression)
-    → Option (List (Network Expression))
-net_put_before a (S.Letter k) fs = Some (net_chosen a k ∷ fs)
-net_put_before a (S.Arr p) fs = leaf_before arr (filled a.exprs p.now) fs
-net_put_before a (S.IPre p) fs = leaf_before i_pre (filled a.exprs p.now) fs
-net_put_before a (S.Hold p) fs = leaf_before hold (filled a.exprs p.now) fs
-net_put_before a (S.Delay p) fs = leaf_before (delay a.q) (filled a.exprs p.now) fs
-net_put_before a (S.After p) fs = leaf_before (after a.q) (filled a.exprs p.now) fs
-net_put_before a (S.Repeatedly p) fs = leaf_before (repeatedly a.q) (filled a.exprs p.now) fs
-net_put_before a (S.AccumBy p r) fs =
-    leaves_before accum_by (filled a.exprs p.now) (filled a.exprs r.now) fs
-net_put_before a (S.LoopPre p) fs = leaf_around loop_pre (filled a.exprs p.now) fs
-net_put_before a (S.InitialOut p) fs = leaf_around initial_out (filled a.exprs p.now) fs
-net_put_before a (S.InitialIn p) fs = leaf_around initial_in (filled a.exprs p.now) fs
-net_put_before a S.First fs = around_one first fs
-net_put_before a S.Seq fs = around_two seq fs
-net_put_before a S.Switch fs = around_two (switch at_once) fs
-net_put_before a S.DSwitch fs = around_two (switch delayed) fs
-net_put_before a S.RSwitch fs = around_two (r_switch at_once) fs
-net_put_before a S.DrSwitch fs = around_two (r_switch delayed) fs
-net_put_before a S.KSwitch fs = around_three k_switch fs
+-- networks beside expressions, if these are there
+abbrev pub with_nets : Option (List Expression) → List (Network Expression) → Option Written
+with_nets None fs = None
+with_nets (Some es) fs = Some (both es fs)
 
--- a symbol before networks, if there are any
-abbrev pub net_put_before_some : NetAssignment → NetSym → Option (List (Network Expression))
-    → Option (List (Network Expression))
+-- expressions beside networks, if these are there
+abbrev pub with_exprs : List Expression → Option (List (Network Expression)) → Option Written
+with_exprs es None = None
+with_exprs es (Some fs) = Some (both es fs)
+
+-- a symbol before expressions and networks, of which a form takes the first ones as its parts; None
+-- where there are too few
+abbrev pub net_put_before : NetAssignment → NetSym → Written → Option Written
+net_put_before a (S.Letter k) (both es fs) = Some (both es (net_chosen a k ∷ fs))
+net_put_before a (S.Leaf y) (both es fs) = with_nets (put_before a.exprs y es) fs
+net_put_before a S.Arr (both es fs) = of_leaf arr es fs
+net_put_before a S.IPre (both es fs) = of_leaf i_pre es fs
+net_put_before a S.Hold (both es fs) = of_leaf hold es fs
+net_put_before a S.Delay (both es fs) = of_leaf (delay a.q) es fs
+net_put_before a S.After (both es fs) = of_leaf (after a.q) es fs
+net_put_before a S.Repeatedly (both es fs) = of_leaf (repeatedly a.q) es fs
+net_put_before a S.AccumBy (both es fs) = of_leaves accum_by es fs
+net_put_before a S.LoopPre (both es fs) = of_fed loop_pre es fs
+net_put_before a S.InitialOut (both es fs) = of_fed initial_out es fs
+net_put_before a S.InitialIn (both es fs) = of_fed initial_in es fs
+net_put_before a S.First (both es fs) = with_exprs es (around_one first fs)
+net_put_before a S.Seq (both es fs) = with_exprs es (around_two seq fs)
+net_put_before a S.Switch (both es fs) = with_exprs es (around_two (switch at_once) fs)
+net_put_before a S.DSwitch (both es fs) = with_exprs es (around_two (switch delayed) fs)
+net_put_before a S.RSwitch (both es fs) = with_exprs es (around_two (r_switch at_once) fs)
+net_put_before a S.DrSwitch (both es fs) = with_exprs es (around_two (r_switch delayed) fs)
+net_put_before a S.KSwitch (both es fs) = with_exprs es (around_three k_switch fs)
+
+-- a symbol before what is written, if anything is
+abbrev pub net_put_before_some : NetAssignment → NetSym → Option Written → Option Written
 net_put_before_some a s None = None
-net_put_before_some a s (Some fs) = net_put_before a s fs
+net_put_before_some a s (Some w) = net_put_before a s w
 
--- the networks that some symbols write, one behind the other; None where a form lacks parts
-abbrev pub net_written : NetAssignment → List NetSym → Option (List (Network Expression))
-net_written a [] = Some []
+-- what some symbols write, one behind the other; None where a form lacks parts
+abbrev pub net_written : NetAssignment → List NetSym → Option Written
+net_written a [] = Some (both [] [])
 net_written a (s ∷ ss) = net_put_before_some a s (net_written a ss)
+
+-- the network of what is one network alone
+abbrev pub only_net : Option Written → Option (Network Expression)
+only_net (Some (both [] (f ∷ []))) = Some f
+only_net _ = None
 
 -- a pattern with its letters filled in; None where it isn't one network
 abbrev pub net_filled : NetAssignment → List NetSym → Option (Network Expression)
-net_filled a pattern = only (net_written a pattern)
+net_filled a pattern = only_net (net_written a pattern)
 
 -- what a law whose sides are these patterns makes of l is r: one choice of trees for the letters
 -- fills the left side to l and the right side to r

@@ -1,7 +1,7 @@
 -- Patterns of expressions: what they stand for, and the rows of laws that pairs of them make.
 use Rattle.std.specs.Prelude.{◌≡◌, List, [], ◌∷◌, Option, Some, None}
 use Rattle.sample_core.specs.TypeTree.{TypeTree}
-use Rattle.leaf_core.specs.Expression.{Expression, input, unit_expr, bool_expr, no_event_expr, fst, snd, event_expr, pair_expr, then_expr, add, if_expr, on}
+use Rattle.leaf_core.specs.Expression.{Expression, input, unit_expr, bool_expr, no_event_expr, fst, snd, event_expr, pair_expr, then_expr, neg, not_expr, add, sub, mul, if_expr, on}
 use Rattle.law_patterns.specs.declared.sym.Letter.{Letter}
 use Rattle.law_patterns.specs.declared.sym.Letter.TheVariants as L
 use Rattle.law_patterns.specs.declared.sym.Sym.{Sym}
@@ -50,7 +50,11 @@ put_before a S.Snd es = around_one snd es
 put_before a S.Event es = around_one event_expr es
 put_before a S.Pair es = around_two pair_expr es
 put_before a S.Then es = around_two then_expr es
+put_before a S.Neg es = around_one neg es
+put_before a S.Not es = around_one not_expr es
 put_before a S.Add es = around_two add es
+put_before a S.Sub es = around_two sub es
+put_before a S.Mul es = around_two mul es
 put_before a S.If es = around_three if_expr es
 put_before a S.On es = around_three on es
 

@@ -33,16 +33,10 @@ letters_of (s ∷ ss) = letters_in s ++ letters_of ss
 -- the letters of a symbol of networks
 abbrev pub net_letters_in : NetSym → List AnyLetter
 net_letters_in (N.Letter k) = of_network k ∷ []
-net_letters_in (N.Arr p) = letters_of p.now
-net_letters_in (N.IPre p) = letters_of p.now
-net_letters_in (N.Hold p) = letters_of p.now
-net_letters_in (N.Delay p) = of_number ∷ letters_of p.now
-net_letters_in (N.After p) = of_number ∷ letters_of p.now
-net_letters_in (N.Repeatedly p) = of_number ∷ letters_of p.now
-net_letters_in (N.AccumBy p r) = letters_of p.now ++ letters_of r.now
-net_letters_in (N.LoopPre p) = letters_of p.now
-net_letters_in (N.InitialOut p) = letters_of p.now
-net_letters_in (N.InitialIn p) = letters_of p.now
+net_letters_in (N.Leaf y) = letters_in y
+net_letters_in N.Delay = of_number ∷ []
+net_letters_in N.After = of_number ∷ []
+net_letters_in N.Repeatedly = of_number ∷ []
 net_letters_in _ = []
 
 -- the letters that stand in a pattern of networks

@@ -37,7 +37,12 @@ pub(crate) fn build(
 
 /// Puts on the stack what the symbol makes: a letter's expression, or the form with the parts that
 /// it takes off. Whether they were there.
-fn make(alloc: Global, sym: Sym, letters: &Letters, stack: &mut Stack) -> Result<bool, Memory>
+pub(crate) fn make(
+    alloc: Global,
+    sym: Sym,
+    letters: &Letters,
+    stack: &mut Stack,
+) -> Result<bool, Memory>
     ensures { IfOk result (λ b. there b stack.new ≡ put_before (completed (found_of letters.now)) sym stack.old) }
 {
     match sym {
@@ -52,8 +57,8 @@ fn make(alloc: Global, sym: Sym, letters: &Letters, stack: &mut Stack) -> Result
             let carried = letters.copy_of_type(alloc)?;
             put(alloc, Expr::NoEvent(carried), stack)
         }
-        Sym::Fst | Sym::Snd | Sym::Event => make_one(alloc, sym, stack),
-        Sym::Pair | Sym::Then | Sym::Add => make_two(alloc, sym, stack),
+        Sym::Fst | Sym::Snd | Sym::Event | Sym::Neg | Sym::Not => make_one(alloc, sym, stack),
+        Sym::Pair | Sym::Then | Sym::Add | Sym::Sub | Sym::Mul => make_two(alloc, sym, stack),
         Sym::If | Sym::On => make_three(alloc, sym, stack),
     }
 }
@@ -110,6 +115,8 @@ fn one(form: Sym, a: ExprChild) -> Expr
     match form {
         Sym::Fst => Expr::Fst(a),
         Sym::Snd => Expr::Snd(a),
+        Sym::Neg => Expr::Neg(a),
+        Sym::Not => Expr::Not(a),
         _ => Expr::Event(a),
     }
 }
@@ -121,6 +128,8 @@ fn two(form: Sym, a: ExprChild, b: ExprChild) -> Expr
     match form {
         Sym::Pair => Expr::Pair(a, b),
         Sym::Then => Expr::Then(a, b),
+        Sym::Sub => Expr::Sub(a, b),
+        Sym::Mul => Expr::Mul(a, b),
         _ => Expr::Add(a, b),
     }
 }

@@ -7,7 +7,7 @@
 //! to it; else `None`. Where each letter of the right pattern stands in the left one, a left side
 //! has one right side (`pattern_laws`). So a law is a line of data in `expr_laws` or `law_rules`.
 //!
-//! First `specs/Pattern`, then `src/rewrite.rt`; symbols of forms stand in `src/net_sym.rt`.
+//! First `specs/Pattern`, then `src/rewrite.rt`; symbols of networks stand in `src/net_sym.rt`.
 #![tactic(auto)]
 
 mod building;
@@ -26,11 +26,9 @@ mod sym;
 mod todo;
 
 pub use laws::pattern_laws;
-pub use net_sym::{
-    D_SWITCH, DR_SWITCH, FIRST, K_SWITCH, NET_F, NET_G, NET_H, NetLetter, NetSym, R_SWITCH, SEQ,
-    SWITCH,
-};
+pub use net_sym::{NetLetter, NetSym};
 pub use rewrite::{rewrite_expr, rewrite_net};
 pub use sym::{
-    ADD, EVENT, F, FALSE, FST, G, H, I, IF, Letter, NONE, ON, PAIR, SND, Sym, THEN, TRUE, UNIT, X,
+    ADD, EVENT, F, FALSE, FST, G, H, I, IF, Letter, MUL, NEG, NONE, NOT, ON, PAIR, SND, SUB, Sym,
+    THEN, TRUE, UNIT, X,
 };

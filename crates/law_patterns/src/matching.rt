@@ -37,7 +37,11 @@ pub(crate) fn fit<'t>(
 }
 
 /// Matches the next expression against the symbol: whether they agree.
-fn meet<'t>(sym: Sym, todo: &mut Todo<'t>, letters: &mut Letters<'t>) -> Result<bool, Memory>
+pub(crate) fn meet<'t>(
+    sym: Sym,
+    todo: &mut Todo<'t>,
+    letters: &mut Letters<'t>,
+) -> Result<bool, Memory>
     ensures { IfOk result (λ b. going b todo.new (found_of letters.new) ≡ step sym (matching todo.old (found_of letters.old))) }
 {
     match todo.pop() {
@@ -66,7 +70,11 @@ fn meet_expr<'t>(
         (Sym::Event, Expr::Event(a)) => todo.put_one(a),
         (Sym::Pair, Expr::Pair(a, b)) => todo.put_two(a, b),
         (Sym::Then, Expr::Then(a, b)) => todo.put_two(a, b),
+        (Sym::Neg, Expr::Neg(a)) => todo.put_one(a),
+        (Sym::Not, Expr::Not(a)) => todo.put_one(a),
         (Sym::Add, Expr::Add(a, b)) => todo.put_two(a, b),
+        (Sym::Sub, Expr::Sub(a, b)) => todo.put_two(a, b),
+        (Sym::Mul, Expr::Mul(a, b)) => todo.put_two(a, b),
         (Sym::If, Expr::If(a, b, c)) => todo.put_three(a, b, c),
         (Sym::On, Expr::On(a, b, c)) => todo.put_three(a, b, c),
         _ => Ok(false),

@@ -5,17 +5,18 @@ ghost use Rattle.leaf_core.specs.ExpressionView.{expression_of};
 ghost use Rattle.net_tree.specs.FormView.{fed_tree};
 ghost use Rattle.net_tree.specs.Network.{accum_by, first, k_switch};
 ghost use Rattle.net_tree.specs.NetworkView.{tree_of, tree};
-ghost use Rattle.law_patterns.specs.Building.{there};
 ghost use Rattle.law_patterns.specs.Matching.{completed, found_of};
-ghost use Rattle.law_patterns.specs.NetBuilding.{leaf_form, pair_form};
+ghost use Rattle.law_patterns.specs.NetBuilding.{both_there, leaf_form, pair_form};
 ghost use Rattle.law_patterns.specs.NetMatching.{net_completed, nets_found_of, or_zero};
-ghost use Rattle.law_patterns.specs.NetPattern.{leaf_before, leaves_before, leaf_around, net_put_before, net_filled};
-ghost use Rattle.law_patterns.specs.Pattern.{around_one, around_two, around_three, filled};
+ghost use Rattle.law_patterns.specs.NetPattern.{both, net_filled, net_put_before, of_fed, of_leaf, of_leaves, only_net, with_exprs, with_nets};
+ghost use Rattle.law_patterns.specs.Pattern.{around_one, around_two, around_three, put_before};
 
-use crate::building::build;
+use crate::building;
+use crate::letters::Letters;
 use crate::net_letters::NetLetters;
 use crate::net_stack::NetStack;
 use crate::net_sym::NetSym;
+use crate::stack::Stack;
 use crate::sym::Sym;
 use leaf_core::Expr;
 use net_tree::{FedForm, LeafForm, Net, NetChild, PairForm};
@@ -34,73 +35,98 @@ pub(crate) fn build_net(
         (λ n. net_filled (net_completed (nets_found_of letters.now)) pattern.now
         ≡ Some (tree_of n))) }
 {
-    let mut stack = NetStack::new(alloc);
+    let mut exprs = Stack::new(alloc);
+    let mut nets = NetStack::new(alloc);
     let mut left = pattern.len();
     while left > 0 {
         left -= 1;
-        if !make(alloc, pattern[left], letters, &mut stack)? {
+        if !make(alloc, pattern[left], letters, &mut exprs, &mut nets)? {
             return Ok(None);
         }
     }
-    stack.only(alloc)
+    only_net(alloc, &exprs, nets)
 }
 
-/// Puts on the stack what the symbol makes: a letter's network, or the form with the networks that
-/// it takes off. Whether they were there, and its patterns were expressions.
+/// The network, where it is the only one and there are no expressions beside it.
+fn only_net(alloc: Global, exprs: &Stack, nets: NetStack) -> Result<Option<Net<Expr>>, Memory>
+    ensures { IfOk result (λ o. MatchOption o (only_net (Some (both exprs.now nets)) ≡ None)
+        (λ n. only_net (Some (both exprs.now nets)) ≡ Some (tree_of n))) }
+{
+    if exprs.is_empty() {
+        nets.only(alloc)
+    } else {
+        drop(nets);
+        Ok(None)
+    }
+}
+
+/// Puts on the stacks what the symbol makes: a letter's network, what an expression's symbol makes,
+/// or the form with the expressions and networks that it takes off. Whether they were there.
 fn make(
     alloc: Global,
     sym: NetSym,
     letters: &NetLetters,
-    stack: &mut NetStack,
+    exprs: &mut Stack,
+    nets: &mut NetStack,
 ) -> Result<bool, Memory>
-    ensures { IfOk result (λ b. there b stack.new
-        ≡ net_put_before (net_completed (nets_found_of letters.now)) sym stack.old) }
+    ensures { IfOk result (λ b. both_there b exprs.new nets.new
+        ≡ net_put_before (net_completed (nets_found_of letters.now)) sym
+        (both exprs.old nets.old)) }
 {
     match sym {
         NetSym::Letter(k) => {
             let net = letters.copy_of(alloc, k)?;
-            put(alloc, net, stack)
+            put(alloc, net, nets)
         }
-        NetSym::Arr(p)
-        | NetSym::IPre(p)
-        | NetSym::Hold(p)
-        | NetSym::Delay(p)
-        | NetSym::After(p)
-        | NetSym::Repeatedly(p) => make_leaf(alloc, sym, p, letters, stack),
-        NetSym::AccumBy(p, r) => make_accum(alloc, p, r, letters, stack),
-        NetSym::LoopPre(p) => make_fed(alloc, FedForm::LoopPre, p, letters, stack),
-        NetSym::InitialOut(p) => make_fed(alloc, FedForm::InitialOut, p, letters, stack),
-        NetSym::InitialIn(p) => make_fed(alloc, FedForm::InitialIn, p, letters, stack),
-        NetSym::First => make_first(alloc, stack),
+        NetSym::Leaf(sym) => make_expr(alloc, sym, &letters.exprs, exprs),
+        NetSym::Arr
+        | NetSym::IPre
+        | NetSym::Hold
+        | NetSym::Delay
+        | NetSym::After
+        | NetSym::Repeatedly => make_leaf(alloc, sym, letters.number(), exprs, nets),
+        NetSym::AccumBy => make_accum(alloc, exprs, nets),
+        NetSym::LoopPre => make_fed(alloc, FedForm::LoopPre, exprs, nets),
+        NetSym::InitialOut => make_fed(alloc, FedForm::InitialOut, exprs, nets),
+        NetSym::InitialIn => make_fed(alloc, FedForm::InitialIn, exprs, nets),
+        NetSym::First => make_first(alloc, nets),
         NetSym::Seq | NetSym::Switch | NetSym::DSwitch | NetSym::RSwitch | NetSym::DrSwitch =>
-            make_pair(alloc, sym, stack),
-        NetSym::KSwitch => make_freeze(alloc, stack),
+            make_pair(alloc, sym, nets),
+        NetSym::KSwitch => make_freeze(alloc, nets),
     }
 }
 
 /// Puts the network on the stack, and answers true.
-fn put(alloc: Global, net: Net<Expr>, stack: &mut NetStack) -> Result<bool, Memory>
-    ensures { IfOk result (λ b. there b stack.new ≡ Some (tree_of net ∷ stack.old)) }
+fn put(alloc: Global, net: Net<Expr>, nets: &mut NetStack) -> Result<bool, Memory>
+    ensures { IfOk result (λ b. (es : _) → both_there b es nets.new
+        ≡ Some (both es (tree_of net ∷ nets.old))) }
 {
-    stack.put(alloc, net)?;
+    nets.put(alloc, net)?;
     Ok(true)
 }
 
-/// Puts the form with its expression on the stack. Whether the pattern is an expression.
+/// Puts on the stack what an expression's symbol makes. Whether its parts were there.
+fn make_expr(alloc: Global, sym: Sym, letters: &Letters, exprs: &mut Stack) -> Result<bool, Memory>
+    ensures { IfOk result (λ b. (fs : _) → both_there b exprs.new fs
+        ≡ with_nets (put_before (completed (found_of letters.now)) sym exprs.old) fs) }
+{
+    building::make(alloc, sym, letters, exprs)
+}
+
+/// Puts the form around the expression on top of the stack. Whether it was there.
 fn make_leaf(
     alloc: Global,
     form: NetSym,
-    pattern: &[Sym],
-    letters: &NetLetters,
-    stack: &mut NetStack,
+    q: u64,
+    exprs: &mut Stack,
+    nets: &mut NetStack,
 ) -> Result<bool, Memory>
-    ensures { IfOk result (λ b. there b stack.new
-        ≡ leaf_before (leaf_form form (or_zero (nets_found_of letters.now).q))
-        (filled (completed (nets_found_of letters.now).exprs) pattern.now) stack.old) }
+    ensures { IfOk result (λ b. both_there b exprs.new nets.new
+        ≡ of_leaf (leaf_form form q) exprs.old nets.old) }
 {
-    match build(alloc, pattern, &letters.exprs)? {
+    match exprs.pop_expr(alloc)? {
         None => Ok(false),
-        Some(expr) => put(alloc, leaf(form, letters.number(), expr), stack),
+        Some(expr) => put(alloc, leaf(form, q, expr), nets),
     }
 }
 
@@ -109,32 +135,25 @@ fn leaf(form: NetSym, q: u64, expr: Expr) -> Net<Expr>
     ensures { tree_of result ≡ leaf_form form q (expression_of expr) }
 {
     match form {
-        NetSym::IPre(_) => LeafForm::IPre.of(expr),
-        NetSym::Hold(_) => LeafForm::Hold.of(expr),
-        NetSym::Delay(_) => LeafForm::Delay(q).of(expr),
-        NetSym::After(_) => LeafForm::After(q).of(expr),
-        NetSym::Repeatedly(_) => LeafForm::Repeatedly(q).of(expr),
+        NetSym::IPre => LeafForm::IPre.of(expr),
+        NetSym::Hold => LeafForm::Hold.of(expr),
+        NetSym::Delay => LeafForm::Delay(q).of(expr),
+        NetSym::After => LeafForm::After(q).of(expr),
+        NetSym::Repeatedly => LeafForm::Repeatedly(q).of(expr),
         _ => LeafForm::Arr.of(expr),
     }
 }
 
-/// Puts `accumBy` with its expressions on the stack. Whether the patterns are expressions.
-fn make_accum(
-    alloc: Global,
-    first: &[Sym],
-    second: &[Sym],
-    letters: &NetLetters,
-    stack: &mut NetStack,
-) -> Result<bool, Memory>
-    ensures { IfOk result (λ b. there b stack.new
-        ≡ leaves_before accum_by (filled (completed (nets_found_of letters.now).exprs) first.now)
-        (filled (completed (nets_found_of letters.now).exprs) second.now) stack.old) }
+/// Puts `accumBy` around the two expressions on top of the stack. Whether they were there.
+fn make_accum(alloc: Global, exprs: &mut Stack, nets: &mut NetStack) -> Result<bool, Memory>
+    ensures { IfOk result (λ b. both_there b exprs.new nets.new
+        ≡ of_leaves accum_by exprs.old nets.old) }
 {
-    let Some(g) = build(alloc, first, &letters.exprs)? else {
+    let Some(g) = exprs.pop_expr(alloc)? else {
         return Ok(false);
     };
-    match build(alloc, second, &letters.exprs) {
-        Ok(Some(z)) => put(alloc, Net::AccumBy(g, z), stack),
+    match exprs.pop_expr(alloc) {
+        Ok(Some(z)) => put(alloc, Net::AccumBy(g, z), nets),
         Ok(None) => {
             drop(g);
             Ok(false)
@@ -146,24 +165,22 @@ fn make_accum(
     }
 }
 
-/// Puts the form of an expression and a network around the network on top of the stack. Whether it
-/// was there, and the pattern is an expression.
+/// Puts the form around the expression and the network on top of the stacks. Whether they were
+/// there.
 fn make_fed(
     alloc: Global,
     form: FedForm,
-    pattern: &[Sym],
-    letters: &NetLetters,
-    stack: &mut NetStack,
+    exprs: &mut Stack,
+    nets: &mut NetStack,
 ) -> Result<bool, Memory>
-    ensures { IfOk result (λ b. there b stack.new
-        ≡ leaf_around (fed_tree form)
-        (filled (completed (nets_found_of letters.now).exprs) pattern.now) stack.old) }
+    ensures { IfOk result (λ b. both_there b exprs.new nets.new
+        ≡ of_fed (fed_tree form) exprs.old nets.old) }
 {
-    let Some(c) = build(alloc, pattern, &letters.exprs)? else {
+    let Some(c) = exprs.pop_expr(alloc)? else {
         return Ok(false);
     };
-    match stack.pop() {
-        Some(f) => put(alloc, form.of(c, f), stack),
+    match nets.pop() {
+        Some(f) => put(alloc, form.of(c, f), nets),
         None => {
             drop(c);
             Ok(false)
@@ -172,22 +189,24 @@ fn make_fed(
 }
 
 /// Puts `first` around the network on top of the stack. Whether it was there.
-fn make_first(alloc: Global, stack: &mut NetStack) -> Result<bool, Memory>
-    ensures { IfOk result (λ b. there b stack.new ≡ around_one first stack.old) }
+fn make_first(alloc: Global, nets: &mut NetStack) -> Result<bool, Memory>
+    ensures { IfOk result (λ b. (es : _) → both_there b es nets.new
+        ≡ with_exprs es (around_one first nets.old)) }
 {
-    match stack.pop() {
+    match nets.pop() {
         None => Ok(false),
-        Some(f) => put(alloc, Net::First(f), stack),
+        Some(f) => put(alloc, Net::First(f), nets),
     }
 }
 
 /// Puts the form around the two networks on top of the stack. Whether they were there.
-fn make_pair(alloc: Global, form: NetSym, stack: &mut NetStack) -> Result<bool, Memory>
-    ensures { IfOk result (λ b. there b stack.new ≡ around_two (pair_form form) stack.old) }
+fn make_pair(alloc: Global, form: NetSym, nets: &mut NetStack) -> Result<bool, Memory>
+    ensures { IfOk result (λ b. (es : _) → both_there b es nets.new
+        ≡ with_exprs es (around_two (pair_form form) nets.old)) }
 {
-    match stack.pop_two() {
+    match nets.pop_two() {
         None => Ok(false),
-        Some((f, g)) => put(alloc, pair(form, f, g), stack),
+        Some((f, g)) => put(alloc, pair(form, f, g), nets),
     }
 }
 
@@ -205,18 +224,19 @@ fn pair(form: NetSym, f: NetChild<Expr>, g: NetChild<Expr>) -> Net<Expr>
 }
 
 /// Puts `kSwitch` around the three networks on top of the stack. Whether they were there.
-fn make_freeze(alloc: Global, stack: &mut NetStack) -> Result<bool, Memory>
-    ensures { IfOk result (λ b. there b stack.new ≡ around_three k_switch stack.old) }
+fn make_freeze(alloc: Global, nets: &mut NetStack) -> Result<bool, Memory>
+    ensures { IfOk result (λ b. (es : _) → both_there b es nets.new
+        ≡ with_exprs es (around_three k_switch nets.old)) }
 {
-    let Some((f, e)) = stack.pop_two() else {
+    let Some((f, e)) = nets.pop_two() else {
         return Ok(false);
     };
-    match stack.pop() {
+    match nets.pop() {
         None => {
             drop(f);
             drop(e);
             Ok(false)
         }
-        Some(t) => put(alloc, Net::KSwitch(f, e, t), stack),
+        Some(t) => put(alloc, Net::KSwitch(f, e, t), nets),
     }
 }

@@ -1,15 +1,17 @@
 // The trees that letters of patterns of networks stand for.
 
-ghost use Rattle.std.specs.Prelude.{◌≡◌, IfOk};
+ghost use Rattle.std.specs.Prelude.{◌≡◌, ◌∷◌, IfOk};
 ghost use Rattle.leaf_core.specs.ExpressionView.{expression_of};
 ghost use Rattle.net_tree.specs.NetworkView.{tree_of};
 ghost use Rattle.law_patterns.specs.NetPattern.{net_chosen};
-ghost use Rattle.law_patterns.specs.NetMatching.{no_nets_found, nets_found_of, net_found_at, net_found_with, held_network, net_going, net_matching, net_bound, number_bound, leaf_step, net_completed, or_time, or_zero};
+ghost use Rattle.law_patterns.specs.NetMatching.{beside, no_nets_found, nets_found_of, net_found_at, net_found_with, held_network, net_going, net_bound, number_bound, net_completed, or_time, or_zero};
+ghost use Rattle.law_patterns.specs.Matching.{matching, step};
 
 use crate::letters::Letters;
-use crate::matching::fit;
+use crate::matching::meet;
 use crate::net_sym::NetLetter;
 use crate::sym::Sym;
+use crate::todo::Todo;
 use leaf_core::Expr;
 use net_tree::{Net, same_net};
 use sample_core::Memory;
@@ -64,9 +66,9 @@ impl<'t> NetLetters<'t> {
 
     /// Lets the letter stand for the network, where it stands for no other: whether it does.
     pub(crate) fn bind(&mut self, letter: NetLetter, net: &'t Net<Expr>) -> bool
-        ensures { (fs : _) → net_going result fs (nets_found_of self.new)
-            ≡ net_bound (net_found_at (nets_found_of self.old) letter) letter (tree_of net.now) fs
-            (nets_found_of self.old) }
+        ensures { (es fs : _) → net_going result es fs (nets_found_of self.new)
+            ≡ net_bound (net_found_at (nets_found_of self.old) letter) letter (tree_of net.now)
+            es fs (nets_found_of self.old) }
     {
         match self.get(letter) {
             Some(earlier) => same_net(earlier, net),
@@ -79,8 +81,8 @@ impl<'t> NetLetters<'t> {
 
     /// Lets the number letter stand for the number, where it stands for no other: whether it does.
     fn bind_number(&mut self, q: u64) -> bool
-        ensures { (fs : _) → net_going result fs (nets_found_of self.new)
-            ≡ number_bound (nets_found_of self.old).q q fs (nets_found_of self.old) }
+        ensures { (es fs : _) → net_going result es fs (nets_found_of self.new)
+            ≡ number_bound (nets_found_of self.old).q q es fs (nets_found_of self.old) }
     {
         match self.q {
             Some(earlier) => earlier == q,
@@ -91,65 +93,30 @@ impl<'t> NetLetters<'t> {
         }
     }
 
-    /// Whether the pattern fits the expression; its letters then stand for what they are at.
+    /// Matches the symbol of an expression against the next expression: whether they agree.
     /// `Memory` if allocation fails.
-    pub(crate) fn meet_leaf(
-        &mut self,
-        alloc: Global,
-        pattern: &[Sym],
-        expr: &'t Expr,
-    ) -> Result<bool, Memory>
-        ensures { IfOk result (λ b. (fs : _) → net_going b fs (nets_found_of self.new)
-            ≡ leaf_step pattern.now (expression_of expr.now)
-            (net_matching fs (nets_found_of self.old))) }
+    pub(crate) fn meet_expr(&mut self, sym: Sym, exprs: &mut Todo<'t>) -> Result<bool, Memory>
+        ensures { IfOk result (λ b. (fs : _) → net_going b exprs.new fs (nets_found_of self.new)
+            ≡ beside fs (nets_found_of self.old)
+            (step sym (matching exprs.old (nets_found_of self.old).exprs))) }
     {
-        match fit(alloc, pattern, expr, self.exprs)? {
-            None => Ok(false),
-            Some(exprs) => {
-                self.exprs = exprs;
-                Ok(true)
-            }
-        }
+        meet(sym, exprs, &mut self.exprs)
     }
 
-    /// Whether the pattern fits the expression of a form with a number, for which the number letter
-    /// stands.
+    /// Puts the expression of a form with a number first, where the number letter stands for that
+    /// number, or for none: whether it does.
     pub(crate) fn meet_timed(
         &mut self,
-        alloc: Global,
-        pattern: &[Sym],
         q: u64,
         expr: &'t Expr,
+        exprs: &mut Todo<'t>,
     ) -> Result<bool, Memory>
-        ensures { IfOk result (λ b. (fs : _) → net_going b fs (nets_found_of self.new)
-            ≡ leaf_step pattern.now (expression_of expr.now)
-            (number_bound (nets_found_of self.old).q q fs (nets_found_of self.old))) }
+        ensures { IfOk result (λ b. (fs : _) → net_going b exprs.new fs (nets_found_of self.new)
+            ≡ number_bound (nets_found_of self.old).q q (expression_of expr.now ∷ exprs.old) fs
+            (nets_found_of self.old)) }
     {
-        if self.bind_number(q) {
-            self.meet_leaf(alloc, pattern, expr)
-        } else {
-            Ok(false)
-        }
-    }
-
-    /// Whether two patterns fit two expressions.
-    pub(crate) fn meet_leaves(
-        &mut self,
-        alloc: Global,
-        first: &[Sym],
-        second: &[Sym],
-        d: &'t Expr,
-        e: &'t Expr,
-    ) -> Result<bool, Memory>
-        ensures { IfOk result (λ b. (fs : _) → net_going b fs (nets_found_of self.new)
-            ≡ leaf_step second.now (expression_of e.now)
-            (leaf_step first.now (expression_of d.now) (net_matching fs (nets_found_of self.old)))) }
-    {
-        if self.meet_leaf(alloc, first, d)? {
-            self.meet_leaf(alloc, second, e)
-        } else {
-            Ok(false)
-        }
+        exprs.push(expr)?;
+        Ok(self.bind_number(q))
     }
 
     /// A copy of what the letter stands for; `time` where it stands for nothing. `Memory` if a

@@ -3,7 +3,8 @@
 ghost use Rattle.std.specs.Prelude.{◌≡◌, IfOk, MatchOption, ◌∷◌, [], Some, None};
 ghost use Rattle.net_tree.specs.Network.{seq};
 ghost use Rattle.net_tree.specs.NetworkView.{tree_of, tree};
-ghost use Rattle.law_patterns.specs.Pattern.{only, around_two};
+ghost use Rattle.law_patterns.specs.NetPattern.{both, only_net};
+ghost use Rattle.law_patterns.specs.Pattern.{around_two};
 
 use leaf_core::Expr;
 use net_tree::{Net, NetChild};
@@ -77,8 +78,8 @@ impl NetStack {
 
     /// The network on it, where it is the only one.
     pub(crate) fn only(mut self, alloc: Global) -> Result<Option<Net<Expr>>, Memory>
-        ensures { IfOk result (λ o. MatchOption o (only (Some self) ≡ None)
-            (λ n. only (Some self) ≡ Some (tree_of n))) }
+        ensures { IfOk result (λ o. MatchOption o (only_net (Some (both [] self)) ≡ None)
+            (λ n. only_net (Some (both [] self)) ≡ Some (tree_of n))) }
     {
         let Some(top) = self.pop() else {
             return Ok(None);

@@ -13,33 +13,34 @@ pub enum NetLetter {
     H,
 }
 
-/// A symbol of a pattern of networks, which is written with each form before its networks. The
-/// expressions of a form are patterns of expressions. `q` is a letter: any number, the same one at
-/// each place.
+/// A symbol of a pattern of networks, which is written with each form before its expressions, and
+/// these before its networks. `q` is a letter: any number, the same one at each place.
 #[derive(Clone, Copy)]
 pub enum NetSym {
     /// A letter.
     Letter(NetLetter),
+    /// A symbol of an expression.
+    Leaf(Sym),
     /// `(arr e)`.
-    Arr(&'static [Sym]),
+    Arr,
     /// `(iPre c)`.
-    IPre(&'static [Sym]),
+    IPre,
     /// `(hold c)`.
-    Hold(&'static [Sym]),
+    Hold,
     /// `(delay q c)`.
-    Delay(&'static [Sym]),
+    Delay,
     /// `(after q c)`.
-    After(&'static [Sym]),
+    After,
     /// `(repeatedly q c)`.
-    Repeatedly(&'static [Sym]),
+    Repeatedly,
     /// `(accumBy g z)`.
-    AccumBy(&'static [Sym], &'static [Sym]),
+    AccumBy,
     /// `(loopPre c f)`.
-    LoopPre(&'static [Sym]),
+    LoopPre,
     /// `(--> c f)`.
-    InitialOut(&'static [Sym]),
+    InitialOut,
     /// `(>-- c f)`.
-    InitialIn(&'static [Sym]),
+    InitialIn,
     /// `(first f)`.
     First,
     /// `(>>> f g)`.
@@ -55,24 +56,3 @@ pub enum NetSym {
     /// `(kSwitch f e t)`.
     KSwitch,
 }
-
-/// `f`, a network.
-pub const NET_F: NetSym = NetSym::Letter(NetLetter::F);
-/// `g`, a network.
-pub const NET_G: NetSym = NetSym::Letter(NetLetter::G);
-/// `h`, a network.
-pub const NET_H: NetSym = NetSym::Letter(NetLetter::H);
-/// `(first f)`.
-pub const FIRST: NetSym = NetSym::First;
-/// `(>>> f g)`.
-pub const SEQ: NetSym = NetSym::Seq;
-/// `(switch f t)`.
-pub const SWITCH: NetSym = NetSym::Switch;
-/// `(dSwitch f t)`.
-pub const D_SWITCH: NetSym = NetSym::DSwitch;
-/// `(rSwitch f t)`.
-pub const R_SWITCH: NetSym = NetSym::RSwitch;
-/// `(drSwitch f t)`.
-pub const DR_SWITCH: NetSym = NetSym::DrSwitch;
-/// `(kSwitch f e t)`.
-pub const K_SWITCH: NetSym = NetSym::KSwitch;

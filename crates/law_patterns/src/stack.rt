@@ -1,6 +1,6 @@
 // Expressions of which the last that was put on comes off first.
 
-ghost use Rattle.std.specs.Prelude.{◌≡◌, IfOk, MatchOption, ◌∷◌, [], Some, None};
+ghost use Rattle.std.specs.Prelude.{◌≡◌, ◌↔◌, IsTrue, IfOk, MatchOption, ◌∷◌, [], Some, None};
 ghost use Rattle.leaf_core.specs.Expression.{pair_expr};
 ghost use Rattle.leaf_core.specs.ExpressionView.{expression_of};
 ghost use Rattle.law_patterns.specs.Pattern.{only, around_two};
@@ -67,6 +67,28 @@ impl Stack {
                 None
             }
         }
+    }
+
+    /// Takes the top off, if there is one, as an expression.
+    pub(crate) fn pop_expr(&mut self, alloc: Global) -> Result<Option<Expr>, Memory>
+        ensures { IfOk result (λ o. MatchOption o ((self.old ≡ []) × (self.new ≡ []))
+            (λ e. self.old ≡ expression_of e ∷ self.new)) }
+    {
+        match self.pop() {
+            None => Ok(None),
+            Some(top) => {
+                let copy = top.get().try_copy(alloc);
+                drop(top);
+                Ok(Some(copy?))
+            }
+        }
+    }
+
+    /// Whether there is nothing on it.
+    pub(crate) fn is_empty(&self) -> bool
+        ensures { IsTrue result ↔ (self.now ≡ []) }
+    {
+        self.parts.is_empty()
     }
 
     /// The expression on it, where it is the only one.

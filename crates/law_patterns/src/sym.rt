@@ -36,8 +36,16 @@ pub enum Sym {
     Pair,
     /// `(then f g)`.
     Then,
+    /// `(neg a)`.
+    Neg,
     /// `(add a b)`.
     Add,
+    /// `(sub a b)`.
+    Sub,
+    /// `(mul a b)`.
+    Mul,
+    /// `(not a)`.
+    Not,
     /// `(if c a b)`.
     If,
     /// `(on e d b)`.
@@ -72,8 +80,16 @@ pub const EVENT: Sym = Sym::Event;
 pub const PAIR: Sym = Sym::Pair;
 /// `(then f g)`.
 pub const THEN: Sym = Sym::Then;
+/// `(neg a)`.
+pub const NEG: Sym = Sym::Neg;
 /// `(add a b)`.
 pub const ADD: Sym = Sym::Add;
+/// `(sub a b)`.
+pub const SUB: Sym = Sym::Sub;
+/// `(mul a b)`.
+pub const MUL: Sym = Sym::Mul;
+/// `(not a)`.
+pub const NOT: Sym = Sym::Not;
 /// `(if c a b)`.
 pub const IF: Sym = Sym::If;
 /// `(on e d b)`.

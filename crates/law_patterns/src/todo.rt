@@ -53,6 +53,23 @@ impl<'t> Todo<'t> {
         self.all.pop()
     }
 
+    /// Puts the expression first, and answers true.
+    pub(crate) fn put(&mut self, expr: &'t Expr) -> Result<bool, Memory>
+        ensures { IfOk result (λ b. (b ≡ true) × (self.new ≡ expression_of expr.now ∷ self.old)) }
+    {
+        self.push(expr)?;
+        Ok(true)
+    }
+
+    /// Puts two expressions first, in their order, and answers true.
+    pub(crate) fn put_pair(&mut self, d: &'t Expr, e: &'t Expr) -> Result<bool, Memory>
+        ensures { IfOk result (λ b. (b ≡ true)
+            × (self.new ≡ expression_of d.now ∷ expression_of e.now ∷ self.old)) }
+    {
+        self.push(e)?;
+        self.put(d)
+    }
+
     /// Puts one part first, and answers true.
     pub(crate) fn put_one(&mut self, a: &'t ExprChild) -> Result<bool, Memory>
         ensures { IfOk result (λ b. (b ≡ true) × (self.new ≡ a.now ∷ self.old)) }

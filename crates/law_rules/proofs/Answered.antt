@@ -17,18 +17,42 @@ use Rattle.net_tree.specs.declared.law_step.Direction.TheVariants.{Forward, Back
 use Rattle.law_rules.specs.NetworkRow.{NetworkRow}
 use Rattle.law_rules.specs.Answer.{NetworkAnswer, forward_answer, backward_answer, IsNetworkAnswer, IsNetworkRightSide}
 use Rattle.law_rules.proofs.SameSides.{same-sides, same-sides_back}
+use Rattle.law_patterns.specs.declared.net_sym.NetSym.{NetSym}
+use Rattle.law_patterns.proofs.NetRules.{ByNetPatterns, by-net_rule}
+use Rattle.law_rules.specs.Table.{rule_at, left_at, right_at}
+use Rattle.law_rules.specs.declared.table.Rule.{Rule}
+use Rattle.law_rules.specs.declared.table.Rule.TheVariants as R
 use Rattle.law_rules.proofs.NamedLaws.{IsRight}
-use Rattle.law_rules.proofs.RowsExact.{one-right_side}
+use Rattle.law_rules.proofs.TableRows.{made, made-is, Stands, stands, two-patterns}
+use Rattle.law_rules.proofs.Numbers.{one-right_side}
 
-no-some : {A : Type 0} (r : A) → None ≡ Some r → ⊥
-no-some r q = absurd (cc)
+-- what a rule makes right sides of
+abbrev MakesRight : ℕ → ℕ → Rule → Type 0
+MakesRight n olds rule = (net : Network Expression) → IsRight n olds net (made rule olds (left_at n) (right_at n) net)
 
--- what the function of the law of this number answers is the right side of its row
-pub by-function : {E : Type 0} (n m olds : ℕ) (net : Network Expression) (law : Option (Network Expression)) (x : Result (Option (Net Expr)) E) → n ≡ m → IsRight m olds net law
-    → ((r : Network Expression) → NetworkRow m olds net r → m ≡ m → law ≡ Some r) → IfOk x (λ o. option_map tree_of o ≡ law) → IfOk x (IsNetworkRightSide n olds net)
-by-function n m olds net law (Ok None) q g k h = λ r row. no-some r (h ∙ k r (subst (λ i. NetworkRow i olds net r) q row) refl)
-by-function n m olds net law (Ok (Some r)) q g k h = subst (λ i. NetworkRow i olds net (tree_of r)) (sym q) (subst (IsRight m olds net) (sym h) g)
-by-function n m olds net law (Err f) q g k h = tt
+only-made : (n olds : ℕ) (net r : Network Expression) (rule : Rule) → rule ≡ rule_at n → NetworkRow n olds net r → made rule olds (left_at n) (right_at n) net ≡ Some r
+only-made n olds net r rule q k = subst (λ v. made v olds (left_at n) (right_at n) net ≡ Some r) (sym q) (made-is k)
+
+-- a number whose rule is none has no row
+pub no-law : (n olds : ℕ) (net : Network Expression) → R.Nothing ≡ rule_at n → (r : Network Expression) → NetworkRow n olds net r → ⊥
+no-law n olds net q r k = let p : None ≡ Some r = only-made n olds net r R.Nothing q k in absurd (cc)
+
+right-answer : {E : Type 0} (n olds : ℕ) (net : Network Expression) (rule : Rule) (x : Result (Option (Net Expr)) E) → rule ≡ rule_at n → MakesRight n olds rule
+    → IfOk x (λ o. option_map tree_of o ≡ made rule olds (left_at n) (right_at n) net) → IfOk x (IsNetworkRightSide n olds net)
+right-answer n olds net rule (Ok None) q g h = λ r k. let p : None ≡ Some r = h ∙ only-made n olds net r rule q k in absurd (cc)
+right-answer n olds net rule (Ok (Some r)) q g h = subst (IsRight n olds net) (sym h) (g net)
+right-answer n olds net rule (Err f) q g h = tt
+
+-- what a rule by name answers is what the law of its number does
+pub by-name : {E : Type 0} (n olds : ℕ) (net : Network Expression) (rule : Rule) (x : Result (Option (Net Expr)) E) → rule ≡ rule_at n → (Stands n rule (left_at n) (right_at n) → MakesRight n olds rule)
+    → IfOk x (λ o. option_map tree_of o ≡ made rule olds (left_at n) (right_at n) net) → IfOk x (IsNetworkRightSide n olds net)
+by-name n olds net rule x q g h = right-answer n olds net rule x q (g (subst (λ v. Stands n v (left_at n) (right_at n)) (sym q) (stands n))) h
+
+-- what two patterns answer is what the law of their number does
+pub by-patterns : {E : Type 0} (n olds : ℕ) (net : Network Expression) (left right : List NetSym) (x : Result (Option (Net Expr)) E) → R.Sides ≡ rule_at n → left ≡ left_at n → right ≡ right_at n
+    → ByNetPatterns left right net x → IfOk x (IsNetworkRightSide n olds net)
+by-patterns n olds net left right x q s t h =
+    by-net_rule (NetworkRow n olds) (left_at n) (right_at n) net x (two-patterns n olds q) (subst (λ v. ByNetPatterns v (right_at n) net x) s (subst (λ v. ByNetPatterns left v net x) t h))
 
 forward-none : (n olds : ℕ) (net : Network Expression) → ((r : Network Expression) → NetworkRow n olds net r → ⊥) → (r : Network Expression) → NetworkAnswer (L.L n) Forward net None olds r → ⊥
 forward-none n olds net q r (forward_answer h) = q r h

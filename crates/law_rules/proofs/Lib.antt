@@ -1,6 +1,7 @@
 pub mod SomeLaws
 pub mod ArrowLaws
 pub mod CellLaws
+pub mod CellLoops
 pub mod LoopLaws
 pub mod ParallelLaws
 pub mod SwitchLaws
@@ -8,9 +9,8 @@ pub mod Scopes
 pub mod NetworkLaws
 pub mod SameSides
 pub mod NamedLaws
-pub mod RowsExact
-pub mod Numbers
 pub mod AnsweredParts
 pub mod Gathered
 pub mod TableRows
+pub mod Numbers
 pub mod Answered

@@ -1,11 +1,11 @@
 -- What the laws that aren't two patterns make of a network is a right side.
-use Rattle.std.proofs.Common.{◌≡◌, ℕ, ◌≤◌, Bool, true, false, cond, nat_le, nat_eq, ◌&&◌, pos, Option, Some, None, refl, sym, ap, ap₂, ◌∙◌, subst, arith}
+use Rattle.std.proofs.Common.{◌≡◌, ℕ, ◌≤◌, Bool, true, false, cond, nat_le, nat_eq, ◌&&◌, pos, Option, Some, None, refl, sym, ap₂, subst, arith}
 use Rattle.std.proofs.lemmas.Bool.{leb-true, le-leb}
 use Rattle.leaf_core.specs.Expression.{Expression, input, int_expr, pair_expr, no_event_expr, list_expr, nth}
 use Rattle.net_tree.specs.Network.{Network, Networks, arr, seq, par, after, repeatedly, time, rp_switch, k_switch, p_switch, old}
 use Rattle.net_meaning.specs.Typing.{members}
 use Rattle.net_tree.specs.Place.{member}
-use Rattle.law_rules.specs.NetworkRow.{after_sees, repeatedly_sees, time_sees, behind_routes, each_after, each_arr, count, NetworkRow, row_l20, row_l38, row_l39, row_l40, row_l41, row_l42, row_l46}
+use Rattle.law_rules.specs.NetworkRow.{SeesSteps, after_sees, repeatedly_sees, time_sees, behind_routes, each_after, each_arr, count, NetworkRow, row_l20, row_l38, row_l39, row_l40, row_l41, row_l42, row_l46}
 use Rattle.law_rules.specs.Forward.{one_to_64, law20, law38, law39, law40, law41, law42, beside_none, kept_apart, law46}
 
 -- an answer, if there is one, is a right side
@@ -31,10 +31,10 @@ to_64 n e = leb-true n 64 (both (nat_le 1 n) (nat_le n 64) e).1
 same_number : (m n : ℕ) → nat_eq m n ≡ true → m ≡ n
 same_number m n e = grind arith
 
-same-number : (n : ℕ) → nat_eq n n ≡ true
+pub same-number : (n : ℕ) → nat_eq n n ≡ true
 same-number n = grind arith
 
-in_bounds : (n : ℕ) → 1 ≤ n → n ≤ 64 → one_to_64 n ≡ true
+pub in_bounds : (n : ℕ) → 1 ≤ n → n ≤ 64 → one_to_64 n ≡ true
 in_bounds n l h = ap₂ (λ a b. a && b) (le-leb 1 n l) (le-leb n 64 h)
 
 module _ (olds : ℕ) where
@@ -80,33 +80,6 @@ module _ (olds : ℕ) where
   law46-gives (seq (arr e) (rp_switch fs m t)) = kept-gives e m fs t
   law46-gives _ = tt
 
--- each right side is what the law makes of the left one
-pub law20-complete : {n olds : ℕ} {l r : Network Expression} → NetworkRow n olds l r → n ≡ 20 → law20 l ≡ Some r
-law20-complete (row_l20 after_sees) q = refl
-law20-complete (row_l20 repeatedly_sees) q = refl
-law20-complete (row_l20 time_sees) q = refl
-law20-complete _ q = absurd (omega (arith, q))
-
-pub law38-complete : {n olds : ℕ} {l r : Network Expression} → NetworkRow n olds l r → n ≡ 38 → law38 olds l ≡ Some r
-law38-complete {olds = olds} (row_l38 {f = f}) q = ap (λ b. cond b (Some f) None) (same-number olds)
-law38-complete _ q = absurd (omega (arith, q))
-
-pub law39-complete : {n olds : ℕ} {l r : Network Expression} → NetworkRow n olds l r → n ≡ 39 → law39 l ≡ Some r
-law39-complete (row_l39 {r = r} {fs = fs} some few) q = ap (λ b. cond b (Some (par (behind_routes r 0 fs))) None) (in_bounds (members fs) some few)
-law39-complete _ q = absurd (omega (arith, q))
-
-pub law40-complete : {n olds : ℕ} {l r : Network Expression} → NetworkRow n olds l r → n ≡ 40 → law40 l ≡ Some r
-law40-complete (row_l40 {i = i} {fs = fs} few h) q = ap (λ b. cond b (member fs i) None) (le-leb (members fs) 64 few) ∙ h
-law40-complete _ q = absurd (omega (arith, q))
-
-pub law41-complete : {n olds : ℕ} {l r : Network Expression} → NetworkRow n olds l r → n ≡ 41 → law41 l ≡ Some r
-law41-complete (row_l41 {h = h} {fs = fs} some few) q = ap (λ b. cond b (Some (par (each_after h fs))) None) (in_bounds (members fs) some few)
-law41-complete _ q = absurd (omega (arith, q))
-
-pub law42-complete : {n olds : ℕ} {l r : Network Expression} → NetworkRow n olds l r → n ≡ 42 → law42 l ≡ Some r
-law42-complete (row_l42 {es = es} some few) q = ap (λ b. cond b (Some (par (each_arr es))) None) (in_bounds (count es) some few)
-law42-complete _ q = absurd (omega (arith, q))
-
-pub law46-complete : {n olds : ℕ} {l r : Network Expression} → NetworkRow n olds l r → n ≡ 46 → law46 l ≡ Some r
-law46-complete (row_l46 {e = e} {fs = fs} some few) q = ap (λ b. cond b (Some (seq (arr e) (par fs))) None) (in_bounds (members fs) some few)
-law46-complete _ q = absurd (omega (arith, q))
+pub sees-is : (f : Network Expression) {s : Network Expression} → SeesSteps s → law20 (seq f s) ≡ Some s
+sees-is f after_sees = refl
+sees-is f _ = refl

@@ -7,7 +7,7 @@ ghost use Rattle.law_rules.specs.Answer.{IsNetworkAnswer, IsNetworkRightSide, gi
 
 use crate::collections::{before_members, elements_apart, members_apart, unchanging};
 use crate::parts::{one_member, resumed, without_input};
-use crate::table::{NetLaw, law_rule};
+use crate::table::{Rule, law_rule};
 use law_patterns::rewrite_net;
 use leaf_core::Expr;
 use net_tree::{Direction, Law, Net, same_net};
@@ -48,16 +48,17 @@ fn forward(
 ) -> Result<Option<Net<Expr>>, Memory>
     ensures { IfOk result (IsNetworkRightSide number olds (tree_of net.now)) }
 {
-    match law_rule(number) {
-        NetLaw::Nothing => Ok(None),
-        NetLaw::Sides(left, right) => rewrite_net(alloc, left, right, net),
-        NetLaw::WithoutInput => without_input(alloc, net),
-        NetLaw::Resumed => resumed(alloc, net, olds),
-        NetLaw::MembersApart => members_apart(alloc, net),
-        NetLaw::OneMember => one_member(alloc, net),
-        NetLaw::BeforeMembers => before_members(alloc, net),
-        NetLaw::ElementsApart => elements_apart(alloc, net),
-        NetLaw::Unchanging => unchanging(alloc, net),
+    let (rule, left, right) = law_rule(number);
+    match rule {
+        Rule::Nothing => Ok(None),
+        Rule::Sides => rewrite_net(alloc, left, right, net),
+        Rule::WithoutInput => without_input(alloc, net),
+        Rule::Resumed => resumed(alloc, net, olds),
+        Rule::MembersApart => members_apart(alloc, net),
+        Rule::OneMember => one_member(alloc, net),
+        Rule::BeforeMembers => before_members(alloc, net),
+        Rule::ElementsApart => elements_apart(alloc, net),
+        Rule::Unchanging => unchanging(alloc, net),
     }
 }
 

@@ -1,4 +1,4 @@
-//! The laws of networks, L1 to L46: their rows, that both sides of each do the same, and how one
+//! The laws of networks, L1 to L51: their rows, that both sides of each do the same, and how one
 //! is applied.
 //!
 //!     let right = apply_law(alloc, law, Direction::Forward, &net, None, olds)?;
@@ -19,3 +19,4 @@ mod table;
 
 pub use apply::apply_law;
 pub use laws::{answer_laws, row_laws};
+pub use table::LAST_LAW;

@@ -1,22 +1,25 @@
 // The laws as a table.
 
-ghost use Rattle.std.specs.Prelude.{◌≤◌};
-ghost use Rattle.law_rules.specs.Table.{IsRule};
+ghost use Rattle.std.specs.Prelude.{◌≡◌, [], get_or, map};
+ghost use Rattle.law_rules.specs.Table.{left_at, right_at, rule_at};
 
-use NetLaw::Sides;
-use NetSym::{AccumBy, After, Arr, Delay, Hold, IPre, InitialIn, InitialOut, LoopPre, Repeatedly};
-use law_patterns::{
-    D_SWITCH, DR_SWITCH, EVENT, F, FIRST, FST, G, H, K_SWITCH, NET_F, NET_G, NET_H, NONE, NetSym,
-    ON, PAIR, R_SWITCH, SEQ, SND, SWITCH, THEN, UNIT, X,
+use NetSym::{
+    AccumBy, After, Arr, DSwitch, Delay, DrSwitch, First, Hold, IPre, InitialIn, InitialOut,
+    KSwitch, Leaf, LoopPre, RSwitch, Repeatedly, Seq, Switch,
 };
+use Rule::{
+    BeforeMembers, ElementsApart, MembersApart, Nothing, OneMember, Resumed, Sides, Unchanging,
+    WithoutInput,
+};
+use law_patterns::{Letter, NetLetter, NetSym, Sym};
 
 /// What a law is.
 #[derive(Clone, Copy)]
-pub(crate) enum NetLaw {
+pub enum Rule {
     /// No law.
     Nothing,
     /// A left and a right side.
-    Sides(&'static [NetSym], &'static [NetSym]),
+    Sides,
     /// Behind any network, what goes by the steps alone is itself.
     WithoutInput,
     /// A network that is frozen and at once resumed goes on.
@@ -33,235 +36,304 @@ pub(crate) enum NetLaw {
     Unchanging,
 }
 
-/// `(arr x)`.
-const ARR_X: NetSym = Arr(&[X]);
-/// `(arr f)`.
-const ARR_F: NetSym = Arr(&[F]);
-/// `(arr g)`.
-const ARR_G: NetSym = Arr(&[G]);
-/// `(arr h)`.
-const ARR_H: NetSym = Arr(&[H]);
-/// `(arr (fst x))`.
-const ARR_FST: NetSym = Arr(&[FST, X]);
-/// `(arr (then f g))`.
-const ARR_FG: NetSym = Arr(&[THEN, F, G]);
-/// `arr` of h on the left part of a pair.
-const ARR_LEFT: NetSym = Arr(&[PAIR, THEN, FST, X, H, SND, X]);
-/// `arr` of g on the right part of a pair.
-const ARR_RIGHT: NetSym = Arr(&[PAIR, FST, X, THEN, SND, X, G]);
-/// `arr` of g on what an event carries.
-const ARR_MAP: NetSym = Arr(&[ON, X, NONE, EVENT, THEN, SND, X, G]);
-/// `arr` of (a, b) to (b, a).
-const ARR_SWAP: NetSym = Arr(&[PAIR, SND, X, FST, X]);
-/// `arr` of ((a, b), c) to (a, (b, c)).
-const ARR_ASSOC: NetSym = Arr(&[PAIR, FST, FST, X, PAIR, SND, FST, X, SND, X]);
-/// `arr` of (a, (b, c)) to ((a, b), c).
-const ARR_UNASSOC: NetSym = Arr(&[PAIR, PAIR, FST, X, FST, SND, X, SND, SND, X]);
-/// `arr` of ((output, event), other) to ((output, other), event).
-const ARR_LAST: NetSym = Arr(&[PAIR, PAIR, FST, FST, X, SND, X, SND, FST, X]);
-/// `arr` of the input, with no event.
-const ARR_NEVER: NetSym = Arr(&[PAIR, X, NONE]);
-/// `arr` of f at `unit`, whatever the input.
-const ARR_CONST: NetSym = Arr(&[THEN, UNIT, F]);
-/// `(iPre f)`.
-const PRE_F: NetSym = IPre(&[F]);
-/// `(iPre g)`.
-const PRE_G: NetSym = IPre(&[G]);
-/// `loopPre` from f.
-const LOOP_F: NetSym = LoopPre(&[F]);
-/// `-->` with f first.
-const OUT_F: NetSym = InitialOut(&[F]);
+/// `f`, `g` and `h`, networks.
+const NET_F: NetSym = NetSym::Letter(NetLetter::F);
 
-/// The law of this number: a side is written with each form before its parts.
-pub(crate) fn law_rule(number: u8) -> NetLaw
-    ensures { IsRule number result }
+const NET_G: NetSym = NetSym::Letter(NetLetter::G);
+
+const NET_H: NetSym = NetSym::Letter(NetLetter::H);
+/// `f`, `g` and `h`, expressions.
+const F: NetSym = Leaf(Sym::Letter(Letter::F));
+
+const G: NetSym = Leaf(Sym::Letter(Letter::G));
+
+const H: NetSym = Leaf(Sym::Letter(Letter::H));
+/// What expressions are written in.
+const X: NetSym = Leaf(Sym::Input);
+
+const UNIT: NetSym = Leaf(Sym::Unit);
+
+const NONE: NetSym = Leaf(Sym::NoEvent);
+
+const FST: NetSym = Leaf(Sym::Fst);
+
+const SND: NetSym = Leaf(Sym::Snd);
+
+const EVENT: NetSym = Leaf(Sym::Event);
+
+const PAIR: NetSym = Leaf(Sym::Pair);
+
+const THEN: NetSym = Leaf(Sym::Then);
+
+const ON: NetSym = Leaf(Sym::On);
+
+/// What a law is, and its two sides, if it has any: each form is written before its expressions,
+/// and these before its networks.
+pub type Row = (Rule, &'static [NetSym], &'static [NetSym]);
+
+/// The greatest number of a law.
+pub const LAST_LAW: u8 = 51;
+
+/// The laws by number, from 0.
+pub const LAWS: [Row; 52] = [
+    (Nothing, &[], &[]),
+    (Sides, &[Seq, Arr, X, NET_F], &[NET_F]),
+    (Sides, &[Seq, NET_F, Arr, X], &[NET_F]),
+    (
+        Sides,
+        &[Seq, Seq, NET_F, NET_G, NET_H],
+        &[Seq, NET_F, Seq, NET_G, NET_H],
+    ),
+    (Sides, &[Seq, Arr, F, Arr, G], &[Arr, THEN, F, G]),
+    (
+        Sides,
+        &[First, Arr, H],
+        &[Arr, PAIR, THEN, FST, X, H, SND, X],
+    ),
+    (
+        Sides,
+        &[First, Seq, NET_F, NET_G],
+        &[Seq, First, NET_F, First, NET_G],
+    ),
+    (
+        Sides,
+        &[Seq, First, NET_F, Arr, PAIR, FST, X, THEN, SND, X, G],
+        &[Seq, Arr, PAIR, FST, X, THEN, SND, X, G, First, NET_F],
+    ),
+    (
+        Sides,
+        &[Seq, First, NET_F, Arr, FST, X],
+        &[Seq, Arr, FST, X, NET_F],
+    ),
+    (
+        Sides,
+        &[
+            Seq, First, First, NET_F, Arr, PAIR, FST, FST, X, PAIR, SND, FST, X, SND, X,
+        ],
+        &[
+            Seq, Arr, PAIR, FST, FST, X, PAIR, SND, FST, X, SND, X, First, NET_F,
+        ],
+    ),
+    // 10
+    (
+        Sides,
+        &[Seq, Arr, F, Seq, Arr, G, NET_H],
+        &[Seq, Arr, THEN, F, G, NET_H],
+    ),
+    (
+        Sides,
+        &[Seq, IPre, F, Arr, G],
+        &[Seq, Arr, G, IPre, THEN, F, G],
+    ),
+    (
+        Sides,
+        &[IPre, PAIR, F, G],
+        &[
+            Seq, First, IPre, F, Seq, Arr, PAIR, SND, X, FST, X, Seq, First, IPre, G, Arr, PAIR,
+            SND, X, FST, X,
+        ],
+    ),
+    (
+        Sides,
+        &[Seq, NET_H, LoopPre, F, NET_F],
+        &[LoopPre, F, Seq, First, NET_H, NET_F],
+    ),
+    (
+        Sides,
+        &[Seq, LoopPre, F, NET_F, NET_H],
+        &[LoopPre, F, Seq, NET_F, First, NET_H],
+    ),
+    (
+        Sides,
+        &[LoopPre, F, Seq, Arr, PAIR, FST, X, THEN, SND, X, G, NET_F],
+        &[
+            LoopPre, THEN, F, G, Seq, NET_F, Arr, PAIR, FST, X, THEN, SND, X, G,
+        ],
+    ),
+    (
+        Sides,
+        &[LoopPre, F, LoopPre, G, NET_F],
+        &[
+            LoopPre, PAIR, F, G, Seq, Arr, PAIR, PAIR, FST, X, FST, SND, X, SND, SND, X, Seq,
+            NET_F, Arr, PAIR, FST, FST, X, PAIR, SND, FST, X, SND, X,
+        ],
+    ),
+    (Sides, &[LoopPre, F, First, NET_F], &[NET_F]),
+    (Sides, &[Seq, Arr, EVENT, F, Hold, G], &[Arr, F]),
+    (Sides, &[Seq, Arr, NONE, Hold, F], &[Arr, THEN, UNIT, F]),
+    // 20
+    (WithoutInput, &[], &[]),
+    (
+        Sides,
+        &[Seq, After, F, Arr, ON, X, NONE, EVENT, THEN, SND, X, G],
+        &[After, THEN, F, G],
+    ),
+    (
+        Sides,
+        &[Seq, Repeatedly, F, Arr, ON, X, NONE, EVENT, THEN, SND, X, G],
+        &[Repeatedly, THEN, F, G],
+    ),
+    (
+        Sides,
+        &[
+            Seq, Arr, ON, X, NONE, EVENT, THEN, SND, X, G, Hold, THEN, F, G,
+        ],
+        &[Seq, Hold, F, Arr, G],
+    ),
+    (
+        Sides,
+        &[Seq, Arr, ON, X, NONE, EVENT, THEN, SND, X, G, AccumBy, F, H],
+        &[AccumBy, THEN, PAIR, FST, X, THEN, SND, X, G, F, H],
+    ),
+    (
+        Sides,
+        &[Seq, NET_F, Arr, THEN, UNIT, F],
+        &[Arr, THEN, UNIT, F],
+    ),
+    (
+        Sides,
+        &[Seq, Delay, F, Arr, G],
+        &[Seq, Arr, G, Delay, THEN, F, G],
+    ),
+    (
+        Sides,
+        &[Seq, Arr, H, Switch, NET_F, NET_G],
+        &[Switch, Seq, Arr, H, NET_F, Seq, Arr, H, NET_G],
+    ),
+    (
+        Sides,
+        &[Seq, Arr, H, DSwitch, NET_F, NET_G],
+        &[DSwitch, Seq, Arr, H, NET_F, Seq, Arr, H, NET_G],
+    ),
+    (
+        Sides,
+        &[Seq, Switch, NET_F, NET_G, Arr, H],
+        &[
+            Switch, Seq, NET_F, Arr, PAIR, THEN, FST, X, H, SND, X, Seq, NET_G, Arr, H,
+        ],
+    ),
+    // 30
+    (
+        Sides,
+        &[Seq, DSwitch, NET_F, NET_G, Arr, H],
+        &[
+            DSwitch, Seq, NET_F, Arr, PAIR, THEN, FST, X, H, SND, X, Seq, NET_G, Arr, H,
+        ],
+    ),
+    (
+        Sides,
+        &[Switch, Seq, NET_F, Arr, PAIR, X, NONE, NET_G],
+        &[NET_F],
+    ),
+    (
+        Sides,
+        &[DSwitch, Seq, NET_F, Arr, PAIR, X, NONE, NET_G],
+        &[NET_F],
+    ),
+    (
+        Sides,
+        &[First, Switch, NET_F, NET_G],
+        &[
+            Switch, Seq, First, NET_F, Arr, PAIR, PAIR, FST, FST, X, SND, X, SND, FST, X, First,
+            NET_G,
+        ],
+    ),
+    (
+        Sides,
+        &[First, DSwitch, NET_F, NET_G],
+        &[
+            DSwitch, Seq, First, NET_F, Arr, PAIR, PAIR, FST, FST, X, SND, X, SND, FST, X, First,
+            NET_G,
+        ],
+    ),
+    (
+        Sides,
+        &[Seq, Arr, PAIR, F, NONE, RSwitch, NET_F, NET_G],
+        &[Seq, Arr, F, NET_F],
+    ),
+    (
+        Sides,
+        &[Seq, RSwitch, NET_F, NET_G, Arr, H],
+        &[RSwitch, Seq, NET_F, Arr, H, Seq, NET_G, Arr, H],
+    ),
+    (Sides, &[KSwitch, NET_F, Arr, NONE, NET_G], &[NET_F]),
+    (Resumed, &[], &[]),
+    (MembersApart, &[], &[]),
+    // 40
+    (OneMember, &[], &[]),
+    (BeforeMembers, &[], &[]),
+    (ElementsApart, &[], &[]),
+    (
+        Sides,
+        &[InitialOut, F, InitialOut, G, NET_F],
+        &[InitialOut, F, NET_F],
+    ),
+    (
+        Sides,
+        &[InitialIn, F, Arr, G],
+        &[InitialOut, THEN, F, G, Arr, G],
+    ),
+    (
+        Sides,
+        &[Seq, DrSwitch, NET_F, NET_G, Arr, H],
+        &[DrSwitch, Seq, NET_F, Arr, H, Seq, NET_G, Arr, H],
+    ),
+    (Unchanging, &[], &[]),
+    (
+        Sides,
+        &[First, LoopPre, F, NET_F],
+        &[
+            LoopPre, F, Seq, Arr, PAIR, PAIR, FST, FST, X, SND, X, SND, FST, X, Seq, First, NET_F,
+            Arr, PAIR, PAIR, FST, FST, X, SND, X, SND, FST, X,
+        ],
+    ),
+    (
+        Sides,
+        &[
+            Seq, First, NET_F, Seq, Arr, PAIR, SND, X, FST, X, Seq, First, NET_G, Arr, PAIR, SND,
+            X, FST, X,
+        ],
+        &[
+            Seq, Seq, Arr, PAIR, SND, X, FST, X, Seq, First, NET_G, Arr, PAIR, SND, X, FST, X,
+            First, NET_F,
+        ],
+    ),
+    (Sides, &[IPre, F], &[LoopPre, F, Arr, PAIR, SND, X, FST, X]),
+    // 50
+    (
+        Sides,
+        &[Hold, F],
+        &[
+            LoopPre, F, Arr, ON, FST, X, PAIR, SND, X, SND, X, PAIR, SND, X, SND, X,
+        ],
+    ),
+    (
+        Sides,
+        &[
+            LoopPre, F, Arr, ON, FST, X, PAIR, NONE, SND, X, THEN, PAIR, SND, FST, X, SND, X, THEN,
+            G, PAIR, EVENT, X, X,
+        ],
+        &[AccumBy, G, F],
+    ),
+];
+
+/// The law of this number.
+pub(crate) fn law_rule(number: u8) -> Row
+    ensures rule { result.0 ≡ rule_at number }
+    ensures left { result.1.now ≡ left_at number }
+    ensures right { result.2.now ≡ right_at number }
 {
-    match number {
-        0 => NetLaw::Nothing,
-        1 => Sides(&[SEQ, ARR_X, NET_F], &[NET_F]),
-        2 => Sides(&[SEQ, NET_F, ARR_X], &[NET_F]),
-        3 => Sides(
-            &[SEQ, SEQ, NET_F, NET_G, NET_H],
-            &[SEQ, NET_F, SEQ, NET_G, NET_H],
-        ),
-        4 => Sides(&[SEQ, ARR_F, ARR_G], &[ARR_FG]),
-        5 => Sides(&[FIRST, ARR_H], &[ARR_LEFT]),
-        6 => Sides(
-            &[FIRST, SEQ, NET_F, NET_G],
-            &[SEQ, FIRST, NET_F, FIRST, NET_G],
-        ),
-        7 => Sides(
-            &[SEQ, FIRST, NET_F, ARR_RIGHT],
-            &[SEQ, ARR_RIGHT, FIRST, NET_F],
-        ),
-        8 => Sides(&[SEQ, FIRST, NET_F, ARR_FST], &[SEQ, ARR_FST, NET_F]),
-        _ => arrow_rule(number),
-    }
+    row_at(&LAWS, number)
 }
 
-/// The law of this number, from 9 on.
-fn arrow_rule(number: u8) -> NetLaw
-    requires { 9 ≤ number }
-    ensures { IsRule number result }
+/// The row of a number, in a table from 0; no law outside.
+fn row_at(laws: &'static [Row], number: u8) -> Row
+    ensures rule { result.0 ≡ get_or (map (λ row. row.0) laws.now) number Rule.Nothing }
+    ensures left { result.1.now ≡ get_or (map (λ row. row.1.now) laws.now) number [] }
+    ensures right { result.2.now ≡ get_or (map (λ row. row.2.now) laws.now) number [] }
 {
-    match number {
-        9 => Sides(
-            &[SEQ, FIRST, FIRST, NET_F, ARR_ASSOC],
-            &[SEQ, ARR_ASSOC, FIRST, NET_F],
-        ),
-        10 => Sides(&[SEQ, ARR_F, SEQ, ARR_G, NET_H], &[SEQ, ARR_FG, NET_H]),
-        11 => Sides(&[SEQ, PRE_F, ARR_G], &[SEQ, ARR_G, IPre(&[THEN, F, G])]),
-        12 => Sides(
-            &[IPre(&[PAIR, F, G])],
-            &[
-                SEQ, FIRST, PRE_F, SEQ, ARR_SWAP, SEQ, FIRST, PRE_G, ARR_SWAP,
-            ],
-        ),
-        _ => loop_rule(number),
-    }
-}
-
-/// The law of this number, from 13 on.
-fn loop_rule(number: u8) -> NetLaw
-    requires { 13 ≤ number }
-    ensures { IsRule number result }
-{
-    match number {
-        13 => Sides(
-            &[SEQ, NET_H, LOOP_F, NET_F],
-            &[LOOP_F, SEQ, FIRST, NET_H, NET_F],
-        ),
-        14 => Sides(
-            &[SEQ, LOOP_F, NET_F, NET_H],
-            &[LOOP_F, SEQ, NET_F, FIRST, NET_H],
-        ),
-        15 => Sides(
-            &[LOOP_F, SEQ, ARR_RIGHT, NET_F],
-            &[LoopPre(&[THEN, F, G]), SEQ, NET_F, ARR_RIGHT],
-        ),
-        16 => Sides(
-            &[LOOP_F, LoopPre(&[G]), NET_F],
-            &[
-                LoopPre(&[PAIR, F, G]),
-                SEQ,
-                ARR_UNASSOC,
-                SEQ,
-                NET_F,
-                ARR_ASSOC,
-            ],
-        ),
-        17 => Sides(&[LOOP_F, FIRST, NET_F], &[NET_F]),
-        _ => event_rule(number),
-    }
-}
-
-/// The law of this number, from 18 on.
-fn event_rule(number: u8) -> NetLaw
-    requires { 18 ≤ number }
-    ensures { IsRule number result }
-{
-    match number {
-        18 => Sides(&[SEQ, Arr(&[EVENT, F]), Hold(&[G])], &[ARR_F]),
-        19 => Sides(&[SEQ, Arr(&[NONE]), Hold(&[F])], &[ARR_CONST]),
-        20 => NetLaw::WithoutInput,
-        21 => Sides(&[SEQ, After(&[F]), ARR_MAP], &[After(&[THEN, F, G])]),
-        22 => Sides(
-            &[SEQ, Repeatedly(&[F]), ARR_MAP],
-            &[Repeatedly(&[THEN, F, G])],
-        ),
-        23 => Sides(
-            &[SEQ, ARR_MAP, Hold(&[THEN, F, G])],
-            &[SEQ, Hold(&[F]), ARR_G],
-        ),
-        24 => Sides(
-            &[SEQ, ARR_MAP, AccumBy(&[F], &[H])],
-            &[AccumBy(&[THEN, PAIR, FST, X, THEN, SND, X, G, F], &[H])],
-        ),
-        25 => Sides(&[SEQ, NET_F, ARR_CONST], &[ARR_CONST]),
-        26 => Sides(
-            &[SEQ, Delay(&[F]), ARR_G],
-            &[SEQ, ARR_G, Delay(&[THEN, F, G])],
-        ),
-        _ => switch_rule(number),
-    }
-}
-
-/// The law of this number, from 27 on.
-fn switch_rule(number: u8) -> NetLaw
-    requires { 27 ≤ number }
-    ensures { IsRule number result }
-{
-    match number {
-        27 => Sides(
-            &[SEQ, ARR_H, SWITCH, NET_F, NET_G],
-            &[SWITCH, SEQ, ARR_H, NET_F, SEQ, ARR_H, NET_G],
-        ),
-        28 => Sides(
-            &[SEQ, ARR_H, D_SWITCH, NET_F, NET_G],
-            &[D_SWITCH, SEQ, ARR_H, NET_F, SEQ, ARR_H, NET_G],
-        ),
-        29 => Sides(
-            &[SEQ, SWITCH, NET_F, NET_G, ARR_H],
-            &[SWITCH, SEQ, NET_F, ARR_LEFT, SEQ, NET_G, ARR_H],
-        ),
-        30 => Sides(
-            &[SEQ, D_SWITCH, NET_F, NET_G, ARR_H],
-            &[D_SWITCH, SEQ, NET_F, ARR_LEFT, SEQ, NET_G, ARR_H],
-        ),
-        31 => Sides(&[SWITCH, SEQ, NET_F, ARR_NEVER, NET_G], &[NET_F]),
-        32 => Sides(&[D_SWITCH, SEQ, NET_F, ARR_NEVER, NET_G], &[NET_F]),
-        33 => Sides(
-            &[FIRST, SWITCH, NET_F, NET_G],
-            &[SWITCH, SEQ, FIRST, NET_F, ARR_LAST, FIRST, NET_G],
-        ),
-        34 => Sides(
-            &[FIRST, D_SWITCH, NET_F, NET_G],
-            &[D_SWITCH, SEQ, FIRST, NET_F, ARR_LAST, FIRST, NET_G],
-        ),
-        _ => restart_rule(number),
-    }
-}
-
-/// The law of this number, from 35 on.
-fn restart_rule(number: u8) -> NetLaw
-    requires { 35 ≤ number }
-    ensures { IsRule number result }
-{
-    match number {
-        35 => Sides(
-            &[SEQ, Arr(&[PAIR, F, NONE]), R_SWITCH, NET_F, NET_G],
-            &[SEQ, ARR_F, NET_F],
-        ),
-        36 => Sides(
-            &[SEQ, R_SWITCH, NET_F, NET_G, ARR_H],
-            &[R_SWITCH, SEQ, NET_F, ARR_H, SEQ, NET_G, ARR_H],
-        ),
-        37 => Sides(&[K_SWITCH, NET_F, Arr(&[NONE]), NET_G], &[NET_F]),
-        38 => NetLaw::Resumed,
-        39 => NetLaw::MembersApart,
-        40 => NetLaw::OneMember,
-        41 => NetLaw::BeforeMembers,
-        42 => NetLaw::ElementsApart,
-        _ => last_rule(number),
-    }
-}
-
-/// The law of this number, from 43 on.
-fn last_rule(number: u8) -> NetLaw
-    requires { 43 ≤ number }
-    ensures { IsRule number result }
-{
-    match number {
-        43 => Sides(&[OUT_F, InitialOut(&[G]), NET_F], &[OUT_F, NET_F]),
-        44 => Sides(
-            &[InitialIn(&[F]), ARR_G],
-            &[InitialOut(&[THEN, F, G]), ARR_G],
-        ),
-        45 => Sides(
-            &[SEQ, DR_SWITCH, NET_F, NET_G, ARR_H],
-            &[DR_SWITCH, SEQ, NET_F, ARR_H, SEQ, NET_G, ARR_H],
-        ),
-        46 => NetLaw::Unchanging,
-        _ => NetLaw::Nothing,
+    match laws.get(usize::from(number)) {
+        Some(row) => *row,
+        None => (Nothing, &[], &[]),
     }
 }

@@ -19,7 +19,7 @@ use Rattle.expr_laws.specs.Answer as E
 use Rattle.expr_laws.proofs.Numbers.{one_right_side}
 use Rattle.law_rules.specs.NetworkRow.{NetworkRow}
 use Rattle.law_rules.specs.Answer as N
-use Rattle.law_rules.proofs.RowsExact.{one-right_side}
+use Rattle.law_rules.proofs.Numbers.{one-right_side}
 use Rattle.cert_check.specs.TreeAnswer.{TreeAnswer}
 use Rattle.std.specs.List.{All}
 use Rattle.std.proofs.lemmas.List.Elements.{All-nil, All-push}

@@ -19,10 +19,10 @@ use Rattle.leaf_expr.proofs.LeafProper.{leaf_proper}
 use Rattle.net_tree.specs.Network.{Network}
 use Rattle.net_tree.specs.NetworkView.{tree_of}
 use Rattle.net_tree.specs.declared.net.Net.{Net}
-use Rattle.net_text.specs.Grammar.{Version, version_1, version_2, networks, network_sort}
-use Rattle.net_text.specs.File.{behind_word, version_named, behind_version, then_word, behind_header, at_end, read_network, read_body, read_file}
+use Rattle.net_text.specs.Grammar.{Version, version_1, version_2, version_3, networks, network_sort}
+use Rattle.net_text.specs.File.{behind_word, version_named, behind_version, of_networks, network_version, then_word, behind_header, at_end, read_network, read_body, read_file}
 use Rattle.net_text.specs.Printing.{version_word}
-use Rattle.net_text.specs.FileLaws.{header_tokens, HasHeader, IsFile, NoFile, no_type, no_network, follows, IsFileFault, ReadFileLaw, OneFileLaw, FileFaultLaw}
+use Rattle.net_text.specs.FileLaws.{header_tokens, IsOfNetworks, HasHeader, IsFile, NoFile, no_type, no_network, follows, IsFileFault, ReadFileLaw, OneFileLaw, FileFaultLaw}
 use Rattle.net_text.specs.ReadNet.{GivesFile}
 use Rattle.net_text.specs.declared.fault.NetTextFault.{NetTextFault}
 use Rattle.net_text.specs.declared.fault.NetTextFault.TheVariants as V
@@ -66,11 +66,17 @@ word_found u ((n, word w) ∷ ts) us e = go (bytes_eq w u) refl e
 word_is_version : (w : List ℕ) (v : Version) → version_named w ≡ Some v → w ≡ version_word v
 word_is_version w v e = first (bytes_eq w (codes "1")) refl e
   where
-    second : (b : Bool) → bytes_eq w (codes "2") ≡ b → (if b then Some version_2 else None) ≡ Some v → w ≡ version_word v
-    second true p q = (bytes_eq-Decides w (codes "2")).0 p ∙ ap version_word (some_is q)
-    second false p q = absurd (cc)
+    third : (b : Bool) → bytes_eq w (codes "3") ≡ b → (if b then Some version_3 else None) ≡ Some v → w ≡ version_word v
+    third true p q = (bytes_eq-Decides w (codes "3")).0 p ∙ ap version_word (some_is q)
+    third false p q = absurd (cc)
 
-    first : (b : Bool) → bytes_eq w (codes "1") ≡ b → (if b then Some version_1 else if bytes_eq w (codes "2") then Some version_2 else None) ≡ Some v
+    second : (b : Bool) → bytes_eq w (codes "2") ≡ b → (if b then Some version_2 else if bytes_eq w (codes "3") then Some version_3 else None) ≡ Some v
+        → w ≡ version_word v
+    second true p q = (bytes_eq-Decides w (codes "2")).0 p ∙ ap version_word (some_is q)
+    second false p q = third (bytes_eq w (codes "3")) refl q
+
+    first : (b : Bool) → bytes_eq w (codes "1") ≡ b
+        → (if b then Some version_1 else if bytes_eq w (codes "2") then Some version_2 else if bytes_eq w (codes "3") then Some version_3 else None) ≡ Some v
         → w ≡ version_word v
     first true p q = (bytes_eq-Decides w (codes "1")).0 p ∙ ap version_word (some_is q)
     first false p q = second (bytes_eq w (codes "2")) refl q
@@ -90,6 +96,18 @@ version_found v ((n, word w) ∷ ts) us e = go (version_named w) refl e
         let k : ts ≡ us = ap (λ x. x.1) i in
         (n, λ l. (n, word (j l)) ∷ k l)
 
+-- the version of network files that is the first word is one, and the first word is it
+kept : (h x : Version × List PlacedToken) → of_networks h ≡ Some x → (h ≡ x) × IsOfNetworks x.0
+kept (version_1, ts) x e = let i : (version_1, ts) ≡ x = some_is e in (i, subst (λ z. IsOfNetworks z.0) i tt)
+kept (version_2, ts) x e = let i : (version_2, ts) ≡ x = some_is e in (i, subst (λ z. IsOfNetworks z.0) i tt)
+kept (version_3, ts) x e = absurd (cc)
+
+network_version_found : (ts : List PlacedToken) (x : Version × List PlacedToken) → network_version ts ≡ Some x → (behind_version ts ≡ Some x) × IsOfNetworks x.0
+network_version_found ts x e =
+    let i : (h : Version × List PlacedToken) × (behind_version ts ≡ Some h) × (of_networks h ≡ Some x) = some_bind (behind_version ts) of_networks x e in
+    let k : (i.0 ≡ x) × IsOfNetworks x.0 = kept i.0 x i.2 in
+    (i.1 ∙ ap (λ h. Some h) k.0, k.1)
+
 -- the tokens behind a word, with the version before them
 then_word_found : (u : List ℕ) (h : Version × List PlacedToken) (v : Version) (us : List PlacedToken) → then_word u h ≡ Some (v, us)
     → (h.0 ≡ v) × (behind_word u h.1 ≡ Some us)
@@ -106,26 +124,29 @@ header_is : (u v : Version) (a b c : ℕ) (ts vs ws us : List PlacedToken) → t
 header_is u v a b c ts vs ws us p q r e =
     p ∙ ap (λ xs. (a, word (codes "yampa")) ∷ xs) (q ∙ ap (λ xs. (b, word (version_word u)) ∷ xs) r) ∙ ap (λ x. header_tokens x a b c us) e
 
-header_found : (v : Version) (ts us : List PlacedToken) → behind_header ts ≡ Some (v, us) → (a : ℕ) × (b : ℕ) × (c : ℕ) × (ts ≡ header_tokens v a b c us)
+header_found : (v : Version) (ts us : List PlacedToken) → behind_header ts ≡ Some (v, us)
+    → (a : ℕ) × (b : ℕ) × (c : ℕ) × (ts ≡ header_tokens v a b c us) × IsOfNetworks v
 header_found v ts us e =
-    let i : (h : Version × List PlacedToken) × (option_and_then behind_version (behind_word (codes "yampa") ts) ≡ Some h)
+    let i : (h : Version × List PlacedToken) × (option_and_then network_version (behind_word (codes "yampa") ts) ≡ Some h)
     × (then_word (codes "input") h ≡ Some (v, us)) =
-    some_bind (option_and_then behind_version (behind_word (codes "yampa") ts)) (then_word (codes "input")) (v, us) e in
-    let j : (ws : List PlacedToken) × (behind_word (codes "yampa") ts ≡ Some ws) × (behind_version ws ≡ Some i.0) =
-    some_bind (behind_word (codes "yampa") ts) behind_version i.0 i.1 in
+    some_bind (option_and_then network_version (behind_word (codes "yampa") ts)) (then_word (codes "input")) (v, us) e in
+    let j : (ws : List PlacedToken) × (behind_word (codes "yampa") ts ≡ Some ws) × (network_version ws ≡ Some i.0) =
+    some_bind (behind_word (codes "yampa") ts) network_version i.0 i.1 in
+    let m : (behind_version j.0 ≡ Some i.0) × IsOfNetworks i.0.0 = network_version_found j.0 i.0 j.2 in
     let k : (i.0.0 ≡ v) × (behind_word (codes "input") i.0.1 ≡ Some us) = then_word_found (codes "input") i.0 v us i.2 in
     let p : (a : ℕ) × (ts ≡ (a, word (codes "yampa")) ∷ j.0) = word_found (codes "yampa") ts j.0 j.1 in
-    let q : (b : ℕ) × (j.0 ≡ (b, word (version_word i.0.0)) ∷ i.0.1) = version_found i.0.0 j.0 i.0.1 j.2 in
+    let q : (b : ℕ) × (j.0 ≡ (b, word (version_word i.0.0)) ∷ i.0.1) = version_found i.0.0 j.0 i.0.1 m.0 in
     let r : (c : ℕ) × (i.0.1 ≡ (c, word (codes "input")) ∷ us) = word_found (codes "input") i.0.1 us k.1 in
-    (p.0, q.0, r.0, header_is i.0.0 v p.0 q.0 r.0 ts j.0 i.0.1 us p.1 q.1 r.1 k.0)
+    (p.0, q.0, r.0, header_is i.0.0 v p.0 q.0 r.0 ts j.0 i.0.1 us p.1 q.1 r.1 k.0, subst IsOfNetworks k.0 m.1)
 
 -- the version that a header names is the one that it has
-header_names : (v : Version) (a b c : ℕ) (ts : List PlacedToken) → behind_header (header_tokens v a b c ts) ≡ Some (v, ts)
-header_names version_1 a b c ts = refl
-header_names version_2 a b c ts = refl
+header_names : (v : Version) → IsOfNetworks v → (a b c : ℕ) (ts : List PlacedToken) → behind_header (header_tokens v a b c ts) ≡ Some (v, ts)
+header_names version_1 o a b c ts = refl
+header_names version_2 o a b c ts = refl
+header_names version_3 o a b c ts = absurd o
 
 header_behind : (bs : List ℕ) (v : Version) (ts : List PlacedToken) → HasHeader bs v ts → behind_header (tokens bs) ≡ Some (v, ts)
-header_behind bs v ts h = ap behind_header h.starts ∙ header_names v h.yampa h.number h.input ts
+header_behind bs v ts h = ap behind_header h.starts ∙ header_names v h.of_networks h.yampa h.number h.input ts
 
 module _ (bs : List ℕ) where
   -- a type that stands behind the header is read
@@ -195,8 +216,8 @@ module _ (bs : List ℕ) where
       go (Ok (A, n, us)) i q = then_network A n us i (read (networks v) (length bs) MOST_OPEN network_sort us) refl q
 
   headed_by : (v : Version) (ts : List PlacedToken) → behind_header (tokens bs) ≡ Some (v, ts) → HasHeader bs v ts
-  headed_by v ts e = let i : (a : ℕ) × (b : ℕ) × (c : ℕ) × (tokens bs ≡ header_tokens v a b c ts) = header_found v (tokens bs) ts e in
-      record { yampa = i.0; number = i.1; input = i.2; starts = i.3 }
+  headed_by v ts e = let i : (a : ℕ) × (b : ℕ) × (c : ℕ) × (tokens bs ≡ header_tokens v a b c ts) × IsOfNetworks v = header_found v (tokens bs) ts e in
+      record { yampa = i.0; number = i.1; input = i.2; starts = i.3; of_networks = i.4 }
 
   wrong : (e : ExprTextFault) → Behind behind_header read_body bs (Err e) → NoFile bs e
   wrong e b = body_refused b.version b.behind (headed_by b.version b.behind b.headed) e b.reads

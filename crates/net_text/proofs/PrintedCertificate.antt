@@ -20,13 +20,13 @@ use Rattle.net_tree.specs.Place.{Tree, a_network, a_leaf}
 use Rattle.net_tree.specs.LawStep.{Step}
 use Rattle.net_tree.specs.declared.law_step.Law.{Law}
 use Rattle.net_tree.specs.declared.law_step.Direction.{Direction}
-use Rattle.net_text.specs.Grammar.{Version, version_1, version_2}
-use Rattle.net_text.specs.Printing.{version_by, version_word}
-use Rattle.net_text.specs.StepGrammar.{last_law, step_parts, law_sort, direction_sort, position_sort, child_sort, step_word_at, step_row_at, directions, position_rows}
+use Rattle.net_text.specs.Grammar.{Version, version_1, version_2, version_3}
+use Rattle.net_text.specs.Printing.{is_new, version_by, version_word}
+use Rattle.net_text.specs.StepGrammar.{last_leaf_law, last_law, step_parts, law_sort, direction_sort, position_sort, child_sort, step_word_at, step_row_at, directions, position_rows}
 use Rattle.net_text.specs.CertificateLaws.{laws_tokens, IsGiven, no_tree, one_tree, IsStep, AreSteps, no_step, a_step}
-use Rattle.net_text.specs.CertificatePrinting.{law_spelling, direction_spelling, child_sexprs, tree_sexpr, given_sexprs, step_sexpr, step_lines, is_new_law, is_new_given, are_new_steps, IsLaw, ChildrenFit, GivenFits, StepFits, StepsFit, PrintedCertificateLaw}
+use Rattle.net_text.specs.CertificatePrinting.{law_spelling, direction_spelling, child_sexprs, tree_sexpr, given_sexprs, step_sexpr, step_lines, is_new_law, is_new_given, are_new_steps, is_third_law, are_third_steps, version_for, steps_version, IsLaw, ChildrenFit, GivenFits, StepFits, StepsFit, PrintedCertificateLaw}
 use Rattle.net_text.proofs.Carried.{meaning_same}
-use Rattle.net_text.proofs.PrintedFile.{printed, Allows, left_allowed, right_allowed, version_allows}
+use Rattle.net_text.proofs.PrintedFile.{printed, Allows, left_allowed, right_allowed, version_allows, second_allows, third_allows}
 use Rattle.net_text.specs.declared.certificate_reader.TheConstants.{STEP_ROOM}
 
 -- a word's bytes may all stand in words
@@ -35,25 +35,51 @@ word_bytes [] e = absurd (cc)
 word_bytes (b ∷ w) e = e
 
 -- the number of a law
-law_number : (most n : ℕ) → n ≤ 46 → 1 ≤ n → n ≤ most → read_word (natural_at 1 most (decimal n)) ≡ Some n
+law_number : (most n : ℕ) → n ≤ 51 → 1 ≤ n → n ≤ most → read_word (natural_at 1 most (decimal n)) ≡ Some n
 law_number most n m l h = ap read_word (natural_spelled 1 most n l h (omega arith))
 
 number_plain : (n : ℕ) → n ≤ MOST_INDEX → all_word_bytes (decimal n) ≡ true
 number_plain n h = word_bytes (decimal n) (decimal_is_word n (omega arith))
 
+-- the version has laws of the third, if there are any
+abbrev AllowsThird : Version → Bool → Type 0
+AllowsThird v third = third ≡ true → v ≡ version_3
+
+-- and so of two parts
+left_third : (v : Version) (a b : Bool) → AllowsThird v (a || b) → AllowsThird v a
+left_third v true b h e = h refl
+left_third v false b h e = absurd (cc)
+
+right_third : (v : Version) (a b : Bool) → AllowsThird v (a || b) → AllowsThird v b
+right_third v true b h e = h refl
+right_third v false b h e = h e
+
 -- a printed law is that law, in a version that has it
-law_within : (v : Version) (n : ℕ) → n ≤ 46 → Allows v (nat_lt 42 n) → n ≤ last_law v
-law_within version_2 n h a = h
-law_within version_1 n h a = go (nat_lt 42 n) refl a
+up_to : (v : Version) (most n : ℕ) → (v ≡ version_3 → ⊥) → AllowsThird v (nat_lt most n) → n ≤ most
+up_to v most n d a = go (nat_lt most n) refl a
+  where
+    go : (third : Bool) → nat_lt most n ≡ third → AllowsThird v third → n ≤ most
+    go true p a = absurd (d (a refl))
+    go false p a = ltb-false most n p
+
+law_within : (v : Version) (n : ℕ) → n ≤ 51 → Allows v (nat_lt 42 n) → AllowsThird v (nat_lt 46 n) → n ≤ last_law v
+law_within version_3 n h a b = h
+law_within version_2 n h a b = up_to version_2 46 n (λ e. cc) b
+law_within version_1 n h a b = go (nat_lt 42 n) refl a
   where
     go : (new : Bool) → nat_lt 42 n ≡ new → Allows version_1 new → n ≤ 42
-    go true p a = absurd (let i : version_1 ≡ version_2 = a refl in cc)
+    go true p a = absurd (a refl refl)
     go false p a = ltb-false 42 n p
 
-law_means : (v : Version) (law : Law) → IsLaw law → Allows v (is_new_law law) → meant (step_parts v) law_sort (atom (law_spelling law)) ≡ Some law
+leaf_within : (v : Version) (n : ℕ) → n ≤ 26 → AllowsThird v (nat_lt 18 n) → n ≤ last_leaf_law v
+leaf_within version_3 n h b = h
+leaf_within version_2 n h b = up_to version_2 18 n (λ e. cc) b
+leaf_within version_1 n h b = up_to version_1 18 n (λ e. cc) b
+
+law_means : (v : Version) (law : Law) → IsLaw law → Allows v (is_new_law law) → AllowsThird v (is_third_law law) → meant (step_parts v) law_sort (atom (law_spelling law)) ≡ Some law
 unfolding step_word_at
-law_means v (Law.E n) h a = ap (λ o. read_word (fit (option_map Law.E o))) (law_number 18 n (omega (arith, h.1)) h.0 h.1)
-law_means v (Law.L n) h a = ap (λ o. read_word (fit (option_map Law.L o))) (law_number (last_law v) n h.1 h.0 (law_within v n h.1 a))
+law_means v (Law.E n) h a b = ap (λ o. read_word (fit (option_map Law.E o))) (law_number (last_leaf_law v) n (omega (arith, h.1)) h.0 (leaf_within v n h.1 b))
+law_means v (Law.L n) h a b = ap (λ o. read_word (fit (option_map Law.L o))) (law_number (last_law v) n h.1 h.0 (law_within v n h.1 a b))
 
 law_plain : (law : Law) → IsLaw law → is_word (law_spelling law) ≡ true
 law_plain (Law.E n) h = number_plain n (omega (arith, h.1))
@@ -90,7 +116,7 @@ children_plain (k ∷ ks) h = let i : is_word (decimal k) ≡ true = decimal_is_
 given_plain : (law : Law) (o : Option (Tree Expression)) → GivenFits law o → all_plain (given_sexprs o) ≡ true
 given_plain law None h = refl
 given_plain (Law.E n) (Some (a_leaf e)) h = rw (expression_plain e h) refl
-given_plain (Law.L n) (Some (a_network f)) h = rw ((printed f version_2 h (λ e. refl)).1) refl
+given_plain (Law.L n) (Some (a_network f)) h = rw ((printed f version_2 h (second_allows (is_new f))).1) refl
 given_plain (Law.E n) (Some (a_network f)) h = absurd h
 given_plain (Law.L n) (Some (a_leaf e)) h = absurd h
 
@@ -111,9 +137,9 @@ given_stands v (Law.L n) (Some (a_leaf e)) ts k rest h w d a = absurd h
 
 -- the tokens of a printed step are the step
 step_stands : (v : Version) (s : Step) (ts : List PlacedToken) (end : ℕ) (rest : List PlacedToken) → StepFits s
-    → Allows v (is_new_law s.law || is_new_given s.given) → Spells (step_sexpr s) ts end rest → IsStep v s ts rest
-step_stands v s ts end rest h w (form_spells {n = opened} {m = named} {k = close} {ts = us}
-    (more_spells {n = law_end} {mid = vs} a (more_spells {n = direction_end} {mid = ws} b (more_spells {n = position_end} {mid = xs} c d)))) =
+    → Allows v (is_new_law s.law || is_new_given s.given) → AllowsThird v (is_third_law s.law) → Spells (step_sexpr s) ts end rest → IsStep v s ts rest
+step_stands v s ts end rest h w b (form_spells {n = opened} {m = named} {k = close} {ts = us}
+    (more_spells {n = law_end} {mid = vs} a (more_spells {n = direction_end} {mid = ws} p (more_spells {n = position_end} {mid = xs} c d)))) =
     let deep : depth (step_sexpr s) ≤ MOST_OPEN = h.within in
     record {
       behind = xs;
@@ -132,10 +158,10 @@ step_stands v s ts end rest h w (form_spells {n = opened} {m = named} {k = close
                 record {
                   part = atom (law_spelling s.law);
                   spells = a;
-                  means = law_means v s.law h.law (left_allowed v (is_new_law s.law) (is_new_given s.given) w);
+                  means = law_means v s.law h.law (left_allowed v (is_new_law s.law) (is_new_given s.given) w) b;
                   within = omega arith;
                 };
-            is_direction = record { part = atom (direction_spelling s.direction); spells = b; means = direction_means v s.direction; within = omega arith };
+            is_direction = record { part = atom (direction_spelling s.direction); spells = p; means = direction_means v s.direction; within = omega arith };
             is_position =
                 record {
                   part = form (codes "at") (child_sexprs s.position);
@@ -148,29 +174,39 @@ step_stands v s ts end rest h w (form_spells {n = opened} {m = named} {k = close
           given_stands v s.law s.given xs close rest h.given (right_allowed v (is_new_law s.law) (is_new_given s.given) w) (omega arith) d;
     }
 
-steps_stand : (v : Version) (ss : List Step) (n : ℕ) → StepsFit ss → Allows v (are_new_steps ss) → AreSteps v ss (tokens_in false n (step_lines ss)) []
-steps_stand v [] n h w = no_step []
-steps_stand v (s ∷ ss) n h w =
+steps_stand : (v : Version) (ss : List Step) (n : ℕ) → StepsFit ss → Allows v (are_new_steps ss) → AllowsThird v (are_third_steps ss) → AreSteps v ss (tokens_in false n (step_lines ss)) []
+steps_stand v [] n h w b = no_step []
+steps_stand v (s ∷ ss) n h w b =
     let new : Bool = is_new_law s.law || is_new_given s.given in
     let end : ℕ = n + length (sexpr_spelling (step_sexpr s)) in
     let spelt : Spells (step_sexpr s) (tokens_in false n (step_lines (s ∷ ss))) end (tokens_in false (suc end) (step_lines ss)) =
     spells_printed (step_sexpr s) n (10 ∷ step_lines ss) (step_plain s h.0) refl in
     a_step s ss (tokens_in false n (step_lines (s ∷ ss))) (tokens_in false (suc end) (step_lines ss)) []
     (step_stands v s (tokens_in false n (step_lines (s ∷ ss))) end (tokens_in false (suc end) (step_lines ss)) h.0
-    (left_allowed v new (are_new_steps ss) w) spelt)
-    (steps_stand v ss (suc end) h.1 (right_allowed v new (are_new_steps ss) w))
+    (left_allowed v new (are_new_steps ss) w) (left_third v (is_third_law s.law) (are_third_steps ss) b) spelt)
+    (steps_stand v ss (suc end) h.1 (right_allowed v new (are_new_steps ss) w) (right_third v (is_third_law s.law) (are_third_steps ss) b))
 
 laws_stand : (v : Version) (bs : List ℕ) → tokens (codes "laws " ++ (version_word v ++ (10 ∷ bs))) ≡ laws_tokens v 0 5 (tokens_in false 7 bs)
 laws_stand version_1 bs = refl
 laws_stand version_2 bs = refl
+laws_stand version_3 bs = refl
+
+-- the version that is printed has what is in the steps
+for_allows : (third new : Bool) → Allows (version_for third new) new
+for_allows true new = third_allows new
+for_allows false new = version_allows new
+
+for_third : (third new : Bool) → AllowsThird (version_for third new) third
+for_third true new e = refl
+for_third false new e = absurd (cc)
 
 pub printed_certificate : PrintedCertificateLaw
 printed_certificate ss h l =
-    let v : Version = version_by (are_new_steps ss) in
+    let v : Version = steps_version ss in
     record {
       short = l;
       version = v;
       behind = tokens_in false 7 (step_lines ss);
       headed = record { laws = 0; number = 5; starts = laws_stand v (step_lines ss) };
-      steps = steps_stand v ss 7 h (version_allows (are_new_steps ss));
+      steps = steps_stand v ss 7 h (for_allows (are_third_steps ss) (are_new_steps ss)) (for_third (are_third_steps ss) (are_new_steps ss));
     }

@@ -16,9 +16,9 @@ use Rattle.leaf_expr.proofs.TokenLaws.{spells_printed}
 use Rattle.leaf_expr.specs.declared.type_reader.TheConstants.{MOST_OPEN}
 use Rattle.leaf_expr.specs.declared.number_reader.TheConstants.{MOST_INDEX}
 use Rattle.net_tree.specs.Network.{Network, Networks, networks_of, arr, seq, first, par, loop_pre, initial_out, initial_in, i_pre, delay, hold, accum_by, after, repeatedly, time, integral, switch, r_switch, rp_switch, k_switch, p_switch, old, no_members, and_member, at_once, delayed}
-use Rattle.net_text.specs.Grammar.{Version, version_1, version_2, networks, network_sort, members_sort, leaf_sort, time_sort, Timer, delay_timer, after_timer, repeatedly_timer, least, greatest_time, net_word_at, net_words, net_row_at, net_rows, col_rows}
+use Rattle.net_text.specs.Grammar.{Version, version_1, version_2, version_3, networks, network_sort, members_sort, leaf_sort, time_sort, Timer, delay_timer, after_timer, repeatedly_timer, least, greatest_time, net_word_at, net_words, net_row_at, net_rows, col_rows}
 use Rattle.net_text.specs.Printing.{network_sexpr, network_sexprs, is_new, are_new, version_by, version_word, Writable, AllWritable, TimeFits}
-use Rattle.net_text.specs.FileLaws.{PrintedFileLaw, header_tokens}
+use Rattle.net_text.specs.FileLaws.{PrintedFileLaw, IsOfNetworks, header_tokens}
 use Rattle.net_text.proofs.Carried.{meaning_same}
 
 leaf_means : (v : Version) (e : Expression) → InRange e → meant (networks v) (leaf_sort expression_sort) (expression_sexpr e) ≡ Some e
@@ -51,7 +51,7 @@ listed_are (and_member f fs) = ap (and_member f) (listed_are fs)
 
 -- the version may have what is new, if anything is
 abbrev pub Allows : Version → Bool → Type 0
-Allows v new = new ≡ true → v ≡ version_2
+Allows v new = new ≡ true → v ≡ version_1 → ⊥
 
 -- and so of two parts
 pub left_allowed : (v : Version) (a b : Bool) → Allows v (a || b) → Allows v a
@@ -64,11 +64,15 @@ right_allowed v false b h e = h e
 
 -- the printed version allows it
 pub version_allows : (new : Bool) → Allows (version_by new) new
-version_allows true e = refl
+version_allows true e q = cc
 version_allows false e = absurd (cc)
 
-not_second : version_1 ≡ version_2 → ⊥
-not_second e = cc
+-- the second and the third version allow all
+pub second_allows : (new : Bool) → Allows version_2 new
+second_allows new e q = cc
+
+pub third_allows : (new : Bool) → Allows version_3 new
+third_allows new e q = cc
 
 -- a printed network means the network, and its words are words
 mutual
@@ -123,24 +127,39 @@ mutual
     rw (decimal_is_word k (omega arith)) refl,
   )
   printed (initial_out c f) version_2 r h =
-      let i = printed f version_2 r.1 (λ e. refl) in
+      let i = printed f version_2 r.1 (second_allows _) in
       (rw (leaf_means version_2 c r.0, i.0) refl, rw (expression_plain c r.0, i.1) refl)
   printed (initial_in c f) version_2 r h =
-      let i = printed f version_2 r.1 (λ e. refl) in
+      let i = printed f version_2 r.1 (second_allows _) in
       (rw (leaf_means version_2 c r.0, i.0) refl, rw (expression_plain c r.0, i.1) refl)
   printed (r_switch delayed f g) version_2 r h =
-      let i = printed f version_2 r.0 (λ e. refl) in
-      let j = printed g version_2 r.1 (λ e. refl) in
+      let i = printed f version_2 r.0 (second_allows _) in
+      let j = printed g version_2 r.1 (second_allows _) in
       (rw (i.0, j.0) refl, rw (i.1, j.1) refl)
   printed (rp_switch fs c t) version_2 r h =
-      let i = members_printed fs version_2 r.0 (λ e. refl) in
-      let k = printed t version_2 r.2 (λ e. refl) in
+      let i = members_printed fs version_2 r.0 (second_allows _) in
+      let k = printed t version_2 r.2 (second_allows _) in
       let m : meant (networks version_2) members_sort (form (codes "col") (network_sexprs fs)) ≡ Some fs = i.1 networks_of ∙ ap Some (listed_are fs) in
       (rw (m, leaf_means version_2 c r.1, k.0) refl, rw (i.2, expression_plain c r.1, k.1) refl)
-  printed (initial_out c f) version_1 r h = absurd (not_second (h refl))
-  printed (initial_in c f) version_1 r h = absurd (not_second (h refl))
-  printed (r_switch delayed f g) version_1 r h = absurd (not_second (h refl))
-  printed (rp_switch fs c t) version_1 r h = absurd (not_second (h refl))
+  printed (initial_out c f) version_3 r h =
+      let i = printed f version_3 r.1 (third_allows _) in
+      (rw (leaf_means version_3 c r.0, i.0) refl, rw (expression_plain c r.0, i.1) refl)
+  printed (initial_in c f) version_3 r h =
+      let i = printed f version_3 r.1 (third_allows _) in
+      (rw (leaf_means version_3 c r.0, i.0) refl, rw (expression_plain c r.0, i.1) refl)
+  printed (r_switch delayed f g) version_3 r h =
+      let i = printed f version_3 r.0 (third_allows _) in
+      let j = printed g version_3 r.1 (third_allows _) in
+      (rw (i.0, j.0) refl, rw (i.1, j.1) refl)
+  printed (rp_switch fs c t) version_3 r h =
+      let i = members_printed fs version_3 r.0 (third_allows _) in
+      let k = printed t version_3 r.2 (third_allows _) in
+      let m : meant (networks version_3) members_sort (form (codes "col") (network_sexprs fs)) ≡ Some fs = i.1 networks_of ∙ ap Some (listed_are fs) in
+      (rw (m, leaf_means version_3 c r.1, k.0) refl, rw (i.2, expression_plain c r.1, k.1) refl)
+  printed (initial_out c f) version_1 r h = absurd (h refl refl)
+  printed (initial_in c f) version_1 r h = absurd (h refl refl)
+  printed (r_switch delayed f g) version_1 r h = absurd (h refl refl)
+  printed (rp_switch fs c t) version_1 r h = absurd (h refl refl)
 
   members_printed : (fs : Networks Expression) (v : Version) → AllWritable fs → Allows v (are_new fs) →
       ((make : List (Network Expression) → Network Expression) →
@@ -166,6 +185,11 @@ header_stands : (v : Version) (bs : List ℕ)
     → tokens (codes "yampa " ++ (version_word v ++ (codes "\ninput " ++ bs))) ≡ header_tokens v 0 6 8 (tokens_in false 14 bs)
 header_stands version_1 bs = refl
 header_stands version_2 bs = refl
+header_stands version_3 bs = refl
+
+by_of_networks : (new : Bool) → IsOfNetworks (version_by new)
+by_of_networks true = tt
+by_of_networks false = tt
 
 pub printed_file : PrintedFileLaw
 printed_file A f w a d l =
@@ -177,7 +201,7 @@ printed_file A f w a d l =
       version = v;
       behind = tokens_in false 14 (type_spelling A ++ (10 ∷ net));
       headed =
-          record { yampa = 0; number = 6; input = 8; starts = header_stands v (type_spelling A ++ (10 ∷ net)) };
+          record { yampa = 0; number = 6; input = 8; starts = header_stands v (type_spelling A ++ (10 ∷ net)); of_networks = by_of_networks (is_new f) };
       type_end = stop;
       network =
           tokens_in false (suc stop) net;

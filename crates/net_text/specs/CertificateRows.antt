@@ -39,7 +39,10 @@ CertificateRows =
     × IsRead (codes "laws 1 (step L1 backward (at 0 12) (>>> identity time))")
     (backward (Law.L 1) (0 ∷ 12 ∷ []) (a_network (seq (arr input) time)) ∷ [])
     × IsRead (codes "laws 2") []
+    × IsRead (codes "laws 3") []
     × IsRead (codes "laws 2 (step L1 backward (at) (--> 1 time))")
+    (backward (Law.L 1) [] (a_network (initial_out (int_expr (pos 1)) time)) ∷ [])
+    × IsRead (codes "laws 3 (step L1 backward (at) (--> 1 time))")
     (backward (Law.L 1) [] (a_network (initial_out (int_expr (pos 1)) time)) ∷ [])
 
 -- the first and the last law of each kind
@@ -52,11 +55,16 @@ LawRows =
     × IsRead (codes "laws 2 (step L42 forward (at))") (forward (Law.L 42) [] ∷ [])
     × IsRead (codes "laws 2 (step L43 forward (at))") (forward (Law.L 43) [] ∷ [])
     × IsRead (codes "laws 2 (step L46 forward (at))") (forward (Law.L 46) [] ∷ [])
+    × IsRead (codes "laws 3 (step L47 forward (at))") (forward (Law.L 47) [] ∷ [])
+    × IsRead (codes "laws 3 (step L51 forward (at))") (forward (Law.L 51) [] ∷ [])
+    × IsRead (codes "laws 3 (step E19 forward (at))") (forward (Law.E 19) [] ∷ [])
+    × IsRead (codes "laws 3 (step E26 forward (at))") (forward (Law.E 26) [] ∷ [])
     × AreRefused
     (codes "laws 1 (step E0 forward (at))" ∷ codes "laws 1 (step E19 forward (at))"
     ∷ codes "laws 1 (step L0 forward (at))" ∷ codes "laws 1 (step L43 forward (at))"
     ∷ codes "laws 2 (step L0 forward (at))" ∷ codes "laws 2 (step L47 forward (at))"
     ∷ codes "laws 2 (step E19 forward (at))"
+    ∷ codes "laws 3 (step L52 forward (at))" ∷ codes "laws 3 (step E27 forward (at))"
     ∷ codes "laws 1 (step L01 forward (at))" ∷ codes "laws 1 (step 4 forward (at))"
     ∷ codes "laws 1 (step E forward (at))" ∷ codes "laws 1 (step (E1) forward (at))" ∷ [])
     (V.Syntax 13)
@@ -65,7 +73,7 @@ LawRows =
 abbrev pub CertificateFaultRows : Type 0
 CertificateFaultRows =
     AreRefused
-    (codes "" ∷ codes "laws" ∷ codes "laws 3" ∷ codes "laws 3 (step L43 forward (at))"
+    (codes "" ∷ codes "laws" ∷ codes "laws 4" ∷ codes "laws 4 (step L43 forward (at))"
     ∷ codes "laws 02"
     ∷ codes "yampa 1 input Int time" ∷ codes "((((" ∷ [])
     V.Header

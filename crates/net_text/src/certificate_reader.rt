@@ -111,11 +111,21 @@ fn law_named(word: &[u8], version: Version) -> Option<Law>
 {
     let (letter, digits) = word.split_first()?;
     if *letter == b'E' {
-        Some(Law::E(law_number(digits, 18)?))
+        Some(Law::E(law_number(digits, last_leaf_law(version))?))
     } else if *letter == b'L' {
         Some(Law::L(law_number(digits, last_law(version))?))
     } else {
         None
+    }
+}
+
+/// The last law of expressions of the version.
+fn last_leaf_law(version: Version) -> u8
+    ensures { result ≡ grammar.last_leaf_law (version_of version) }
+{
+    match version {
+        Version::One | Version::Two => 18,
+        Version::Three => 26,
     }
 }
 
@@ -126,6 +136,7 @@ fn last_law(version: Version) -> u8
     match version {
         Version::One => 42,
         Version::Two => 46,
+        Version::Three => 51,
     }
 }
 

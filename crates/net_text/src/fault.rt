@@ -9,7 +9,7 @@ use leaf_expr::ExprTextFault;
 #[derive(Drop)]
 pub enum NetTextFault {
     /// The first three tokens of a network file aren't `yampa`, `1` or `2`, and `input`, or the
-    /// first two of a certificate file `laws`, and `1` or `2`.
+    /// first two of a certificate file `laws`, and `1`, `2` or `3`.
     Header,
     /// A token that doesn't fit and is none of the next two, or no further token.
     Syntax { at: usize },

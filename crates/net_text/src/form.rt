@@ -6,7 +6,7 @@ ghost use Rattle.leaf_expr.specs.ReadText.{fit};
 ghost use Rattle.net_tree.specs.{Network.map_network, NetworkView.tree_of};
 ghost use Rattle.net_text.specs.Form.{net_form_row, version_of, net_word_of};
 ghost use Rattle.leaf_expr.specs.Language.{row_among};
-ghost use Rattle.net_text.specs.Grammar.{cell_rows, pair_rows, other_net_rows, new_rows, version_2, net_row_at, net_word_at, network_sort};
+ghost use Rattle.net_text.specs.Grammar.{cell_rows, pair_rows, other_net_rows, new_rows, second_rows, net_row_at, net_word_at, network_sort};
 
 use crate::sugar::{Made, accum_hold_by, beside, constant, edge, fan_out, second};
 use crate::text::Version;
@@ -289,7 +289,7 @@ fn other_named(word: &[u8]) -> Option<NetForm>
 
 /// The form of the second version alone that the word begins.
 fn new_named(word: &[u8]) -> Option<NetForm>
-    ensures { option_map net_form_row result ≡ row_among word.now (new_rows version_2) }
+    ensures { option_map net_form_row result ≡ row_among word.now second_rows }
 {
     if word_is(word, "-->") {
         Some(NetForm::Fed(FedForm::InitialOut))
@@ -304,13 +304,13 @@ fn new_named(word: &[u8]) -> Option<NetForm>
     }
 }
 
-/// The form that the word begins in that version and in none before it.
+/// The form that the word begins in that version, and not in the first.
 fn added_named(word: &[u8], version: Version) -> Option<NetForm>
     ensures { option_map net_form_row result ≡ row_among word.now (new_rows (version_of version)) }
 {
     match version {
         Version::One => None,
-        Version::Two => new_named(word),
+        Version::Two | Version::Three => new_named(word),
     }
 }
 

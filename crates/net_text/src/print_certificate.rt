@@ -5,7 +5,8 @@ ghost use Rattle.std.specs.Fmt.{decimal};
 ghost use Rattle.sample_core.specs.Adding.{Adds};
 ghost use Rattle.leaf_expr.specs.Sexpr.{sexpr_spelling, sexprs_spelling};
 ghost use Rattle.net_tree.specs.LawStep.{step_of, part_of};
-ghost use Rattle.net_text.specs.CertificatePrinting.{law_spelling, direction_spelling, given_sexprs, step_sexpr, tree_sexpr, certificate_spelling, are_new_steps};
+ghost use Rattle.net_text.specs.CertificatePrinting.{law_spelling, direction_spelling, given_sexprs, step_sexpr, tree_sexpr, certificate_spelling, are_new_steps, are_third_steps, steps_version};
+ghost use Rattle.net_text.specs.Printing.{version_word};
 ghost use Rattle.net_text.specs.CertificatePrinting as printing;
 
 use crate::new_forms::{is_new, version_word};
@@ -17,8 +18,8 @@ use sample_core::Memory;
 use std::alloc::Global;
 
 /// The certificate file of those steps, as a new text: a line `laws 1`, or `laws 2` where a law
-/// above L42 is among them or a form of the second version in a given tree, and a line for each
-/// step, with given trees in core forms. Where each law is one, each given tree is of its law's
+/// above L42 is among them or a form of the second version in a given tree, or `laws 3` where a law
+/// above E18 or L46 is, and a line for each step, with given trees in core forms. Where each law is one, each given tree is of its law's
 /// kind, and their numbers, their depth and the text's length are within the limits of files, it is
 /// read back to the same. `Memory` if allocation fails.
 pub fn print_cert(alloc: Global, steps: &[LawStep]) -> Result<String, Memory>
@@ -27,7 +28,7 @@ pub fn print_cert(alloc: Global, steps: &[LawStep]) -> Result<String, Memory>
 {
     let mut text = String::new(alloc);
     push_word(&mut text, "laws ")?;
-    push_word(&mut text, version_word(are_new(steps)))?;
+    push_word(&mut text, steps_word(steps))?;
     push_word(&mut text, "\n")?;
     for step in steps {
         push_step(&mut text, step)?;
@@ -47,6 +48,39 @@ pub fn push_tree(text: &mut String, tree: &Tree) -> Result<(), Memory>
     }
 }
 
+/// The word that is the first version that has the laws and the forms in the steps.
+fn steps_word(steps: &[LawStep]) -> &'static str
+    ensures { result.now ≡ version_word (steps_version (map step_of steps.now)) }
+{
+    if are_third(steps) {
+        "3"
+    } else {
+        version_word(are_new(steps))
+    }
+}
+
+/// Whether a law of the third version is in the steps.
+fn are_third(steps: &[LawStep]) -> bool
+    ensures { result ≡ are_third_steps (map step_of steps.now) }
+{
+    for step in steps {
+        if is_third_law(step.law) {
+            return true;
+        }
+    }
+    false
+}
+
+/// Whether the law is one of the third version.
+fn is_third_law(law: Law) -> bool
+    ensures { result ≡ printing.is_third_law law }
+{
+    match law {
+        Law::E(number) => number > 18,
+        Law::L(number) => number > 46,
+    }
+}
+
 /// Whether there is something of the second version in the steps.
 fn are_new(steps: &[LawStep]) -> bool
     ensures { result ≡ are_new_steps (map step_of steps.now) }
@@ -59,7 +93,7 @@ fn are_new(steps: &[LawStep]) -> bool
     false
 }
 
-/// Whether the law is one of the second version.
+/// Whether the law is one that the first version lacks, of networks.
 fn is_new_law(law: Law) -> bool
     ensures { result ≡ printing.is_new_law law }
 {

@@ -6,7 +6,7 @@ ghost use Rattle.leaf_core.specs.Expression.{Expression};
 ghost use Rattle.sample_core.specs.TypeTree.{TypeTree};
 ghost use Rattle.net_tree.specs.{Network.Network, NetworkView.tree_of};
 ghost use Rattle.sample_core.specs.TypeView.{type_of};
-ghost use Rattle.net_text.specs.File.{behind_word, behind_version, behind_header, read_body, read_behind, read_file};
+ghost use Rattle.net_text.specs.File.{behind_word, behind_version, network_version, behind_header, read_body, read_behind, read_file};
 ghost use Rattle.net_text.specs.File as file_specs;
 ghost use Rattle.net_text.specs.{FileLaws.IsFile, FileLaws.IsFileFault, ReadNet.GivesFile, ReadNet.last_network_at, ReadNet.from_byte, Form.version_of};
 ghost use Rattle.net_text.specs.declared.fault.NetTextFault.TheVariants as Fault;
@@ -104,9 +104,21 @@ fn header_end(text: &[u8]) -> Option<(Version, usize)>
         ≡ behind_header (tokens text.now) }
 {
     let at = word_end(text, 0, "yampa")?;
-    let (version, at) = version_end(text, at)?;
+    let (version, at) = network_version_end(text, at)?;
     let at = word_end(text, at, "input")?;
     Some((version, at))
+}
+
+/// The version of network files that is the first token at or after `at`, and the byte behind it.
+fn network_version_end(text: &[u8], at: usize) -> Option<(Version, usize)>
+    ensures { option_map (λ x. (version_of x.0, tokens_from x.1 text.now)) result
+        ≡ network_version (tokens_from at text.now) }
+{
+    let (version, end) = version_end(text, at)?;
+    match version {
+        Version::One | Version::Two => Some((version, end)),
+        Version::Three => None,
+    }
 }
 
 /// The version that is the first token at or after `at`, and the byte behind it.
@@ -133,6 +145,8 @@ fn version_named(word: &[u8]) -> Option<Version>
         Some(Version::One)
     } else if word_is(word, "2") {
         Some(Version::Two)
+    } else if word_is(word, "3") {
+        Some(Version::Three)
     } else {
         None
     }

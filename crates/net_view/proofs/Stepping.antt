@@ -33,6 +33,7 @@ use Rattle.net_text.specs.CertificatePrinting.{IsLaw}
 use Rattle.net_view.specs.Listed.{IsThere, IsAtOrBelow, InOrder, Lists, ArePositions}
 use Rattle.net_view.specs.Possible.{Possible, IsForward, IsFoundBy, IsTreeAfter, possible_of, MayBeTaken, law_rank, EarlierStep, earlier_position, earlier_law, IsPossible, ListsSteps, ArePossible, ArePossibleAt}
 use Rattle.net_view.specs.declared.possible.PossibleStep.{PossibleStep}
+use Rattle.net_view.specs.declared.possible.TheConstants.{LAWS}
 use Rattle.net_view.proofs.Listings.{order_split, order_taken, lists_none, lists_one, lists_same, lists_joined}
 
 -- a law that answers something is one
@@ -41,7 +42,7 @@ answer_law olds (L.E n) (a_leaf e) (a_leaf r) (E.forward_answer row) = (row_numb
 answer_law olds (L.E n) (a_leaf e) (a_network r) a = absurd a
 answer_law olds (L.E n) (a_network f) (a_network r) a = elim a [ ]
 answer_law olds (L.E n) (a_network f) (a_leaf r) a = absurd a
-answer_law olds (L.L n) (a_network f) (a_network r) (N.forward_answer row) = (row-numbers olds n).0 (f, r, row)
+answer_law olds (L.L n) (a_network f) (a_network r) (N.forward_answer row) = (row-numbers n olds).0 (f, r, row)
 answer_law olds (L.L n) (a_network f) (a_leaf r) a = absurd a
 answer_law olds (L.L n) (a_leaf e) (a_leaf r) a = elim a [ ]
 answer_law olds (L.L n) (a_leaf e) (a_network r) a = absurd a
@@ -63,7 +64,7 @@ lowest : (law : Law) → IsLaw law → 1 ≤ law_rank law
 lowest (L.E n) h = h.0
 lowest (L.L n) h = omega arith
 
-highest : (law : Law) → IsLaw law → law_rank law ≤ 64
+highest : (law : Law) → IsLaw law → law_rank law ≤ LAWS
 highest (L.E n) h = omega (arith, h.1)
 highest (L.L n) h = omega (arith, h.1)
 
@@ -141,9 +142,9 @@ law_taken t p k law xs x r is h e l = record {
   each = All-push (IsPossible t) xs x l.each h;
 }
 
-pub all_laws : (t : TypedNetwork) (p : List ℕ) (xs : List Possible) → ListsSteps t (ByLaws t p 64) xs → ArePossibleAt t p xs
+pub all_laws : (t : TypedNetwork) (p : List ℕ) (xs : List Possible) → ListsSteps t (ByLaws t p LAWS) xs → ArePossibleAt t p xs
 all_laws t p xs h = record {
-  all = lists_same EarlierStep (ByLaws t p 64) (λ s. MayBeTaken t s × (p ≡ s.position)) (λ s b. b.0) (λ s b. (b, highest s.law (is_law t s b.0))) (steps_in xs) h.all;
+  all = lists_same EarlierStep (ByLaws t p LAWS) (λ s. MayBeTaken t s × (p ≡ s.position)) (λ s b. b.0) (λ s b. (b, highest s.law (is_law t s b.0))) (steps_in xs) h.all;
   each = h.each;
 }
 

@@ -8,6 +8,7 @@ use Rattle.net_meaning.specs.TypedNetwork.{TypedNetwork}
 use Rattle.net_tree.specs.declared.law_step.Law.{Law}
 use Rattle.net_tree.specs.declared.law_step.Law.TheVariants as L
 use Rattle.net_tree.specs.declared.law_step.Direction.TheVariants.{Forward}
+use Rattle.expr_laws.specs.declared.table.TheConstants.{LAST_LAW}
 use Rattle.cert_check.specs.Derives.{Next, standing_tree}
 use Rattle.net_opt.specs.Optimising.{NoStepBy, forward_step}
 use Rattle.net_opt.specs.Order.{Before}
@@ -30,10 +31,10 @@ pub record MayBeTaken (t : TypedNetwork) (s : Step) : Type 0 where
   pub to : TypedNetwork
   pub next : Next t s to
 
--- the laws by number, those of expressions, 1 to 18, before those of networks
+-- the laws by number, those of expressions before those of networks
 abbrev pub law_rank : Law → ℕ
 law_rank (L.E n) = n
-law_rank (L.L n) = 18 + n
+law_rank (L.L n) = LAST_LAW + n
 
 -- the first step is at an earlier position in preorder, or at the same one by an earlier law
 pub data EarlierStep (s r : Step) : Type 0 where

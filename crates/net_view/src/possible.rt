@@ -4,6 +4,7 @@ ghost use Rattle.std.specs.Prelude.{◌≡◌, ◌≢◌, ◌+◌, ◌<◌, IfOk
 ghost use Rattle.net_tree.specs.LawStep.{part_of, step_of};
 ghost use Rattle.cert_check.specs.declared.answer.CheckFault.TheVariants as F;
 ghost use Rattle.net_text.specs.CertificatePrinting.{IsLaw};
+ghost use Rattle.net_view.specs.declared.possible.TheConstants.{LAWS};
 ghost use Rattle.net_view.specs.Possible.{ArePossible, ArePossibleAt, IsForward, IsFoundBy, IsTreeAfter, law_rank, possible_of};
 
 use crate::positions::{positions_within, tree_at};
@@ -13,8 +14,8 @@ use net_tree::{Direction, Law, LawStep, Position, Tree};
 use sample_core::Memory;
 use std::alloc::Global;
 
-/// How many laws there are: 18 of expressions and 46 of networks.
-const LAWS: u8 = 64;
+/// How many laws there are, of expressions and of networks.
+const LAWS: u8 = expr_laws::LAST_LAW + law_rules::LAST_LAW;
 
 /// A step that a check would accept.
 #[derive(Drop)]
@@ -60,14 +61,14 @@ fn steps_at(alloc: Global, net: &TypedNet, position: &Position) -> Result<Vec<Po
 
 /// Law k, from 0: those of expressions, and then those of networks.
 fn law_number(k: u8) -> Law
-    requires { k < 64 }
+    requires { k < LAWS }
     ensures rank { law_rank result ≡ k + 1 }
     ensures law { IsLaw result }
 {
-    if k < 18 {
+    if k < expr_laws::LAST_LAW {
         Law::E(k + 1)
     } else {
-        Law::L(k - 17)
+        Law::L(k + 1 - expr_laws::LAST_LAW)
     }
 }
 

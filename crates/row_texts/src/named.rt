@@ -63,6 +63,9 @@ not of event = (on x (none Bool) (event (then (snd x) (not x))))
 swap = (pair (snd x) (fst x))
 assoc = (pair (fst (fst x)) (pair (snd (fst x)) (snd x)))
 unassoc = (pair (pair (fst x) (fst (snd x))) (snd (snd x)))
+cross = (pair (pair (fst (fst x)) (snd x)) (snd (fst x)))
+held = (on (fst x) (pair (snd x) (snd x)) (pair (snd x) (snd x)))
+sums = (on (fst x) (pair (none Int) (snd x)) (then (pair (snd (fst x)) (snd x)) (then (add (fst x) (snd x)) (pair (event x) x))))
 forms = (parB (arr (add x 1)) (iPre 0) (delay 3 0) time integral \
     (>>> (arr (event x)) (hold 0)) \
     (>>> (arr (event x)) (>>> (accumBy (add (fst x) (snd x)) 0) (hold 0))) \

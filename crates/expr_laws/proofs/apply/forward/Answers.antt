@@ -1,6 +1,6 @@
 use Rattle.std.proofs.Common.{sym, ◌∙◌}
 use Rattle.leaf_core.specs.ExpressionView.{expression_of}
-use Rattle.expr_laws.specs.declared.table.Rule.TheVariants.{Spread, Constant, Compute, Pick}
+use Rattle.expr_laws.specs.declared.table.Rule.TheVariants.{Spread, Constant, Compute, Pick, Turn, Compare}
 use Rattle.expr_laws.proofs.Answered.{no-law, by-name, by-patterns}
 use Rattle.expr_laws.proofs.apply.forward.Goals as goal
 
@@ -23,3 +23,9 @@ returns-in-Compute c = by-name c.args.number (expression_of c.args.expr.now) Com
 
 pub returns-in-Pick : goal.returns-in-Pick
 returns-in-Pick c = by-name c.args.number (expression_of c.args.expr.now) Pick c.pick_element.result (sym c.in-Pick.is ∙ c.law_rule-rule.ensures.rule) (λ h. h.1) c.pick_element.ensures
+
+pub returns-in-Turn : goal.returns-in-Turn
+returns-in-Turn c = by-name c.args.number (expression_of c.args.expr.now) Turn c.turned.result (sym c.in-Turn.is ∙ c.law_rule-rule.ensures.rule) (λ h. h.1) c.turned.ensures
+
+pub returns-in-Compare : goal.returns-in-Compare
+returns-in-Compare c = by-name c.args.number (expression_of c.args.expr.now) Compare c.compared.result (sym c.in-Compare.is ∙ c.law_rule-rule.ensures.rule) (λ h. h.1) c.compared.ensures

@@ -6,5 +6,5 @@ use Rattle.law_patterns.proofs.net_matching.fit_net.Goals as goal
 pub returns-then-not-branch : goal.returns-then-not-branch
 returns-then-not-branch c =
     net_fails-later _ _ _ _ _ c.loop-sym-test.true
-    (ap (λ b. net_going b c.meet.new.todo (nets_found_of c.meet.new.letters)) (sym c.if-not-branch.true)
+    (ap (λ b. net_going b c.meet.new.exprs c.meet.new.nets (nets_found_of c.meet.new.letters)) (sym c.if-not-branch.true)
     ∙ c.in_ok-meet.ensures) c.loop-sym.invariant

@@ -5,5 +5,5 @@ use Rattle.law_patterns.proofs.net_matching.fit_net.Given as goal
 
 abbrev pub invariant-loop-sym : goal.invariant-loop-sym
 invariant-loop-sym l =
-    net_matched (drop l.sym-index l.pattern) (net_matching l.todo (nets_found_of l.letters))
-    ≡ net_matched l.fn.pattern (net_matching (tree_of l.fn.net ∷ []) no_nets_found)
+    net_matched (drop l.sym-index l.pattern) (net_matching l.exprs l.nets (nets_found_of l.letters))
+    ≡ net_matched l.fn.pattern (net_matching [] (tree_of l.fn.net ∷ []) no_nets_found)

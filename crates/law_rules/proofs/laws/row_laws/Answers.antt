@@ -1,6 +1,5 @@
 use Rattle.law_rules.proofs.SameSides.{same-sides, same-side_outputs}
-use Rattle.law_rules.proofs.RowsExact.{one-right_side}
-use Rattle.law_rules.proofs.Numbers.{row-numbers}
+use Rattle.law_rules.proofs.Numbers.{one-right_side, row-numbers}
 use Rattle.law_rules.proofs.laws.row_laws.Goals as goal
 
 pub returns-clause-same_outputs : goal.returns-clause-same_outputs
@@ -13,4 +12,4 @@ pub returns-clause-one_right_side : goal.returns-clause-one_right_side
 returns-clause-one_right_side c = one-right_side
 
 pub returns-clause-numbers : goal.returns-clause-numbers
-returns-clause-numbers c = λ n olds. row-numbers olds n
+returns-clause-numbers c = row-numbers

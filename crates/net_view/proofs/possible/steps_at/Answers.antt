@@ -1,5 +1,6 @@
 use Rattle.std.proofs.Common.{◌≡◌, map, ap, ◌∙◌, subst, arith}
 use Rattle.net_view.specs.Possible.{ListsSteps, possible_of}
+use Rattle.net_view.specs.declared.possible.TheConstants.{LAWS}
 use Rattle.net_view.proofs.Stepping.{ByLaws, no_laws, found_more, found_no_more, all_laws}
 use Rattle.net_view.proofs.possible.steps_at.Goals as goal
 use Rattle.net_view.proofs.possible.steps_at.Goals.{in-Some+in_ok-push, in_default}
@@ -18,6 +19,6 @@ loop-k-preserved c = elim c.match-branch-2.branch [
 
 pub returns : goal.returns
 returns c =
-    let all : c.loop-k.k ≡ 64 = omega arith in
+    let all : c.loop-k.k ≡ LAWS = omega arith in
     all_laws c.args.net.now c.args.position.now (map possible_of c.loop-k.steps.items)
     (subst (λ k. ListsSteps c.args.net.now (ByLaws c.args.net.now c.args.position.now k) (map possible_of c.loop-k.steps.items)) all c.loop-k.invariant)
