@@ -159,3 +159,51 @@ on_left-on_left f sf sl xs =
     ∙ regrouped-pairs (f (each_value left (each_value left xs))) (map right (values (each_value left xs))) (map right (values xs))
     ∙ ap₂ (λ ys ws. pairs (f ys) ws) (each_value-each_value left left xs ∙ sym (each_value-each_value left regrouped xs)) (regrouped-rights xs)
     ∙ sym (sequence-before regrouped (first_function f) xs)
+
+-- L12, L48
+abbrev pub swapped : Datum → Datum
+swapped v = pair (right v) (left v)
+
+pairs-swapped : (vs ws : List Datum) → map swapped (pairs vs ws) ≡ pairs ws vs
+pairs-swapped [] [] = refl
+pairs-swapped [] (w ∷ ws) = refl
+pairs-swapped (v ∷ vs) [] = refl
+pairs-swapped (v ∷ vs) (w ∷ ws) = ap (λ us. pair w v ∷ us) (pairs-swapped vs ws)
+
+-- f on the right
+abbrev pub second_function : SignalFunction → SignalFunction
+second_function f = seq_function (applied swapped) (seq_function (first_function f) (applied swapped))
+
+pub on_right-is : (f : SignalFunction) → IsSignalFunction f → (xs : TimedList) → second_function f xs ≡ pairs (map left (values xs)) (f (each_value right xs))
+on_right-is f sf xs =
+    sequence-before swapped (seq_function (first_function f) (applied swapped)) xs
+    ∙ after_first swapped f sf (each_value swapped xs)
+    ∙ pairs-swapped (f (each_value left (each_value swapped xs))) (map right (values (each_value swapped xs)))
+    ∙ ap₂ (λ us ys. pairs us (f ys)) (ap (map right) (values-each_value swapped xs) ∙ map-map right swapped (values xs)) (each_value-each_value left swapped xs)
+
+-- f on the left, g on the right
+module _ (f g : SignalFunction) (sf : IsSignalFunction f) (sg : IsSignalFunction g) where
+  pub both_sides : (xs : TimedList) → seq_function (first_function f) (second_function g) xs ≡ pairs (f (each_value left xs)) (g (each_value right xs))
+  both_sides xs =
+      let ys : List Datum = f (each_value left xs) in
+      let rs : List Datum = map right (values xs) in
+      let l : length ys ≡ length rs = length-lefted f sf xs in
+      let zs : TimedList = with_values xs (pairs ys rs) in
+      on_right-is g sg zs
+      ∙ ap₂ (λ us ws. pairs us (g ws))
+      (ap (map left) (values-with_values xs (pairs ys rs) (length-on_left f sf xs)) ∙ lefts-pairs ys rs l)
+      (each_value-with_values right xs (pairs ys rs) ∙ ap (with_values xs) (rights-pairs ys rs l) ∙ with_values-applied right xs)
+
+  right_first : (xs : TimedList) → seq_function (second_function g) (first_function f) xs ≡ pairs (f (each_value left xs)) (g (each_value right xs))
+  right_first xs =
+      let ls : List Datum = map left (values xs) in
+      let ys : List Datum = g (each_value right xs) in
+      let l : length ls ≡ length ys = length-applied left xs ∙ sym (sg.sized (each_value right xs) ∙ length-each_value right xs) in
+      let lp : length (pairs ls ys) ≡ length xs = sym (length-map (pairs ls ys) left) ∙ ap length (lefts-pairs ls ys l) ∙ length-applied left xs in
+      ap (λ vs. first_function f (with_values xs vs)) (on_right-is g sg xs)
+      ∙ ap₂ (λ us ws. pairs (f us) ws)
+      (each_value-with_values left xs (pairs ls ys) ∙ ap (with_values xs) (lefts-pairs ls ys l) ∙ with_values-applied left xs)
+      (ap (map right) (values-with_values xs (pairs ls ys) lp) ∙ rights-pairs ls ys l)
+
+  pub exchanged : (xs : TimedList) → seq_function (first_function f) (second_function g) xs ≡ seq_function (second_function g) (first_function f) xs
+  exchanged xs = both_sides xs ∙ sym (right_first xs)

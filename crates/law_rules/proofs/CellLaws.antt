@@ -9,7 +9,7 @@ use Rattle.net_meaning.specs.Typing.{TypedSamples, and_sample, no_sample}
 use Rattle.sample_core.specs.Datum.{Datum, event, left, no_event, pair, right, unit}
 use Rattle.sample_core.specs.HasType.{HasType, pair_has}
 use Rattle.sample_core.specs.TypeTree.{TypeTree, pair_ty}
-use Rattle.law_rules.proofs.ArrowLaws.{after_first, applied, each_value-each_value, each_value-with_values, lefts-pairs, length-applied, length-lefted, map-constant, rights-pairs, sequence-before, values-each_value, values-with_values, with_values-applied}
+use Rattle.law_rules.proofs.ArrowLaws.{applied, both_sides, map-constant, sequence-before, swapped, values-each_value, values-with_values}
 use Rattle.net_meaning.proofs.Prefixes.{length-prefixes}
 use Rattle.net_meaning.proofs.TypedLists.{typed_previous_of}
 
@@ -186,37 +186,12 @@ held-no_event c xs =
     ∙ map-constant c (prefixes xs) (values xs) (length-prefixes xs ∙ sym (length-map xs (λ x. x.1)))
 
 -- L12
-abbrev pub swapped : Datum → Datum
-swapped v = pair (right v) (left v)
-
-pairs-swapped : (vs ws : List Datum) → map swapped (pairs vs ws) ≡ pairs ws vs
-pairs-swapped [] [] = refl
-pairs-swapped [] (w ∷ ws) = refl
-pairs-swapped (v ∷ vs) [] = refl
-pairs-swapped (v ∷ vs) (w ∷ ws) = ap (λ us. pair w v ∷ us) (pairs-swapped vs ws)
-
 pairs-by_past : (h k : TimedList → Datum) (ps : List TimedList) → pairs (map h ps) (map k ps) ≡ map (λ p. pair (h p) (k p)) ps
 pairs-by_past h k [] = refl
 pairs-by_past h k (p ∷ ps) = ap (λ vs. pair (h p) (k p) ∷ vs) (pairs-by_past h k ps)
 
 whole_pair : {A B : TypeTree} (v : Datum) → HasType v (pair_ty A B) → pair (left v) (right v) ≡ v
 whole_pair v (pair_has h k) = refl
-
--- f on the left, g on the right
-pub both_sides : (f g : SignalFunction) → IsSignalFunction f → IsSignalFunction g → (xs : TimedList)
-    → seq_function (first_function f) (seq_function (applied swapped) (seq_function (first_function g) (applied swapped))) xs ≡ pairs (f (each_value left xs)) (g (each_value right xs))
-both_sides f g sf sg xs =
-    let ys : List Datum = f (each_value left xs) in
-    let rs : List Datum = map right (values xs) in
-    let l : length ys ≡ length rs = length-lefted f sf xs in
-    let lp : length (pairs ys rs) ≡ length xs = sym (length-map (pairs ys rs) right) ∙ ap length (rights-pairs ys rs l) ∙ length-applied right xs in
-    let zs : TimedList = with_values xs (pairs ys rs) in
-    sequence-before swapped (seq_function (first_function g) (applied swapped)) zs
-    ∙ after_first swapped g sg (each_value swapped zs)
-    ∙ pairs-swapped (g (each_value left (each_value swapped zs))) (map right (values (each_value swapped zs)))
-    ∙ ap₂ (λ us ws. pairs us (g ws))
-    (ap (map right) (values-each_value swapped zs) ∙ map-map right swapped (values zs) ∙ ap (map left) (values-with_values xs (pairs ys rs) lp) ∙ lefts-pairs ys rs l)
-    (each_value-each_value left swapped zs ∙ each_value-with_values right xs (pairs ys rs) ∙ ap (with_values xs) (rights-pairs ys rs l) ∙ with_values-applied right xs)
 
 by_past-typed : {A : TypeTree} (h k : TimedList → Datum) (xs : TimedList) → TypedSamples A xs → ((p : TimedList) → TypedSamples A p → h p ≡ k p) → by_past h xs ≡ by_past k xs
 by_past-typed h k xs no_sample e = refl

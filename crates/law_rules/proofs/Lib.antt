@@ -1,6 +1,7 @@
 pub mod SomeLaws
 pub mod ArrowLaws
 pub mod CellLaws
+pub mod CellLoops
 pub mod LoopLaws
 pub mod ParallelLaws
 pub mod SwitchLaws

@@ -1,10 +1,11 @@
 -- Laws of `loopPre`, on signals.
 use Rattle.std.proofs.Common.{List, [], ap, ap₂, arith, le_refl, length, length-take, map, refl, suc, sym, take, take-take, take_all, zero, ℕ, ◌∙◌, ◌∷◌, ◌≡◌, ◌≤◌}
+use Rattle.std.proofs.lemmas.List.{take-map}
 use Rattle.std.proofs.lemmas.Simd.{map-map}
 use Rattle.net_meaning.specs.Examples.{n}
 use Rattle.net_meaning.specs.SignalFunction.{IsSignalFunction, SignalFunction, TimedList, each_value, feedback_values, first_function, loop_pre_function, pair_samples, pairs, seq_function, values, with_values}
 use Rattle.sample_core.specs.Datum.{Datum, left, pair, right}
-use Rattle.law_rules.proofs.ArrowLaws.{applied, each_value-with_values, lefts-pairs, length-lefted, regrouped, rights-pairs, sequence-after, sequence-before, values-with_values}
+use Rattle.law_rules.proofs.ArrowLaws.{after_first, applied, each_value-with_values, length-applied, length-each_value, lefts-pairs, length-lefted, regrouped, rights-pairs, sequence-after, sequence-before, values-with_values}
 use Rattle.law_rules.proofs.SomeLaws.{left-paired}
 use Rattle.net_meaning.proofs.Feedback.{IsSignal-feedback, fed_back-more, fed_back-take, length-fed_back}
 use Rattle.net_meaning.proofs.Plain.{IsSignal-on_left}
@@ -160,3 +161,67 @@ module _ (c d : Datum) (f : SignalFunction) (sf : IsSignalFunction f) where
       ∙ lefts-regrouped (f (pair_samples ws (inner xs n)))
       ∙ ap (λ zs. map left (map left (f (pair_samples ws (feedback_values d f zs n))))) all
       ∙ ap (λ k. map left (map left (f (pair_samples ws (feedback_values d f ws k))))) (sym lw))
+
+-- L47
+abbrev pub crossed : Datum → Datum
+crossed v = pair (pair (left (left v)) (right v)) (right (left v))
+
+crossed-paired : (xs : TimedList) (vs : List Datum) → each_value left (each_value crossed (pair_samples xs vs)) ≡ pair_samples (each_value left xs) vs
+crossed-paired [] vs = refl
+crossed-paired (x ∷ xs) [] = refl
+crossed-paired (x ∷ xs) (v ∷ vs) = ap (λ ys. (x.0, pair (left x.1) v) ∷ ys) (crossed-paired xs vs)
+
+rights-crossed : (xs : TimedList) (vs : List Datum) → length vs ≡ length xs → map right (values (each_value crossed (pair_samples xs vs))) ≡ map right (values xs)
+rights-crossed [] vs e = refl
+rights-crossed (x ∷ xs) [] e = absurd (omega arith)
+rights-crossed (x ∷ xs) (v ∷ vs) e = let e' : length vs ≡ length xs = omega arith in ap (λ ys. right x.1 ∷ ys) (rights-crossed xs vs e')
+
+lefts-crossed_pairs : (us ws : List Datum) → map left (map crossed (pairs us ws)) ≡ pairs (map left us) ws
+lefts-crossed_pairs [] ws = refl
+lefts-crossed_pairs (u ∷ us) [] = refl
+lefts-crossed_pairs (u ∷ us) (w ∷ ws) = ap (λ ys. pair (left u) w ∷ ys) (lefts-crossed_pairs us ws)
+
+rights-crossed_pairs : (us ws : List Datum) → length us ≡ length ws → map right (map crossed (pairs us ws)) ≡ map right us
+rights-crossed_pairs [] ws e = refl
+rights-crossed_pairs (u ∷ us) [] e = absurd (omega arith)
+rights-crossed_pairs (u ∷ us) (w ∷ ws) e = let e' : length us ≡ length ws = omega arith in ap (λ ys. right u ∷ ys) (rights-crossed_pairs us ws e')
+
+module _ (c : Datum) (f : SignalFunction) (sf : IsSignalFunction f) where
+  -- f with the right part carried round it
+  abbrev carried : SignalFunction
+  carried = seq_function (applied crossed) (seq_function (first_function f) (applied crossed))
+
+  carried-is : (xs : TimedList) (vs : List Datum) → length vs ≡ length xs → carried (pair_samples xs vs) ≡ map crossed (pairs (f (pair_samples (each_value left xs) vs)) (map right (values xs)))
+  carried-is xs vs e =
+      sequence-before crossed (seq_function (first_function f) (applied crossed)) (pair_samples xs vs)
+      ∙ after_first crossed f sf (each_value crossed (pair_samples xs vs))
+      ∙ ap₂ (λ ys ws. map crossed (pairs (f ys) ws)) (crossed-paired xs vs) (rights-crossed xs vs e)
+
+  rights-carried : (xs : TimedList) (vs : List Datum) → length vs ≡ length xs → map right (carried (pair_samples xs vs)) ≡ map right (f (pair_samples (each_value left xs) vs))
+  rights-carried xs vs e =
+      let ys : TimedList = pair_samples (each_value left xs) vs in
+      let ll : length (each_value left xs) ≡ length xs = length-each_value left xs in
+      let l : length (f ys) ≡ length (map right (values xs)) = sf.sized ys ∙ length-zip_with _ (each_value left xs) vs (e ∙ sym ll) ∙ ll ∙ sym (length-applied right xs) in
+      ap (map right) (carried-is xs vs e) ∙ rights-crossed_pairs (f ys) (map right (values xs)) l
+
+  carried-feeds : (xs : TimedList) (n : ℕ) → n ≤ length xs → feedback_values c carried xs n ≡ feedback_values c f (each_value left xs) n
+  carried-feeds xs zero l = refl
+  carried-feeds xs (suc n) l =
+      let l' : n ≤ length xs = omega arith in
+      let vs : List Datum = feedback_values c f (each_value left xs) n in
+      let t : length (take n xs) ≡ n = omega (arith, length-take n xs) in
+      let lv : length vs ≡ n = length-fed_back c f sf (each_value left xs) n (omega (arith, length-each_value left xs)) in
+      ap (λ ws. c ∷ map right (carried (pair_samples (take n xs) ws))) (carried-feeds xs n l')
+      ∙ ap (λ ws. c ∷ ws) (rights-carried (take n xs) vs (lv ∙ sym t))
+      ∙ ap (λ ys. c ∷ map right (f (pair_samples ys vs))) (sym (take-map (λ x. (x.0, left x.1)) n xs))
+
+  pub on_left-feedback : (xs : TimedList) → first_function (loop_pre_function c f) xs ≡ loop_pre_function c carried xs
+  on_left-feedback xs =
+      let ls : TimedList = each_value left xs in
+      let vs : List Datum = feedback_values c f ls (length xs) in
+      let ll : length ls ≡ length xs = length-each_value left xs in
+      let lv : length vs ≡ length xs = length-fed_back c f sf ls (length xs) (omega arith) in
+      ap (λ k. pairs (map left (f (pair_samples ls (feedback_values c f ls k)))) (map right (values xs))) ll
+      ∙ sym (ap (λ ws. map left (carried (pair_samples xs ws))) (carried-feeds xs (length xs) (le_refl (length xs)))
+      ∙ ap (map left) (carried-is xs vs lv)
+      ∙ lefts-crossed_pairs (f (pair_samples ls vs)) (map right (values xs)))

@@ -1,5 +1,5 @@
 -- What the laws that aren't two patterns make of a network is a right side.
-use Rattle.std.proofs.Common.{◌≡◌, ℕ, ◌≤◌, Bool, true, false, cond, nat_le, nat_eq, ◌&&◌, pos, Option, Some, None, refl, sym, ap, ap₂, ◌∙◌, subst, arith}
+use Rattle.std.proofs.Common.{◌≡◌, ℕ, ◌≤◌, Bool, true, false, cond, nat_le, nat_eq, ◌&&◌, pos, Option, Some, None, refl, sym, ap₂, subst, arith}
 use Rattle.std.proofs.lemmas.Bool.{leb-true, le-leb}
 use Rattle.leaf_core.specs.Expression.{Expression, input, int_expr, pair_expr, no_event_expr, list_expr, nth}
 use Rattle.net_tree.specs.Network.{Network, Networks, arr, seq, par, after, repeatedly, time, rp_switch, k_switch, p_switch, old}

@@ -1,6 +1,6 @@
 -- Each row's two sides have one meaning: most in every context, the rest where both are typed.
 use Rattle.std.proofs.Common.{Some, [], ap, ap₂, pos, refl, suc, sym, length, ℕ, ◌∙◌, ◌∷◌, ◌≡◌, ◌≤◌, subst}
-use Rattle.law_rules.specs.NetworkRow.{SeesSteps, after_sees, assoc, behind_routes, each_after, each_arr, event_by, event_last, left_by, repeatedly_sees, right_by, time_sees, unassoc}
+use Rattle.law_rules.specs.NetworkRow.{SeesSteps, accumulated_next, after_sees, assoc, behind_routes, each_after, each_arr, event_by, held_next, left_by, repeatedly_sees, right_by, swap, cross, time_sees, unassoc}
 use Rattle.leaf_core.specs.Expression.{Expression, Expressions, event_expr, fst, input, int_expr, list_expr, no_event_expr, nth, pair_expr, then_expr, unit_expr}
 use Rattle.leaf_core.specs.ExpressionValue.{value_of}
 use Rattle.net_meaning.specs.Meaning.{Context, meaning, meanings, with_olds, with_param}
@@ -12,6 +12,7 @@ use Rattle.sample_core.specs.Datum.{Datum, int, pair, unit}
 use Rattle.sample_core.specs.TypeTree.{TypeTree}
 use Rattle.law_rules.proofs.ArrowLaws
 use Rattle.law_rules.proofs.CellLaws
+use Rattle.law_rules.proofs.CellLoops
 use Rattle.law_rules.proofs.LoopLaws
 use Rattle.law_rules.proofs.ParallelLaws
 use Rattle.law_rules.proofs.SomeLaws.{seq_function_assoc, sequence-feedback}
@@ -114,7 +115,7 @@ law_26 q c f E s xs = CellLaws.delayed-applied (value_of f E.params) q (value_of
 pub laws_31_32 : (tm : Timing) (C : TypeTree) (f t : Network Expression) → AlikeNets (switch tm (seq f (arr (pair_expr input (no_event_expr C)))) t) f
 laws_31_32 tm C f t E s xs = at xs (switching-quiet tm (meaning value_of f E) (into t E) (signal f E s))
 
-pub laws_33_34 : (tm : Timing) (f t : Network Expression) → AlikeNets (first (switch tm f t)) (switch tm (seq (first f) (arr event_last)) (first t))
+pub laws_33_34 : (tm : Timing) (f t : Network Expression) → AlikeNets (first (switch tm f t)) (switch tm (seq (first f) (arr cross)) (first t))
 laws_33_34 tm f t E s xs = at xs (on_left-switching tm (meaning value_of f E) (into t E) (signal f E s))
 
 pub law_35 : (C : TypeTree) (e : Expression) (f t : Network Expression) → AlikeNets (seq (arr (pair_expr e (no_event_expr C))) (r_switch at_once f t)) (seq (arr e) f)
@@ -159,3 +160,18 @@ pub law_46 : (C : TypeTree) (e m : Expression) (fs : Networks Expression) (t : N
     → AlikeNets (seq (arr (pair_expr e (no_event_expr C))) (rp_switch fs m t)) (seq (arr e) (par fs))
 law_46 C e m fs t few E s xs =
     at xs (choosing-quiet (value_of e E.params) (value_of m E.params) (meanings value_of fs E) (into t E) (subst (λ n. n ≤ 64) (sym (length-meanings fs E)) few))
+
+pub law_47 : (c : Expression) (f : Network Expression) → AlikeNets (first (loop_pre c f)) (loop_pre c (seq (arr cross) (seq (first f) (arr cross))))
+law_47 c f E s xs = LoopLaws.on_left-feedback (value_of c E.params unit) (meaning value_of f E) (signal f E s) xs
+
+pub law_48 : (f g : Network Expression) → AlikeNets (seq (first f) (seq (arr swap) (seq (first g) (arr swap)))) (seq (seq (arr swap) (seq (first g) (arr swap))) (first f))
+law_48 f g E s xs = ArrowLaws.exchanged (meaning value_of f E) (meaning value_of g E) (signal f E s) (signal g E s) xs
+
+pub law_49 : (c : Expression) → AlikeNets (i_pre c) (loop_pre c (arr swap))
+law_49 c E s xs = CellLoops.previous_of-looped (value_of c E.params unit) xs
+
+pub law_50 : (c : Expression) → AlikeNets (hold c) (loop_pre c (arr held_next))
+law_50 c E s xs = CellLoops.held-looped (value_of c E.params unit) xs
+
+pub law_51 : (t : TypeTree) (g z : Expression) → AlikeNets (loop_pre z (arr (accumulated_next t g))) (accum_by g z)
+law_51 t g z E s xs = sym (CellLoops.accumulation-looped (value_of g E.params) (value_of z E.params unit) xs)

@@ -20,12 +20,12 @@ use Rattle.net_meaning.proofs.Plain.{AllSignals}
 use Rattle.net_meaning.proofs.Meanings.{IsSignal-meaning}
 use Rattle.net_meaning.proofs.SameNets.{signals_right, same-from_law}
 use Rattle.net_meaning.proofs.StreamLaws.{same-outputs}
-use Rattle.law_rules.specs.NetworkRow.{NetworkRow, swap, left_by, row_l1, row_l2, row_l3, row_l4, row_l5, row_l6, row_l7, row_l8, row_l9, row_l10, row_l11, row_l12, row_l13, row_l14, row_l15, row_l16, row_l17, row_l18, row_l19, row_l20, row_l21, row_l22, row_l23, row_l24, row_l25, row_l26, row_l27, row_l28, row_l29, row_l30, row_l31, row_l32, row_l33, row_l34, row_l35, row_l36, row_l37, row_l38, row_l39, row_l40, row_l41, row_l42, row_l43, row_l44, row_l45, row_l46}
+use Rattle.law_rules.specs.NetworkRow.{NetworkRow, swap, left_by, row_l1, row_l2, row_l3, row_l4, row_l5, row_l6, row_l7, row_l8, row_l9, row_l10, row_l11, row_l12, row_l13, row_l14, row_l15, row_l16, row_l17, row_l18, row_l19, row_l20, row_l21, row_l22, row_l23, row_l24, row_l25, row_l26, row_l27, row_l28, row_l29, row_l30, row_l31, row_l32, row_l33, row_l34, row_l35, row_l36, row_l37, row_l38, row_l39, row_l40, row_l41, row_l42, row_l43, row_l44, row_l45, row_l46, row_l47, row_l48, row_l49, row_l50, row_l51}
 use Rattle.law_rules.proofs.Scopes.{value-stays}
 use Rattle.law_rules.proofs.SomeLaws.{switching_on-old}
 use Rattle.law_rules.proofs.CellLaws.{previous_of-pair}
 use Rattle.law_rules.proofs.SwitchLaws.{pointwise, sequence-switching, switching-pointwise, restarting-pointwise}
-use Rattle.law_rules.proofs.NetworkLaws.{AlikeNets, at, into, law_1, law_2, law_3, law_4, law_5, law_6, law_7, law_8, law_9, law_10, law_11, law_13, law_14, law_15, law_16, law_17, law_18, law_19, law_20, law_21, law_22, law_23, law_24, law_25, law_26, laws_31_32, laws_33_34, law_35, law_37, law_39, law_40, law_41, law_42, law_43, law_44, law_46}
+use Rattle.law_rules.proofs.NetworkLaws.{AlikeNets, at, into, law_1, law_2, law_3, law_4, law_5, law_6, law_7, law_8, law_9, law_10, law_11, law_13, law_14, law_15, law_16, law_17, law_18, law_19, law_20, law_21, law_22, law_23, law_24, law_25, law_26, laws_31_32, laws_33_34, law_35, law_37, law_39, law_40, law_41, law_42, law_43, law_44, law_46, law_47, law_48, law_49, law_50, law_51}
 
 -- the two networks mean the same in each scope that these types describe
 abbrev SameIn : List TypeTree → List Arrow → TypeTree → Network Expression → Network Expression → Type 0
@@ -138,6 +138,11 @@ same-in law olds Ps Os A B l r (row_l43 {c = c} {d = e} {f = f}) n d = everywher
 same-in law olds Ps Os A B l r (row_l44 {c = c} {f = f}) n d = everywhere Ps Os A l r (law_44 c f)
 same-in law olds Ps Os A B l r (row_l45 {h = h} {f = f} {t = t}) n (seq_typed d (arr_typed {A = C} e)) = λ ps os k a xs j. at xs (laws_36_45 delayed h f t (context ps os) (signals_right os os a) (steady h Ps C B e ps os k))
 same-in law olds Ps Os A B l r (row_l46 {C = C} {e = e} {m = m} {fs = fs} {t = t} some few) n d = everywhere Ps Os A l r (law_46 C e m fs t few)
+same-in law olds Ps Os A B l r (row_l47 {c = c} {f = f}) n d = everywhere Ps Os A l r (law_47 c f)
+same-in law olds Ps Os A B l r (row_l48 {f = f} {g = g}) n d = everywhere Ps Os A l r (law_48 f g)
+same-in law olds Ps Os A B l r (row_l49 {c = c}) n d = everywhere Ps Os A l r (law_49 c)
+same-in law olds Ps Os A B l r (row_l50 {c = c}) n d = everywhere Ps Os A l r (law_50 c)
+same-in law olds Ps Os A B l r (row_l51 {Z = Z} {g = g} {z = z}) n d = everywhere Ps Os A l r (law_51 Z g z)
 
 pub same-sides : (law olds : ℕ) (Ps : List TypeTree) (Os : List Arrow) (A B : TypeTree) (l r : Network Expression) → NetworkRow law olds l r → length Os ≡ olds → NetTyped Ps Os l A B → NetTyped Ps Os r A B
     → SameNet value_of Ps Os A B l r

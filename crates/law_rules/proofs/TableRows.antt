@@ -15,7 +15,7 @@ use Rattle.law_patterns.specs.NetMatching.{NetFound, beside, net_ended, net_buil
 use Rattle.law_patterns.specs.NetPattern.{NetAssignment, net_filled}
 use Rattle.law_patterns.specs.NetRule.{NetRuleInstance}
 use Rattle.law_patterns.proofs.NetRows.{net_rewritten-some}
-use Rattle.law_rules.specs.NetworkRow.{behind_routes, each_after, each_arr, count, time_sees, NetworkRow, row_l1, row_l2, row_l3, row_l4, row_l5, row_l6, row_l7, row_l8, row_l9, row_l10, row_l11, row_l12, row_l13, row_l14, row_l15, row_l16, row_l17, row_l18, row_l19, row_l20, row_l21, row_l22, row_l23, row_l24, row_l25, row_l26, row_l27, row_l28, row_l29, row_l30, row_l31, row_l32, row_l33, row_l34, row_l35, row_l36, row_l37, row_l38, row_l39, row_l40, row_l41, row_l42, row_l43, row_l44, row_l45, row_l46}
+use Rattle.law_rules.specs.NetworkRow.{behind_routes, each_after, each_arr, count, time_sees, NetworkRow, row_l1, row_l2, row_l3, row_l4, row_l5, row_l6, row_l7, row_l8, row_l9, row_l10, row_l11, row_l12, row_l13, row_l14, row_l15, row_l16, row_l17, row_l18, row_l19, row_l20, row_l21, row_l22, row_l23, row_l24, row_l25, row_l26, row_l27, row_l28, row_l29, row_l30, row_l31, row_l32, row_l33, row_l34, row_l35, row_l36, row_l37, row_l38, row_l39, row_l40, row_l41, row_l42, row_l43, row_l44, row_l45, row_l46, row_l47, row_l48, row_l49, row_l50, row_l51}
 use Rattle.law_rules.specs.Forward.{law20, law38, law39, law40, law41, law42, law46}
 use Rattle.law_rules.specs.Table.{rule_at, left_at, right_at}
 use Rattle.law_rules.specs.declared.table.Rule.{Rule}
@@ -143,6 +143,11 @@ all =
     (λ olds a. row_l44) and
     (λ olds a. row_l45) and
     (λ olds. (found (row_l46 {C = unit_ty} {e = input} {m = input} {fs = one_member} {t = time} (omega arith) (omega arith)), law46-gives olds)) and
+    (λ olds a. row_l47) and
+    (λ olds a. row_l48) and
+    (λ olds a. row_l49) and
+    (λ olds a. row_l50) and
+    (λ olds a. row_l51) and
     tt
 
 -- what stands at any number

@@ -1,4 +1,4 @@
-//! The laws of networks, L1 to L46: their rows, that both sides of each do the same, and how one
+//! The laws of networks, L1 to L51: their rows, that both sides of each do the same, and how one
 //! is applied.
 //!
 //!     let right = apply_law(alloc, law, Direction::Forward, &net, None, olds)?;

@@ -72,7 +72,7 @@ const ON: NetSym = Leaf(Sym::On);
 pub type Row = (Rule, &'static [NetSym], &'static [NetSym]);
 
 /// The laws by number, from 0.
-pub const LAWS: [Row; 47] = [
+pub const LAWS: [Row; 52] = [
     (Nothing, &[], &[]),
     (Sides, &[Seq, Arr, X, NET_F], &[NET_F]),
     (Sides, &[Seq, NET_F, Arr, X], &[NET_F]),
@@ -276,6 +276,42 @@ pub const LAWS: [Row; 47] = [
         &[DrSwitch, Seq, NET_F, Arr, H, Seq, NET_G, Arr, H],
     ),
     (Unchanging, &[], &[]),
+    (
+        Sides,
+        &[First, LoopPre, F, NET_F],
+        &[
+            LoopPre, F, Seq, Arr, PAIR, PAIR, FST, FST, X, SND, X, SND, FST, X, Seq, First, NET_F,
+            Arr, PAIR, PAIR, FST, FST, X, SND, X, SND, FST, X,
+        ],
+    ),
+    (
+        Sides,
+        &[
+            Seq, First, NET_F, Seq, Arr, PAIR, SND, X, FST, X, Seq, First, NET_G, Arr, PAIR, SND,
+            X, FST, X,
+        ],
+        &[
+            Seq, Seq, Arr, PAIR, SND, X, FST, X, Seq, First, NET_G, Arr, PAIR, SND, X, FST, X,
+            First, NET_F,
+        ],
+    ),
+    (Sides, &[IPre, F], &[LoopPre, F, Arr, PAIR, SND, X, FST, X]),
+    // 50
+    (
+        Sides,
+        &[Hold, F],
+        &[
+            LoopPre, F, Arr, ON, FST, X, PAIR, SND, X, SND, X, PAIR, SND, X, SND, X,
+        ],
+    ),
+    (
+        Sides,
+        &[
+            LoopPre, F, Arr, ON, FST, X, PAIR, NONE, SND, X, THEN, PAIR, SND, FST, X, SND, X, THEN,
+            G, PAIR, EVENT, X, X,
+        ],
+        &[AccumBy, G, F],
+    ),
 ];
 
 /// The law of this number.
