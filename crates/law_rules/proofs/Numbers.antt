@@ -16,7 +16,7 @@ numbered : {n olds : ℕ} {l r : Network Expression} → NetworkRow n olds l r �
 numbered row_l1 = (omega arith, omega arith)
 numbered _ = (omega arith, omega arith)
 
--- there is a row of a number exactly from 1 to 51
+-- there is a row of a number exactly from 1 to the last law's
 pub row-numbers : NetworkRowNumbersLaw
 row-numbers n olds = (
   λ s. (let h = numbered s.2 in (h.0, omega (arith, h.1))),

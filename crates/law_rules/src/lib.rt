@@ -19,3 +19,4 @@ mod table;
 
 pub use apply::apply_law;
 pub use laws::{answer_laws, row_laws};
+pub use table::LAST_LAW;

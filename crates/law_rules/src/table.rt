@@ -71,6 +71,9 @@ const ON: NetSym = Leaf(Sym::On);
 /// and these before its networks.
 pub type Row = (Rule, &'static [NetSym], &'static [NetSym]);
 
+/// The greatest number of a law.
+pub const LAST_LAW: u8 = 51;
+
 /// The laws by number, from 0.
 pub const LAWS: [Row; 52] = [
     (Nothing, &[], &[]),
