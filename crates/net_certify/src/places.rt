@@ -47,6 +47,9 @@ const MOST_EFFORT: u32 = 4;
 /// How many nodes are visited, about, where two trees are compared or a law is tried.
 const LOOK: u64 = 30;
 
+/// The numbers of the laws of expressions, and those of networks, go up to these.
+const LAST_LAWS: (u8, u8) = (18, 46);
+
 /// The network, with no step yet.
 fn sketch_of(means: &Means, net: &Net<Expr>) -> Result<Sketch, Memory> {
     Sketch::new(means, copied(means.alloc, net)?, 0, Clearing::Always)
@@ -171,8 +174,8 @@ impl Pair {
     /// The number of the last law of what stands at the path.
     fn last_law(&self, path: &[u32]) -> Result<u8, NoMove> {
         match self.first.at(path)?.tree {
-            TreeRef::Expr(_) => Ok(expr_laws::LAST_LAW),
-            TreeRef::Net(_) => Ok(law_rules::LAST_LAW),
+            TreeRef::Expr(_) => Ok(LAST_LAWS.0),
+            TreeRef::Net(_) => Ok(LAST_LAWS.1),
         }
     }
 
