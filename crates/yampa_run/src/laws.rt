@@ -17,9 +17,10 @@ use sample_core::reading_laws;
 use stream_text::stream_laws;
 
 /// The bytes of a file are refused with one line, and bytes that have a network with none. So
-/// `prepare` refuses what is asked for, but for lack of memory, only where no job is that: where the
-/// file's bytes have no network, or those of three files are no source, target and certificate whose
-/// steps derive the target. A full table is told behind it.
+/// `prepare` refuses what is asked for, but for lack of memory, only where no job is that: where a
+/// file has no network or no certificate, or its steps are no derivation and that is checked; where
+/// the input types of two networks differ, a position isn't there, a step can't be taken, or there
+/// are too many; or where a word is no number or no position. A full table is told behind it.
 pub fn refusal_laws()
     ensures one_line { OneRefusalLaw }
     ensures no_network { NoNetworkLaw }
