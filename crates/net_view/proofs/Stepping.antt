@@ -296,7 +296,7 @@ none_there t p xs h e = subst (ArePossibleAt t p) (sym e) (record {
 -- nor by a law that has no answer there
 pub no_answer : (t : TypedNetwork) (law : Law) (p : List ℕ) (c : Placed) (answer : Option C.Tree) → placed_at 0 0 (a_network t.net) p ≡ Some c → answer ≡ None
     → IsTreeAnswer c.olds law Forward c.tree None answer → NoStepBy t p law
-no_answer t law p c None there e h u x =
+no_answer t law p c None there e h = λ u x.
     h x.new
     (subst (λ (d : Placed). TreeAnswer d.olds law Forward d.tree None x.new) (same_Some x.answered.place c (sym x.answered.found ∙ there)) x.answered.answered)
 no_answer t law p c (Some a) there e h = absurd (none-some a (sym e))
