@@ -43,11 +43,11 @@ def possible_lines(found):
 
 
 def cut(text):
-    """The text; of one that is long what is deep in brackets is left out, as little as makes it fit into a line."""
+    """The text; of one that is long what is deep in brackets is left out, as little as makes it fit into a line, or all behind its first word."""
     if len(text) <= LINE:
         return text
-    cuts = (to_depth(text, depth) for depth in range(DEEPEST, -1, -1))
-    return next(text for text in cuts if len(text) <= LINE)
+    cuts = (to_depth(text, depth) for depth in range(DEEPEST, 0, -1))
+    return next((text for text in cuts if len(text) <= LINE), f"{text.split(' ')[0]} ..)")
 
 
 def to_depth(text, depth):

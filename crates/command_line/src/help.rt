@@ -222,9 +222,9 @@ pub const LAWS: HelpText<'static> = HelpText {
     does: "Prints the steps that are possible in a network",
     more: "\
 It prints each possible forward step, as a certificate has it, at P and at each position below it,
-and under each step `- ` and what stands at its position, and `+ ` and what then stands there. If
-that is longer than 100 bytes, its deepest parts are left out, as `..`. A step is possible if its law
-fits what stands there and the resulting network is typed within the limits.
+then `- ` and what stands at its position, then `+ ` and what stands there after it. In a tree of over
+100 bytes the deepest parts are `..`. A step is possible if its law fits what stands there and the
+resulting network is typed within the limits.
 
 Example: if the file `net` holds `yampa 1 input Int (>>> (arr (add x 1)) (arr (mul x 2)))`,
 
@@ -281,7 +281,7 @@ output the same on every stream. If it finds none, both may still output the sam
   too long: 10120 steps, 902115 bytes  that there are steps, too many for a certificate or a file;
   gave up: 15000000 nodes visited      or that it came to no normal form.
 
-What is longer than 100 bytes is cut, as by `yampa laws`.
+Long trees are cut as by `yampa laws`.
 
 Example: if the file `source` holds `yampa 1 input Int (>>> (arr (add x 1)) (arr (mul x 2)))`,
 and the file `target` holds `yampa 1 input Int (arr (then (add x 1) (mul x 2)))`,

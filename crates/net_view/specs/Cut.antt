@@ -16,10 +16,15 @@ abbrev pub to_depth : ℕ → ℕ → List ℕ → List ℕ
 to_depth n d [] = []
 to_depth n d (c ∷ cs) = shown n d c ++ to_depth n (open_behind d c) cs
 
--- the same for the greatest n, up to this one, for which it has at most 100 bytes; for 0 it is two
--- dots
+-- the text before its first blank
+abbrev pub head : List ℕ → List ℕ
+head [] = []
+head (c ∷ cs) = if nat_eq c 32 then [] else shown 1 0 c ++ head cs
+
+-- the same as to_depth, for the greatest n from 1 up to this one for which it has at most 100 bytes;
+-- where there is none, the first word and two dots
 abbrev pub fitting : ℕ → List ℕ → List ℕ
-fitting zero text = to_depth 0 0 text
+fitting zero text = head text ++ codes " ..)"
 fitting (suc n) text =
     if nat_lt 100 (length (to_depth (suc n) 0 text)) then fitting n text else to_depth (suc n) 0 text
 

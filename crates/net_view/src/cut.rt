@@ -1,8 +1,8 @@
 // Long texts, cut to a line.
 
-ghost use Rattle.std.specs.Prelude.{◌≡◌, ◌+◌, ◌++◌, ◌<◌, ◌^◌, IfOk, OnOk, string_bytes};
+ghost use Rattle.std.specs.Prelude.{◌≡◌, ◌+◌, ◌++◌, ◌<◌, ◌^◌, IfOk, OnOk, codes, string_bytes};
 ghost use Rattle.sample_core.specs.Adding.{Adds};
-ghost use Rattle.net_view.specs.Cut.{cut, fitting, open_behind, shown, to_depth};
+ghost use Rattle.net_view.specs.Cut.{cut, fitting, head, open_behind, shown, to_depth};
 
 use sample_core::Memory;
 use std::alloc::Global;
@@ -14,7 +14,7 @@ const LINE: usize = 100;
 const DEEPEST: usize = 8;
 
 /// Adds the text; one of over 100 bytes with two dots for each part that is too deep in brackets,
-/// as deep as 100 bytes hold.
+/// as deep as 100 bytes hold; else its first word, and two dots for the rest.
 pub(crate) fn push_cut(alloc: Global, text: &mut String, whole: &str) -> Result<(), Memory>
     ensures { Adds result (string_bytes text.old) (string_bytes text.new) (cut whole.now) }
 {
@@ -31,13 +31,41 @@ fn push_fitting(alloc: Global, text: &mut String, whole: &[u8], most: usize) -> 
     ensures { Adds result (string_bytes text.old) (string_bytes text.new)
         (fitting most whole.now) }
 {
+    if most == 0 {
+        return push_head(alloc, text, whole);
+    }
     let shown = to_depth(alloc, whole, most)?;
-    if most > 0 && shown.len() > LINE {
+    if shown.len() > LINE {
         drop(shown);
         return push_fitting(alloc, text, whole, most - 1);
     }
     text.push_str(shown.as_str())?;
     Ok(())
+}
+
+/// Adds the first word of a text in brackets, and two dots for the rest.
+fn push_head(alloc: Global, text: &mut String, whole: &[u8]) -> Result<(), Memory>
+    ensures { Adds result (string_bytes text.old) (string_bytes text.new)
+        (head whole.now ++ codes " ..)") }
+{
+    let word = head_of(alloc, whole)?;
+    text.push_str(word.as_str())?;
+    text.push_str(" ..)")?;
+    Ok(())
+}
+
+/// The text before its first blank.
+fn head_of(alloc: Global, whole: &[u8]) -> Result<String, Memory>
+    ensures { IfOk result (λ text. string_bytes text ≡ head whole.now) }
+{
+    let mut text = String::new(alloc);
+    for byte in whole {
+        if *byte == b' ' {
+            return Ok(text);
+        }
+        push_shown(&mut text, *byte, 0, 1)?;
+    }
+    Ok(text)
 }
 
 /// The text with two dots for each part in so many brackets.
