@@ -318,18 +318,25 @@ class Case:
             self.told_apart(told, files[:2], stream)
 
     def told_apart(self, told, files, stream):
-        """The first position at which the normal forms differ is told, with what each has there; or that the search gave up, or how long a certificate would be."""
+        """The first position at which the normal forms differ is told, with what each has there; or that the search gave up, or how long a certificate would be.
+        Of a form that is too long for a line nothing is known."""
         if re.fullmatch(rb"gave up: \d+ nodes visited\n|too long: \d+ steps, \d+ bytes\n", told.output):
             return
-        found = difference(*[self.normal_form(text, stream) for text in files])
+        forms = [self.normal_form(text, stream) for text in files]
+        if None in forms:
+            return
+        found = difference(*forms)
         wanted = difference_text(*found).encode() if found else b""
         if not found or told.output != wanted:
             raise Find(Command("certify", files), "the normal forms differ elsewhere", told, wanted)
 
     def normal_form(self, text, stream):
-        """The normal form of a network, which does what the network does: all of it is told where the target is `time`."""
+        """The normal form of a network, which does what the network does: all of it is told where the target is `time`, if it fits into a line, and else None."""
         given = typed_of(text).input
         told = self.program.run(Command("certify", [text, network_text(given, "time").encode()]))
+        if b".." in told.output:
+            self.tally["normal forms", "too long for a line"] += 1
+            return None
         net = whole_of(told.output) if told.status else "time"
         if net is None:
             raise Find(Command("certify", [text]), "a normal form other than `time` isn't told", told)

@@ -171,7 +171,7 @@ def laws_text(net, flags, tally):
     if top not in net.places:
         raise Refused(f"network: no position {at_text(top)}")
     found = list(possible_steps(net, top))
-    for step, _ in found:
+    for step, *_ in found:
         tally["laws listed", step.law] += 1
     return "".join(possible_lines(found))
 

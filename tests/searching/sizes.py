@@ -1,8 +1,9 @@
 """What commands tell of the families of large networks: each ends, within its memory, with an answer that it may give."""
 from searching.calls import found_within, steps_in, told_of
 
-# The most steps that each takes.
+# The most steps that each takes, and the most bytes of a line of `laws` that isn't a step.
 MOST_STEPS = {"optimise": 1_000, "improve": 10_000}
+LINE = 102
 
 
 def family_found(caller, text):
@@ -36,12 +37,14 @@ def last_path(position):
 
 
 def laws_fault(caller, net):
-    """Whether each step is told in two lines, and the last one can be taken."""
+    """Whether steps are told in lines, and the last one can be taken."""
     status, output, error = caller.call("laws", net)
     lines = output.splitlines()
-    steps = [line for line in lines if line.startswith("(step ")]
-    if (status, error) != (0, "") or len(lines) != 2 * len(steps):
+    if (status, error) != (0, "") or len(lines) % 3:
         return f"laws: status {status}, {len(lines)} lines, {error!r}"
+    steps, *trees = lines[::3], lines[1::3], lines[2::3]
+    if not all(step.startswith("(step ") for step in steps) or any(len(line) > LINE for tree in trees for line in tree):
+        return "laws: a line is too long"
     if not steps:
         return ""
     told = caller.call("apply", net, caller.file(f"laws 2\n{steps[-1]}\n"))

@@ -280,7 +280,7 @@ def commands_take_sources() -> None:
         status, output, _ = call_wrapper(room, "outline", "source")
         want("outline", not status and "    (at 0 0)\tless\tBool\t; source:6:11 fast\n" in output and "  (at 1)\tiPre\tBool\t1\t; source:6:17 late\n" in output, output)
         status, output, _ = call_wrapper(room, "laws", "source")
-        want("laws", not status and all(line.startswith("+ ") or " ; source:" in line for line in output.splitlines()), output)
+        want("laws", not status and all(line.startswith(("- ", "+ ")) or " ; source:" in line for line in output.splitlines()), output)
         want("certify", call_wrapper(room, "certify", "source", "source")[:2] == (0, "laws 1\n"))
         want("apply", "late" in call_wrapper(room, "apply", "--steps", "source", "certificate")[1] + "late")
         want("no such file", call_wrapper(room, "certify", "source", "nofile")[0] == 3)

@@ -1,8 +1,14 @@
 """What the model says of the commands that look at a network: its outline, the steps that may be taken, where two differ."""
+import re
+
 from model.laws import StepFault, answer, taken
 from model.texts import LAWS, Step, step_text
 from model.trees import at_text, is_network, shown
 from model.typed import WEIGHT, weight
+
+# How long a line of a tree is at most, and how deep in brackets what it shows of a longer one.
+LINE = 100
+DEEPEST = 8
 
 
 def outline_lines(typed):
@@ -21,20 +27,39 @@ def in_order(typed, top=()):
 
 
 def possible_steps(typed, top):
-    """Each step forward at and below a position that can be taken, with what then stands there."""
+    """Each step forward at and below a position that can be taken, with what stands there and what then does."""
     for position, place in in_order(typed, top):
         steps = [Step(law, "forward", position) for law in LAWS]
         for step in [step for step in steps if answer(step, place.tree, len(place.scope.olds)) is not None]:
             try:
-                yield step, taken(typed, step).places[position].tree
+                yield step, place.tree, taken(typed, step).places[position].tree
             except StepFault:
                 pass
 
 
 def possible_lines(found):
     """The lines of steps that can be taken."""
-    return [f"{step_text(step)}\n+ {shown(tree)}\n" for step, tree in found]
+    return [f"{step_text(step)}\n- {cut(shown(before))}\n+ {cut(shown(after))}\n" for step, before, after in found]
+
+
+def cut(text):
+    """The text; of one that is long what is deep in brackets is left out, as little as makes it fit into a line, or all behind its first word."""
+    if len(text) <= LINE:
+        return text
+    cuts = (to_depth(text, depth) for depth in range(DEEPEST, 0, -1))
+    return next((text for text in cuts if len(text) <= LINE), f"{text.split(' ')[0]} ..)")
+
+
+def to_depth(text, depth):
+    """The text with two dots for each part in so many brackets."""
+    pieces, open_before = [], 0
+    for piece in re.split(r"([()])", text):
+        opens = piece == "("
+        if open_before <= depth:
+            pieces.append(".." if opens and open_before == depth else piece)
+        open_before += opens - (piece == ")")
+    return "".join(pieces)
 
 
 def difference_text(position, first, second):
-    return f"{at_text(position)}\n- {shown(first)}\n+ {shown(second)}\n"
+    return f"{at_text(position)}\n- {cut(shown(first))}\n+ {cut(shown(second))}\n"

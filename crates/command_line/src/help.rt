@@ -222,15 +222,18 @@ pub const LAWS: HelpText<'static> = HelpText {
     does: "Prints the steps that are possible in a network",
     more: "\
 It prints each possible forward step, as a certificate has it, at P and at each position below it,
-and under each step `+ ` and what then stands at its position. A step is possible if its law fits
-what stands there and the resulting network is typed within the limits.
+then `- ` and what stands at its position, then `+ ` and what stands there after it. In a tree of over
+100 bytes the deepest parts are `..`. A step is possible if its law fits what stands there and the
+resulting network is typed within the limits.
 
 Example: if the file `net` holds `yampa 1 input Int (>>> (arr (add x 1)) (arr (mul x 2)))`,
 
   $ yampa laws net
   (step L4 forward (at))
+  - (>>> (arr (add x 1)) (arr (mul x 2)))
   + (arr (then (add x 1) (mul x 2)))
   (step E16 forward (at 0 0))
+  - (add x 1)
   + (add 1 x)
 
 `yampa --help` lists the exit statuses.",
@@ -277,6 +280,8 @@ output the same on every stream. If it finds none, both may still output the sam
   + (add x -1)
   too long: 10120 steps, 902115 bytes  that there are steps, too many for a certificate or a file;
   gave up: 15000000 nodes visited      or that it came to no normal form.
+
+Long trees are cut as by `yampa laws`.
 
 Example: if the file `source` holds `yampa 1 input Int (>>> (arr (add x 1)) (arr (mul x 2)))`,
 and the file `target` holds `yampa 1 input Int (arr (then (add x 1) (mul x 2)))`,

@@ -22,7 +22,7 @@ use Rattle.cert_check.specs.TreeAnswer.{TreeAnswer}
 use Rattle.net_syntax.specs.Rewriting.{Rewrites}
 use Rattle.cert_check.specs.Derives.{Next, standing_tree}
 use Rattle.cert_check.specs.CheckAnswer.{NowhereIn, Unmatched}
-use Rattle.cert_check.specs.StepAnswers.{StepFault}
+use Rattle.cert_check.specs.StepAnswers.{StepFault, IsTreeAnswer}
 use Rattle.cert_check.specs.declared.answer.CheckFault.{CheckFault}
 use Rattle.cert_check.specs.declared.answer.CheckFault.TheVariants.{InputsDiffer, TooManySteps, NoPosition, NoMatch, IllTyped, EndsElsewhere, Memory}
 use Rattle.cert_check.proofs.StandsNow.{next_there}
@@ -31,7 +31,7 @@ use Rattle.net_opt.specs.Order.{Before}
 use Rattle.net_opt.specs.Optimising.{forward_step, NoStepBy}
 use Rattle.net_text.specs.CertificatePrinting.{IsLaw}
 use Rattle.net_view.specs.Listed.{IsThere, IsAtOrBelow, InOrder, Lists, ArePositions}
-use Rattle.net_view.specs.Possible.{Possible, IsForward, IsFoundBy, IsTreeAfter, possible_of, MayBeTaken, law_rank, EarlierStep, earlier_position, earlier_law, IsPossible, ListsSteps, ArePossible, ArePossibleAt}
+use Rattle.net_view.specs.Possible.{Possible, IsForward, IsFoundBy, IsTreeAfter, StandsAfter, changing, possible_of, MayBeTaken, law_rank, EarlierStep, earlier_position, earlier_law, IsPossible, ListsSteps, ArePossible, ArePossibleAt}
 use Rattle.net_view.specs.declared.possible.PossibleStep.{PossibleStep}
 use Rattle.net_view.specs.declared.possible.TheConstants.{LAWS}
 use Rattle.net_view.proofs.Listings.{order_split, order_taken, lists_none, lists_one, lists_same, lists_joined}
@@ -109,7 +109,7 @@ law_passed t p k law xs r is none h = record {
 
 -- a law was taken
 may_take : (t : TypedNetwork) (p : List ℕ) (law : Law) (x : Possible) → IsPossible t x → x.step ≡ forward_step law p → MayBeTaken t x.step
-may_take t p law x h e = record { forward = ap (λ s. s.direction) e; none_given = ap (λ s. s.given) e; to = h.to; next = h.next }
+may_take t p law x h e = record { forward = ap (λ s. s.direction) e; none_given = ap (λ s. s.given) e; to = h.to; next = h.changes.next }
 
 taken_by : (t : TypedNetwork) (p : List ℕ) (k : ℕ) (law : Law) (x : Possible) → law_rank law ≡ k + 1 → IsPossible t x → x.step ≡ forward_step law p
     → (s : Step) → ByLaws t p k s ⊎ (x.step ≡ s) → ByLaws t p (k + 1) s
@@ -281,3 +281,39 @@ pub positions_more : (t : TypedNetwork) (p : List ℕ) (ps : List (List ℕ)) (i
 positions_more t p ps i q items more now all lt is e h k =
     subst (ListsSteps t (AtPositions t (take (i + 1) ps))) (sym (ap (map possible_of) e ∙ map-append possible_of items more))
     (position_more t p ps i q (map possible_of items) (map possible_of more) all lt is h k)
+
+-- at a position that isn't there no step may be taken
+pub not_there : {X Y : Type 0} (f : X → Y) (o : Option X) (q : Option Y) → ((x : X) → o ≡ Some x → ⊥) → option_map f o ≡ q → q ≡ None
+not_there f None q never e = sym e
+not_there f (Some x) q never e = absurd (never x refl)
+
+pub none_there : (t : TypedNetwork) (p : List ℕ) (xs : List Possible) → placed_at 0 0 (a_network t.net) p ≡ None → xs ≡ [] → ArePossibleAt t p xs
+none_there t p xs h e = subst (ArePossibleAt t p) (sym e) (record {
+  all = lists_none EarlierStep (λ s. MayBeTaken t s × (p ≡ s.position))
+      (λ s b. nowhere_by t s (subst (λ z. placed_at 0 0 (a_network t.net) z ≡ None) b.1 h) b.0.to b.0.next);
+  each = All-nil (IsPossible t);
+})
+
+-- nor by a law that has no answer there
+pub no_answer : (t : TypedNetwork) (law : Law) (p : List ℕ) (c : Placed) (answer : Option C.Tree) → placed_at 0 0 (a_network t.net) p ≡ Some c → answer ≡ None
+    → IsTreeAnswer c.olds law Forward c.tree None answer → NoStepBy t p law
+no_answer t law p c None there e h = λ u x.
+    h x.new
+    (subst (λ (d : Placed). TreeAnswer d.olds law Forward d.tree None x.new) (same_Some x.answered.place c (sym x.answered.found ∙ there)) x.answered.answered)
+no_answer t law p c (Some a) there e h = absurd (none-some a (sym e))
+
+-- a step that leads on, with what it changes
+pub some_by : (t : TypedNetwork) (law : Law) (p q : List ℕ) (c : Placed) (found : Option C.Tree) (after : C.Tree) (r : Result (Option PossibleStep) Refusal.Memory)
+    → q ≡ p → found ≡ Some after → placed_at 0 0 (a_network t.net) p ≡ Some c → IsTreeAfter t (forward_step law q) (option_map part_of found)
+    → IfOk r (λ z. option_map possible_of z ≡ Some (changing (forward_step law q) c.tree (part_of after)))
+    → IfOk r (λ z. IsFoundBy t p law (option_map possible_of z))
+some_by t law p q c found after (Ok z) at some there h e =
+    let led : StandsAfter t (forward_step law q) (part_of after) = subst (λ o. IsTreeAfter t (forward_step law q) (option_map part_of o)) some h in
+    let here : StandsAfter t (forward_step law p) (part_of after) = subst (λ y. StandsAfter t (forward_step law y) (part_of after)) at led in
+    let is : option_map possible_of z ≡ Some (changing (forward_step law p) c.tree (part_of after)) =
+    subst (λ y. option_map possible_of z ≡ Some (changing (forward_step law y) c.tree (part_of after))) at e in
+    subst (IsFoundBy t p law) (sym is) (
+      record { to = here.to; changes = record { next = here.next; before = ap (option_map (λ (d : Placed). d.tree)) there; after = here.stands } },
+      refl,
+    )
+some_by t law p q c found after (Err m) at some there h e = tt

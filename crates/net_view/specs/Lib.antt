@@ -7,3 +7,4 @@ pub mod Texts
 pub mod Applied
 pub mod Trace
 pub mod TraceText
+pub mod Cut

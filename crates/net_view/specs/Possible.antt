@@ -3,7 +3,7 @@ use Rattle.std.specs.Prelude.{◌≡◌, ℕ, ◌+◌, ◌<◌, List, map, Optio
 use Rattle.std.specs.List.{All}
 use Rattle.leaf_core.specs.Expression.{Expression}
 use Rattle.net_tree.specs.Place.{Tree}
-use Rattle.net_tree.specs.LawStep.{Step, step_of, part_of}
+use Rattle.net_tree.specs.LawStep.{Step, step_of}
 use Rattle.net_meaning.specs.TypedNetwork.{TypedNetwork}
 use Rattle.net_tree.specs.declared.law_step.Law.{Law}
 use Rattle.net_tree.specs.declared.law_step.Law.TheVariants as L
@@ -13,16 +13,21 @@ use Rattle.cert_check.specs.Derives.{Next, standing_tree}
 use Rattle.net_opt.specs.Optimising.{NoStepBy, forward_step}
 use Rattle.net_opt.specs.Order.{Before}
 use Rattle.net_view.specs.Listed.{IsAtOrBelow, Lists}
+use Rattle.net_view.specs.Trace.{Changed, Changes, changed_of}
 use Rattle.net_view.specs.declared.possible.PossibleStep.{PossibleStep}
 
--- a step, and what stands at its position once it is taken
+-- a step, and what it changes
 pub record Possible : Type 0 where
   pub step : Step
-  pub tree : Tree Expression
+  pub change : Changed
 
 -- what the code's one says
 abbrev pub possible_of : PossibleStep → Possible
-possible_of x = record { step = step_of x.step; tree = part_of x.tree }
+possible_of x = record { step = step_of x.step; change = changed_of x.change }
+
+-- a step that changes one tree to another
+abbrev pub changing : Step → Tree Expression → Tree Expression → Possible
+changing s u v = record { step = s; change = record { before = u; after = v } }
 
 -- a step forward, with no tree given, that leads on: a check would accept it
 pub record MayBeTaken (t : TypedNetwork) (s : Step) : Type 0 where
@@ -41,11 +46,16 @@ pub data EarlierStep (s r : Step) : Type 0 where
   earlier_position : Before s.position r.position → EarlierStep s r
   earlier_law : s.position ≡ r.position → law_rank s.law < law_rank r.law → EarlierStep s r
 
--- the step leads on, and the tree stands at its position then
+-- the step leads on, and changes this
 pub record IsPossible (t : TypedNetwork) (x : Possible) : Type 0 where
   pub to : TypedNetwork
-  pub next : Next t x.step to
-  pub stands : standing_tree to x.step.position ≡ Some x.tree
+  pub changes : Changes t x.step x.change to
+
+-- the step leads on, and the tree stands at its position then
+pub record StandsAfter (t : TypedNetwork) (s : Step) (tree : Tree Expression) : Type 0 where
+  pub to : TypedNetwork
+  pub next : Next t s to
+  pub stands : standing_tree to s.position ≡ Some tree
 
 -- the step is forward, with no tree given
 abbrev pub IsForward : Step → Type 0
@@ -54,14 +64,14 @@ IsForward s = (s.direction ≡ Forward) × (s.given ≡ None)
 -- the tree is what stands there once the step is taken; none where the step doesn't lead on
 abbrev pub IsTreeAfter : TypedNetwork → Step → Option (Tree Expression) → Type 0
 IsTreeAfter t s None = (u : TypedNetwork) → Next t s u → ⊥
-IsTreeAfter t s (Some tree) = IsPossible t (record { step = s; tree = tree })
+IsTreeAfter t s (Some tree) = StandsAfter t s tree
 
 -- the step forward by the law at p, where it leads on
 abbrev pub IsFoundBy : TypedNetwork → List ℕ → Law → Option Possible → Type 0
 IsFoundBy t p law None = NoStepBy t p law
 IsFoundBy t p law (Some x) = IsPossible t x × (x.step ≡ forward_step law p)
 
--- all steps of a kind, each with what stands there then
+-- all steps of a kind, each with what it changes
 pub record ListsSteps (t : TypedNetwork) (So : Step → Type 0) (xs : List Possible) : Type 0 where
   pub all : Lists EarlierStep So (map (λ x. x.step) xs)
   pub each : All (IsPossible t) xs

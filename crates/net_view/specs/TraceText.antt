@@ -7,6 +7,7 @@ use Rattle.net_tree.specs.LawStep.{Step}
 use Rattle.net_meaning.specs.TypedNetwork.{TypedNetwork}
 use Rattle.net_text.specs.CertificatePrinting.{step_sexpr, tree_sexpr}
 use Rattle.net_view.specs.Trace.{Changed, Stopped, IsTrace}
+use Rattle.net_view.specs.Cut.{cut}
 
 -- a step's line
 abbrev pub step_line : Step → List ℕ
@@ -16,7 +17,11 @@ step_line s = sexpr_spelling (step_sexpr s) ++ 10 ∷ []
 abbrev pub marked_line : List ℕ → Tree Expression → List ℕ
 marked_line mark tree = mark ++ (sexpr_spelling (tree_sexpr tree) ++ 10 ∷ [])
 
--- the same, if there is a tree
+-- the same, cut where the tree is long
+abbrev pub cut_line : List ℕ → Tree Expression → List ℕ
+cut_line mark tree = mark ++ (cut (sexpr_spelling (tree_sexpr tree)) ++ 10 ∷ [])
+
+-- the line of a tree, if there is one
 abbrev pub marked_lines : List ℕ → Option (Tree Expression) → List ℕ
 marked_lines mark None = []
 marked_lines mark (Some tree) = marked_line mark tree

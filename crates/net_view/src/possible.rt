@@ -1,15 +1,18 @@
 // The steps that may be taken forward.
 
-ghost use Rattle.std.specs.Prelude.{◌≡◌, ◌≢◌, ◌+◌, ◌<◌, IfOk, OnOk, None, map, option_map};
+ghost use Rattle.std.specs.Prelude.{◌≡◌, ◌≢◌, ◌+◌, ◌<◌, IfOk, OnOk, None, Some, map, option_map};
+ghost use Rattle.net_syntax.specs.{ChildParts.seen, ChildParts.seen_place, Placed.placed_at};
 ghost use Rattle.net_tree.specs.LawStep.{part_of, step_of};
+ghost use Rattle.net_tree.specs.Place.{a_network};
 ghost use Rattle.cert_check.specs.declared.answer.CheckFault.TheVariants as F;
 ghost use Rattle.net_text.specs.CertificatePrinting.{IsLaw};
 ghost use Rattle.net_view.specs.declared.possible.TheConstants.{LAWS};
-ghost use Rattle.net_view.specs.Possible.{ArePossible, ArePossibleAt, IsForward, IsFoundBy, IsTreeAfter, law_rank, possible_of};
+ghost use Rattle.net_view.specs.Possible.{ArePossible, ArePossibleAt, IsForward, IsFoundBy, IsTreeAfter, changing, law_rank, possible_of};
 
-use crate::positions::{positions_within, tree_at};
-use cert_check::{CheckFault, take_step};
-use net_syntax::TypedNet;
+use crate::positions::{copied, positions_within, tree_at};
+use crate::trace::Change;
+use cert_check::{CheckFault, answer_at, place_in, take_step};
+use net_syntax::{Place, TypedNet};
 use net_tree::{Direction, Law, LawStep, Position, Tree};
 use sample_core::Memory;
 use std::alloc::Global;
@@ -22,8 +25,8 @@ const LAWS: u8 = expr_laws::LAST_LAW + law_rules::LAST_LAW;
 pub struct PossibleStep {
     /// The step, forward and with no tree given.
     pub step: LawStep,
-    /// What stands at its position once it is taken.
-    pub tree: Tree,
+    /// What stands at its position, and what stands there once it is taken.
+    pub change: Change,
 }
 
 /// The steps forward at or below the position that a check would accept, by the positions in
@@ -51,8 +54,11 @@ fn steps_at(alloc: Global, net: &TypedNet, position: &Position) -> Result<Vec<Po
         (λ steps. ArePossibleAt net.now position.now (map possible_of steps.items)) }
 {
     let mut steps = Vec::new(alloc);
+    let Some(place) = place_in(net, position) else {
+        return Ok(steps);
+    };
     for k in 0..LAWS {
-        if let Some(step) = step_by(alloc, net, position, law_number(k))? {
+        if let Some(step) = step_at(alloc, net, position, place, law_number(k))? {
             steps.push(step)?;
         }
     }
@@ -72,13 +78,37 @@ fn law_number(k: u8) -> Law
     }
 }
 
-/// The step by the law at the position, if a check would accept it.
+/// The step by the law at the position, if a check would accept it. The law is tried at the place
+/// there first.
+fn step_at(
+    alloc: Global,
+    net: &TypedNet,
+    position: &Position,
+    place: Place<'_>,
+    law: Law,
+) -> Result<Option<PossibleStep>, Memory>
+    requires { placed_at 0 0 (a_network net.now.net) position.now ≡ Some (seen_place place) }
+    ensures { IfOk result (λ found. IsFoundBy net.now position.now law
+        (option_map possible_of found)) }
+{
+    match answer_at(alloc, law, Direction::Forward, place, None)? {
+        Some(answer) => {
+            drop(answer);
+            step_by(alloc, net, position, place, law)
+        }
+        None => Ok(None),
+    }
+}
+
+/// The same, by a check.
 fn step_by(
     alloc: Global,
     net: &TypedNet,
     position: &Position,
+    place: Place<'_>,
     law: Law,
 ) -> Result<Option<PossibleStep>, Memory>
+    requires { placed_at 0 0 (a_network net.now.net) position.now ≡ Some (seen_place place) }
     ensures { IfOk result (λ found. IsFoundBy net.now position.now law
         (option_map possible_of found)) }
 {
@@ -89,13 +119,36 @@ fn step_by(
         given: None,
     };
     match tree_after(alloc, net, &step) {
-        Ok(Some(tree)) => Ok(Some(PossibleStep { step, tree })),
+        Ok(Some(after)) => with_change(alloc, step, place, after),
         Ok(None) => {
             drop(step);
             Ok(None)
         }
         Err(refused) => {
             drop(step);
+            Err(refused)
+        }
+    }
+}
+
+/// The step, with what stands at the place and what stands there then.
+fn with_change(
+    alloc: Global,
+    step: LawStep,
+    place: Place<'_>,
+    after: Tree,
+) -> Result<Option<PossibleStep>, Memory>
+    ensures { IfOk result (λ found. option_map possible_of found
+        ≡ Some (changing (step_of step) (seen place.entry.tree) (part_of after))) }
+{
+    match copied(alloc, place.tree) {
+        Ok(before) => Ok(Some(PossibleStep {
+            step,
+            change: Change { before, after },
+        })),
+        Err(refused) => {
+            drop(step);
+            drop(after);
             Err(refused)
         }
     }

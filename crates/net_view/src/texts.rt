@@ -8,7 +8,7 @@ ghost use Rattle.net_view.specs.Texts.{OutlineText, PossibleText, indent, possib
 use crate::forms::{push_form, push_word};
 use crate::possible::{PossibleStep, possible_steps};
 use crate::rows::{OutlineRow, outline};
-use crate::told::push_marked;
+use crate::told::push_cut_line;
 use itoa::Buffer;
 use net_syntax::TypedNet;
 use net_text::push_step;
@@ -30,27 +30,29 @@ pub fn outline_text(alloc: Global, net: &TypedNet) -> Result<String, Memory>
     Ok(text)
 }
 
-/// The steps forward at or below the position that a check would accept, as a new text of two lines
-/// a step: the step as a certificate has it, and behind `+ ` what stands there then. `Memory` if
-/// allocation fails.
+/// The steps forward at or below the position that a check would accept, as a new text of three
+/// lines a step: the step as a certificate has it, behind `- ` what stands at its position, and
+/// behind `+ ` what stands there then. A tree of over 100 bytes is cut: as deep as 100 bytes hold,
+/// two dots stand for each part that is deeper in brackets. `Memory` if allocation fails.
 pub fn possible_text(alloc: Global, net: &TypedNet, position: &Position) -> Result<String, Memory>
     ensures { IfOk result (λ text. PossibleText net.now position.now (string_bytes text)) }
 {
     let steps = possible_steps(alloc, net, position)?;
     let mut text = String::new(alloc);
     for step in &steps {
-        push_possible(&mut text, step)?;
+        push_possible(alloc, &mut text, step)?;
     }
     Ok(text)
 }
 
-/// A step and what stands there then.
-fn push_possible(text: &mut String, step: &PossibleStep) -> Result<(), Memory>
+/// A step and what it changes.
+fn push_possible(alloc: Global, text: &mut String, step: &PossibleStep) -> Result<(), Memory>
     ensures { Adds result (string_bytes text.old) (string_bytes text.new)
         (possible_spelling (possible_of step.now)) }
 {
     push_step(text, &step.step)?;
-    push_marked(text, "+ ", &step.tree)
+    push_cut_line(alloc, text, "- ", &step.change.before)?;
+    push_cut_line(alloc, text, "+ ", &step.change.after)
 }
 
 /// A row of the outline.

@@ -37,7 +37,7 @@ use Rattle.net_view.specs.Applied.{PrintsApplied}
 use Rattle.net_view.specs.Listed.{IsThere}
 use Rattle.net_view.specs.Texts.{OutlineText, PossibleText}
 use Rattle.net_view.specs.Trace.{Stopped, TraceAnswer, changed_of, first_steps, stopped_of}
-use Rattle.net_view.specs.TraceText.{TellsTrace, marked_line, trace_lines}
+use Rattle.net_view.specs.TraceText.{TellsTrace, cut_line, trace_lines}
 use Rattle.net_view.specs.declared.trace.RefusedStep.{RefusedStep}
 use Rattle.net_view.specs.declared.trace.Trace.{Trace}
 use Rattle.yampa_run.specs.RefusalLines.{check_words, no_layout_words, no_most_words, no_name_words, no_number_words, no_place_words, none_found_words, not_there_words, text_words, too_large_words, type_words, unread_words}
@@ -356,10 +356,11 @@ pub record ArePair (told : KnownFiles) (from to : List ℕ) (source target : Typ
     pub is_source : IsNetworkOf (told from) source
     pub is_target : IsNetworkOf (told to) target
 
--- what is printed of two networks that have these trees at a position where they differ
+-- what is printed of two networks that have these trees at a position where they differ, cut where
+-- they are long
 abbrev pub difference_lines : List ℕ → Tree Expression → Tree Expression → List ℕ
 difference_lines p first second = position_spelling p
-    ++ (10 ∷ marked_line (codes "- ") first ++ marked_line (codes "+ ") second)
+    ++ (10 ∷ cut_line (codes "- ") first ++ cut_line (codes "+ ") second)
 
 -- the line on a certificate of so many steps, in so many bytes, that would be over the limits
 abbrev pub too_long_line : ℕ → ℕ → List ℕ

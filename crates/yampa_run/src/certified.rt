@@ -1,10 +1,9 @@
 // Certificates between the networks of two files, and where none is found.
 
-ghost use Rattle.std.specs.Prelude.{◌≡◌, ◌++◌, ◌∷◌, IfErr, IfOk, OnOk, string_bytes};
+ghost use Rattle.std.specs.Prelude.{◌≡◌, IfErr, IfOk, string_bytes};
 ghost use Rattle.net_meaning.specs.TypedNetwork.{TypedNetwork};
 ghost use Rattle.net_tree.specs.LawStep.{part_of};
 ghost use Rattle.net_search.specs.Certifying.{AreApart};
-ghost use Rattle.net_view.specs.TraceText.{marked_line};
 ghost use Rattle.yampa_run.specs.Preparation.{HaveOtherInputs, IsCertified, IsNotCertified, TellsCertified, TellsNone, difference_lines, gave_up_line, too_long_line};
 ghost use Rattle.yampa_run.specs.RefusalLines.{none_found_words};
 
@@ -16,8 +15,9 @@ use crate::refused::{Role, none_found_line};
 use cert_check::CheckFault;
 use net_search::{Certified, Difference, certify};
 use net_syntax::TypedNet;
-use net_text::{print_cert, push_tree};
-use net_tree::{Tree, push_position};
+use net_text::print_cert;
+use net_tree::push_position;
+use net_view::push_cut_line;
 use sample_core::Memory;
 use std::alloc::Global;
 
@@ -76,8 +76,8 @@ fn difference(alloc: Global, found: &Difference) -> Result<String, Memory>
     let mut text = String::new(alloc);
     push_position(&mut text, &found.position)?;
     push_words(&mut text, "\n")?;
-    push_marked(&mut text, "- ", &found.first)?;
-    push_marked(&mut text, "+ ", &found.second)?;
+    push_cut_line(alloc, &mut text, "- ", &found.first)?;
+    push_cut_line(alloc, &mut text, "+ ", &found.second)?;
     Ok(text)
 }
 
@@ -101,14 +101,4 @@ fn gave_up(alloc: Global, nodes: u64) -> Result<String, Memory>
     push_number(&mut text, nodes)?;
     push_words(&mut text, " nodes visited\n")?;
     Ok(text)
-}
-
-/// Adds the line of a tree behind a mark.
-fn push_marked(text: &mut String, mark: &str, tree: &Tree) -> Result<(), Memory>
-    ensures { OnOk result (string_bytes text.new
-        ≡ string_bytes text.old ++ marked_line mark.now (part_of tree.now)) }
-{
-    push_words(text, mark)?;
-    push_tree(text, tree)?;
-    push_words(text, "\n")
 }
