@@ -65,7 +65,7 @@ right_allowed v false b h e = h e
 -- the printed version allows it
 pub version_allows : (new : Bool) → Allows (version_by new) new
 version_allows true e q = cc
-version_allows false e = absurd (cc)
+version_allows false e q = cc
 
 -- the second and the third version allow all
 pub second_allows : (new : Bool) → Allows version_2 new
