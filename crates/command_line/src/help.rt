@@ -235,6 +235,8 @@ Example: if the file `net` holds `yampa 1 input Int (>>> (arr (add x 1)) (arr (m
   (step E16 forward (at 0 0))
   - (add x 1)
   + (add 1 x)
+  (step E20 forward (at 1 0))
+  + (mul 2 x)
 
 `yampa --help` lists the exit statuses.",
 };
