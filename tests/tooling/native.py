@@ -90,6 +90,8 @@ def takes_much_stack(folder: Path, cache: Path) -> None:
     want("native over the limit", found[:2] == (3, "") and f"memory: {rows['main']} bytes" in found[2] and found[2].count("\n") == 1, found)
     found = limited(f"{soft}:", "--most", 1000, net, CC=str(other), **settings)
     want("native without a measure", found[:2] == (3, "") and "signal 11" in found[2] and found[2].count("\n") == 1, found)
+    found = tool("native", "--most", 20_000, net, **settings)
+    want("native of too large values", found[:2] == (3, "") and "--most" in found[2] and found[2].count("\n") == 1, found)
     found = tool("native", "--stack", net, "--most", 2, CC=str(other), **settings)
     want("native --stack without gcc", found[:2] == (3, "") and "gcc" in found[2] and found[2].count("\n") == 1, found)
 

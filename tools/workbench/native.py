@@ -5,6 +5,7 @@ import os
 import resource
 import shlex
 import shutil
+import signal
 import stat
 import subprocess
 import sys
@@ -30,6 +31,9 @@ UNWRITTEN = b"output: cannot be written\n"
 # What the stack has room for besides: the words of the call, the variables of the environment, the C library.
 BESIDE = 1 << 20
 TOLD = ["yampa_init", "yampa_step", "main"]
+# What compiler and linker say of values that no program holds.
+TOO_LARGE = [b"relocation truncated", b"exceeds maximum", b"too large"]
+SHORTER = "--most makes lists shorter"
 
 
 def main() -> None:
@@ -96,7 +100,8 @@ def compiled(command: list[str], text: bytes, folder: Path) -> tuple[Path, str]:
             graphs = list(folder.glob("*.ci"))
             return made, told_of(graphs[0].read_text()) if graphs else ""
     said = ran.stderr.decode(errors="replace").strip().splitlines() or [f"status {ran.returncode}"]
-    raise Refused(f"{command[0]} doesn't compile the network: {said[-1]}", UNREADABLE)
+    why = f"its values are too large ({SHORTER})" if any(words in ran.stderr for words in TOO_LARGE) else said[-1]
+    raise Refused(f"{command[0]} doesn't compile the network: {why}", UNREADABLE)
 
 
 def told_of(graph: str) -> str:
@@ -114,7 +119,7 @@ def make_room(stack: int) -> None:
     if soft == resource.RLIM_INFINITY or stack + BESIDE <= soft:
         return
     if hard != resource.RLIM_INFINITY and stack + BESIDE > hard:
-        raise Refused(f"memory: {stack} bytes of stack are needed, and {hard} allowed (ulimit -Hs); --most makes lists shorter", UNREADABLE)
+        raise Refused(f"memory: {stack} bytes of stack are needed, and {hard} allowed (ulimit -Hs); {SHORTER}", UNREADABLE)
     resource.setrlimit(resource.RLIMIT_STACK, (stack + BESIDE, hard))
 
 
@@ -125,7 +130,8 @@ def run(program: str, stack: int) -> None:
     if ran.returncode == UNREADABLE and ran.stderr == UNWRITTEN and stat.S_ISFIFO(os.fstat(1).st_mode):
         raise BrokenPipeError
     if ran.returncode < 0:
-        asked = f"it takes {stack} bytes of stack" if stack else "perhaps for want of stack (ulimit -s): --most makes lists shorter"
-        raise Refused(f"the compiled program was ended by signal {-ran.returncode}: {asked}", UNREADABLE)
+        asked = f": it takes {stack} bytes of stack" if stack else f": it may lack stack (ulimit -s); {SHORTER}"
+        is_lack = -ran.returncode in (signal.SIGSEGV, signal.SIGKILL)
+        raise Refused(f"the compiled program was ended by signal {-ran.returncode}{asked if is_lack else ''}", UNREADABLE)
     sys.stderr.buffer.write(ran.stderr)
     sys.exit(ran.returncode)
