@@ -236,6 +236,7 @@ Example: if the file `net` holds `yampa 1 input Int (>>> (arr (add x 1)) (arr (m
   - (add x 1)
   + (add 1 x)
   (step E20 forward (at 1 0))
+  - (mul x 2)
   + (mul 2 x)
 
 `yampa --help` lists the exit statuses.",
