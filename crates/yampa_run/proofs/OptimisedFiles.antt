@@ -36,8 +36,8 @@ passes test ns n all c = go (test n) refl
 
 -- a law that is tried has a number that files may have
 is_law : (law : Law) → IsTried law → IsLaw law
-is_law (L.L n) tried = (leb-true 1 n (passes (leb 1) network_laws n refl tried), leb-true n 46 (passes (λ k. leb k 46) network_laws n refl tried))
-is_law (L.E n) tried = (leb-true 1 n (passes (leb 1) expression_laws n refl tried), leb-true n 18 (passes (λ k. leb k 18) expression_laws n refl tried))
+is_law (L.L n) tried = (leb-true 1 n (passes (leb 1) network_laws n refl tried), leb-true n 51 (passes (λ k. leb k 51) network_laws n refl tried))
+is_law (L.E n) tried = (leb-true 1 n (passes (leb 1) expression_laws n refl tried), leb-true n 26 (passes (λ k. leb k 26) expression_laws n refl tried))
 
 flat : (p : List ℕ) → depths (child_sexprs p) ≡ 0
 flat [] = refl
