@@ -89,8 +89,8 @@ impl TypedNet {
         &self.net
     }
 
-    /// How many nodes the network has, at most 1,000,000; a resumed network counts 1 more than the
-    /// one that was frozen.
+    /// What the network weighs, at most 1,000,000: its networks, counted more often where they may run
+    /// more than once; a resumed network counts 1 more than the one that was frozen.
     pub fn weight(&self) -> u32
         ensures { result ≡ self.now.weight }
     {

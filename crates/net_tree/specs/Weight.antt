@@ -14,8 +14,8 @@ total [] = 0
 total (n ∷ ns) = n + total ns
 
 abbrev mutual
-  -- how many nodes a network has; a resumed one has those of the frozen one too, whose weight is in
-  -- ws
+  -- what a network weighs: its networks, counted more often where they may run more than once; a
+  -- resumed one counts the frozen one too, whose weight is in ws
   pub weight : {L : Type 0} → Network L → List ℕ → ℕ
   weight (seq f g) ws = suc (weight f ws + weight g ws)
   weight (first f) ws = suc (weight f ws)

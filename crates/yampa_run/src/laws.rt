@@ -20,8 +20,10 @@ use stream_text::stream_laws;
 
 /// The bytes of a file are refused with one line, and bytes that have a network with none. So
 /// `prepare` refuses what is asked for, but for lack of memory and of C that is too large, only where
-/// no job is that: where the file's bytes have no network, or those of three files are no source,
-/// target and certificate whose steps derive the target. A full table is told behind it.
+/// no job is that: where the bytes of a file have no network or no certificate; where a target isn't
+/// derived, a step can't be taken, or the steps are too many; where two input types differ that are to
+/// be certified; where a position isn't in the network, or a word is no number, name or position.
+/// That no certificate is found, and that a table is full, is told behind it.
 pub fn refusal_laws()
     ensures one_line { OneRefusalLaw }
     ensures no_network { NoNetworkLaw }
