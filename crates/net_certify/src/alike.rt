@@ -8,12 +8,12 @@ ghost use Rattle.leaf_core.specs.Inside.{inside_of};
 ghost use Rattle.net_tree.specs.FormParts as parts;
 ghost use Rattle.net_tree.specs.FormParts.{parts_of};
 ghost use Rattle.net_tree.specs.NetworkView.{tree_of};
-ghost use Rattle.net_syntax.specs.ChildParts.{seen};
+ghost use Rattle.net_tree.specs.LawStep.{seen};
 ghost use Rattle.net_certify.specs.Difference.{SameLeafNode, SameNetNode, SameNode, literal_inside, number_in, number_inside, tree_child, type_inside};
 
 use leaf_core::{Expr, Literal, part, same_expr};
-use net_syntax::{TreeRef, child};
-use net_tree::{Net, Parts, parts_inside, same_net};
+use net_syntax::child;
+use net_tree::{Net, Parts, TreeRef, parts_inside, same_net};
 use sample_core::{Ty, same_type};
 
 /// The most children of a node.
