@@ -20,7 +20,7 @@ mod measure;
 mod net;
 mod position;
 
-pub use equal::{Parts, parts_inside, same_net};
+pub use equal::{Parts, form_number, parts_inside, same_net};
 pub use forms::{FedForm, LeafForm, PairForm};
 pub use law_step::{Direction, Law, LawStep, Tree, TreeRef};
 pub use limits::{MOST_DELAY, MOST_MEMBERS, MOST_WAIT};
