@@ -32,6 +32,7 @@ mod typing;
 pub use equal::same_expr;
 pub use evaluation::{eval, eval_over};
 pub use expr::{Expr, ExprChild, Exprs, with_one_part, with_three_parts, with_two_parts};
+pub use feed::tag;
 pub use key::LeafKey;
 pub use laws::{part_laws, typing_laws};
 pub use limits::{

@@ -11,7 +11,7 @@ ghost use Rattle.leaf_core.specs.ExpressionView.{expression_of, literal_of};
 
 use itoa::Buffer;
 use leaf_core::{Expr, ExprChild, Exprs, Literal};
-use sample_core::{Memory, Ty, push_type};
+use sample_core::{Memory, Ty, push_type, push_word};
 use std::alloc::Global;
 
 /// The expression's one printed form, as a new text. Where its numbers and its depth are within the
@@ -57,14 +57,6 @@ pub fn push_expr(text: &mut String, expr: &Expr) -> Result<(), Memory>
         Expr::Nth(a, b, c) => push_three(text, "nth", a, b, c),
         Expr::Len(a) => push_one(text, "len", a),
     }
-}
-
-/// Adds a word to the end of the text.
-fn push_word(text: &mut String, word: &str) -> Result<(), Memory>
-    ensures { Adds result (string_bytes text.old) (string_bytes text.new) word.now }
-{
-    text.push_str(word)?;
-    Ok(())
 }
 
 /// A literal.

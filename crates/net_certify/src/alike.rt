@@ -3,17 +3,15 @@
 ghost use Rattle.std.specs.Prelude.{◌≡◌, ◌↔◌, IsTrue, option_map};
 ghost use Rattle.sample_core.specs.TypeView.{type_of};
 ghost use Rattle.leaf_core.specs.ExpressionView.{expression_of};
-ghost use Rattle.leaf_core.specs.HashWrites.{tag_of};
 ghost use Rattle.leaf_core.specs.Inside.{inside_of};
-ghost use Rattle.net_tree.specs.FormParts as parts;
 ghost use Rattle.net_tree.specs.FormParts.{parts_of};
 ghost use Rattle.net_tree.specs.NetworkView.{tree_of};
-ghost use Rattle.net_syntax.specs.ChildParts.{seen};
+ghost use Rattle.net_tree.specs.LawStep.{seen};
 ghost use Rattle.net_certify.specs.Difference.{SameLeafNode, SameNetNode, SameNode, literal_inside, number_in, number_inside, tree_child, type_inside};
 
-use leaf_core::{Expr, Literal, part, same_expr};
-use net_syntax::{TreeRef, child};
-use net_tree::{Net, Parts, parts_inside, same_net};
+use leaf_core::{Expr, Literal, part, same_expr, tag};
+use net_syntax::child;
+use net_tree::{Net, Parts, TreeRef, form_number, parts_inside, same_net};
 use sample_core::{Ty, same_type};
 
 /// The most children of a node.
@@ -58,38 +56,7 @@ pub(crate) fn same_node(a: TreeRef<'_>, b: TreeRef<'_>) -> bool
 fn same_net_node(a: &Net<Expr>, b: &Net<Expr>) -> bool
     ensures { IsTrue result ↔ SameNetNode (tree_of a.now) (tree_of b.now) }
 {
-    net_form(a) == net_form(b) && number_in(a) == number_in(b)
-}
-
-/// The number of the network's form.
-fn net_form(net: &Net<Expr>) -> u8
-    ensures { result ≡ parts.form_number (tree_of net.now) }
-{
-    match net {
-        Net::Arr(_) => 0,
-        Net::Seq(..) => 1,
-        Net::First(_) => 2,
-        Net::Par(_) => 3,
-        Net::LoopPre(..) => 4,
-        Net::IPre(_) => 5,
-        Net::Delay(..) => 6,
-        Net::Hold(_) => 7,
-        Net::AccumBy(..) => 8,
-        Net::After(..) => 9,
-        Net::Repeatedly(..) => 10,
-        Net::Time => 11,
-        Net::Integral => 12,
-        Net::Switch(..) => 13,
-        Net::DSwitch(..) => 14,
-        Net::RSwitch(..) => 15,
-        Net::KSwitch(..) => 16,
-        Net::PSwitch(..) => 17,
-        Net::Old(_) => 18,
-        Net::InitialOut(..) => 19,
-        Net::InitialIn(..) => 20,
-        Net::DrSwitch(..) => 21,
-        Net::RpSwitch(..) => 22,
-    }
+    form_number(a) == form_number(b) && number_in(a) == number_in(b)
 }
 
 /// The number in the network's node.
@@ -111,44 +78,10 @@ fn number_in(net: &Net<Expr>) -> u64
 fn same_leaf_node(a: &Expr, b: &Expr) -> bool
     ensures { IsTrue result ↔ SameLeafNode (expression_of a.now) (expression_of b.now) }
 {
-    leaf_form(a) == leaf_form(b)
+    tag(a) == tag(b)
         && number_inside(a) == number_inside(b)
         && literal_inside(a) == literal_inside(b)
         && same_told(type_inside(a), type_inside(b))
-}
-
-/// The number of the expression's form.
-fn leaf_form(expr: &Expr) -> u8
-    ensures { result ≡ tag_of (expression_of expr.now) }
-{
-    match expr {
-        Expr::Input => 0,
-        Expr::Param(_) => 1,
-        Expr::Literal(Literal::Unit) => 2,
-        Expr::Literal(Literal::Bool(false)) => 3,
-        Expr::Literal(Literal::Bool(true)) => 25,
-        Expr::Literal(Literal::Int(_)) => 4,
-        Expr::Pair(..) => 5,
-        Expr::Fst(_) => 6,
-        Expr::Snd(_) => 7,
-        Expr::Then(..) => 8,
-        Expr::Neg(_) => 9,
-        Expr::Add(..) => 10,
-        Expr::Sub(..) => 11,
-        Expr::Mul(..) => 12,
-        Expr::Less(..) => 13,
-        Expr::Equal(..) => 14,
-        Expr::Not(_) => 15,
-        Expr::And(..) => 16,
-        Expr::Or(..) => 17,
-        Expr::If(..) => 18,
-        Expr::NoEvent(_) => 19,
-        Expr::Event(_) => 20,
-        Expr::On(..) => 21,
-        Expr::List(..) => 22,
-        Expr::Nth(..) => 23,
-        Expr::Len(_) => 24,
-    }
 }
 
 /// The number in the expression's node.

@@ -1,17 +1,15 @@
 // Where two networks differ first.
 
 ghost use Rattle.std.specs.Prelude.{◌≡◌, IfOk, IfSome, Some};
-ghost use Rattle.net_tree.specs.LawStep.{part_of};
+ghost use Rattle.net_tree.specs.LawStep.{part_of, seen};
 ghost use Rattle.net_tree.specs.NetworkView.{tree_of};
 ghost use Rattle.net_tree.specs.Place.{a_network};
-ghost use Rattle.net_syntax.specs.ChildParts.{seen};
 ghost use Rattle.net_certify.specs.Difference.{DifferFirst, SameBefore, tree_child};
 
 use crate::alike::{MOST_CHILDREN, inner_at, same_node, same_tree};
 use leaf_core::Expr;
-use net_improve::{MOST_DEPTH, copy_of};
-use net_syntax::TreeRef;
-use net_tree::{Net, Position, Tree};
+use net_improve::MOST_DEPTH;
+use net_tree::{Net, Position, Tree, TreeRef};
 use sample_core::Memory;
 use std::alloc::Global;
 
@@ -62,8 +60,8 @@ fn difference_at(
     ensures { IfOk result (λ d. (d.position ≡ path.items) × (part_of d.first ≡ seen pair.entry.0)
         × (part_of d.second ≡ seen pair.entry.1)) }
 {
-    let first = copy_of(alloc, pair.0)?;
-    match copy_of(alloc, pair.1) {
+    let first = pair.0.try_copy(alloc)?;
+    match pair.1.try_copy(alloc) {
         Ok(second) => Ok(Difference {
             position: Position::new(path),
             first,

@@ -7,8 +7,7 @@ use net_improve::{
     Built, Clearing, MOST_DEPTH, NoMove, Sketch, behind, copied, front, head, length, rest,
     stage_way,
 };
-use net_syntax::TreeRef;
-use net_tree::{LawStep, Net, NetChild, same_net};
+use net_tree::{LawStep, Net, NetChild, TreeRef, same_net};
 use sample_core::Memory;
 use std::alloc::Global;
 

@@ -8,8 +8,7 @@ use crate::shaping::{gather_all, shaped};
 use expr_improve::{Means, joined};
 use leaf_core::Expr;
 use net_improve::{Clearing, MOST_DEPTH, NoMove, Sketch, Spot, copied};
-use net_syntax::TreeRef;
-use net_tree::{LawStep, Net, NetChild, Position, same_net};
+use net_tree::{LawStep, Net, NetChild, Position, TreeRef, same_net};
 use sample_core::Memory;
 
 /// Two ways that meet.

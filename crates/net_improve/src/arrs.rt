@@ -6,8 +6,7 @@ use expr_improve::{
     Means, Rewriting, as_left, as_then, improve_expr, joined, normal_expr, seen_through,
 };
 use leaf_core::{Expr, expr_fits};
-use net_syntax::TreeRef;
-use net_tree::NetChild;
+use net_tree::{NetChild, TreeRef};
 use sample_core::Memory;
 use std::alloc::Global;
 

@@ -4,8 +4,8 @@ use crate::build::{copied, first, seq};
 use crate::cost::MOST_DEPTH;
 use crate::sketch::{NoMove, Sketch};
 use leaf_core::Expr;
-use net_syntax::{TreeRef, child};
-use net_tree::{Net, NetChild};
+use net_syntax::child;
+use net_tree::{Net, NetChild, TreeRef};
 use std::alloc::Global;
 
 /// The most children of a network.

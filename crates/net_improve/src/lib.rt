@@ -37,6 +37,6 @@ pub use first_moves::FirstMove;
 pub use loop_moves::LoopMove;
 pub use moves::{Built, Move};
 pub use proposing::{improving_moves, made_again};
-pub use sketch::{Clearing, NoMove, Sketch, Spot, copy_of};
+pub use sketch::{Clearing, NoMove, Sketch, Spot};
 pub use switch_moves::SwitchMove;
 pub use types::none_told;

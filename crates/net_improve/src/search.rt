@@ -3,8 +3,8 @@
 use crate::chain::{MOST_CHILDREN, is_flat, length, stage_way, stages_of};
 use crate::settle::{Search, settle};
 use crate::sketch::{NoMove, Sketch};
-use net_syntax::{TreeRef, child};
-use net_tree::Net;
+use net_syntax::child;
+use net_tree::{Net, TreeRef};
 
 /// How deep moves are made in what moves build.
 const MOST_BUILT: u32 = 3;

@@ -1,16 +1,12 @@
 // A network that is rewritten, with the steps so far.
 
-ghost use Rattle.std.specs.Prelude.{◌≡◌, IfOk};
-ghost use Rattle.net_tree.specs.LawStep.{part_of};
-ghost use Rattle.net_syntax.specs.ChildParts.{seen};
-
 use crate::build::copied;
 use expr_improve::{Means, joined};
 use expr_laws::apply_expr;
 use law_rules::apply_law;
 use leaf_core::{Expr, part};
-use net_syntax::{TreeRef, child, replace};
-use net_tree::{Direction, Law, LawStep, MOST_HEIGHT, Net, NetChild, Position, Tree};
+use net_syntax::{child, replace};
+use net_tree::{Direction, Law, LawStep, MOST_HEIGHT, Net, NetChild, Position, Tree, TreeRef};
 use sample_core::{Memory, OutOfMemory};
 use std::alloc::Global;
 
@@ -307,7 +303,7 @@ impl Sketch {
     /// Puts the tree at the path.
     fn put(&mut self, path: &[u32], new: TreeRef<'_>) -> Result<(), NoMove> {
         let position = Position::of_node(self.alloc, path)?;
-        let new = copy_of(self.alloc, new)?;
+        let new = new.try_copy(self.alloc)?;
         let net = self.with_tree(&position, &new);
         drop(new);
         self.net = net?;
@@ -318,22 +314,6 @@ impl Sketch {
 /// How many numbers the path has.
 fn depth_of(path: &[u32]) -> u32 {
     u32::try_from(path.len()).unwrap_or(MOST_HEIGHT)
-}
-
-/// A copy of the tree. `Memory` only if a count of references is full.
-pub fn copy_of(alloc: Global, tree: TreeRef<'_>) -> Result<Tree, Memory>
-    ensures { IfOk result (λ copy. part_of copy ≡ seen tree.entry) }
-{
-    match tree {
-        TreeRef::Net(net) => {
-            let net = net.try_copy(alloc)?;
-            Ok(Tree::Net(net))
-        }
-        TreeRef::Expr(expr) => {
-            let expr = expr.try_copy(alloc)?;
-            Ok(Tree::Expr(expr))
-        }
-    }
 }
 
 /// Child k of what stands there.

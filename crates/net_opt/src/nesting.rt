@@ -5,8 +5,8 @@ ghost use Rattle.net_tree.specs.{LawStep.part_of, NetworkView.tree_of};
 ghost use Rattle.net_opt.specs.Nesting.{IsNested, IsTooHigh};
 
 use leaf_core::Expr;
-use net_syntax::{TreeRef, child};
-use net_tree::{MOST_HEIGHT, MOST_MEMBERS, Net, Tree};
+use net_syntax::child;
+use net_tree::{MOST_HEIGHT, MOST_MEMBERS, Net, Tree, TreeRef};
 
 /// The children that are looked at: a network has no more, but for a `parB` of too many members.
 const CHILDREN: u32 = MOST_MEMBERS as u32 + 3;

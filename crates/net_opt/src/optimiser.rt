@@ -9,8 +9,8 @@ ghost use Rattle.net_opt.specs.Search.{FirstWithin, FoundStep, Settled};
 use crate::search::step_within;
 use crate::walk::Walk;
 use leaf_core::Expr;
-use net_syntax::{Place, TreeRef, TypedNet};
-use net_tree::{LawStep, Net};
+use net_syntax::{Place, TypedNet};
+use net_tree::{LawStep, Net, TreeRef};
 use sample_core::Memory;
 use std::alloc::Global;
 

@@ -1,14 +1,12 @@
 // The step that undoes a step.
 
 ghost use Rattle.std.specs.Prelude.{◌≡◌, IfOk, option_map};
-ghost use Rattle.net_tree.specs.LawStep.{part_of, step_of};
-ghost use Rattle.net_syntax.specs.ChildParts.{seen};
+ghost use Rattle.net_tree.specs.LawStep.{part_of, step_of, seen};
 ghost use Rattle.net_search.specs.Undoing.{IsUndoing, given_back, turned_direction};
 
 use cert_check::place_in;
-use net_improve::copy_of;
-use net_syntax::{TreeRef, TypedNet};
-use net_tree::{Direction, LawStep, Tree};
+use net_syntax::TypedNet;
+use net_tree::{Direction, LawStep, Tree, TreeRef};
 use sample_core::Memory;
 use std::alloc::Global;
 
@@ -39,7 +37,7 @@ fn given_back(alloc: Global, direction: Direction, stood: TreeRef) -> Result<Opt
 {
     match direction {
         Direction::Forward => {
-            let copy = copy_of(alloc, stood)?;
+            let copy = stood.try_copy(alloc)?;
             Ok(Some(copy))
         }
         Direction::Backward => Ok(None),

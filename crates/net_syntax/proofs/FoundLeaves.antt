@@ -24,8 +24,9 @@ use Rattle.net_syntax.specs.LeafWalk.{tree_leaves, Lists, ListsChild, NotTyped, 
 use Rattle.net_syntax.specs.declared.needs.Walk.{Walk}
 use Rattle.net_syntax.specs.declared.output.Untyped.{Untyped}
 use Rattle.net_syntax.specs.declared.output.Untyped.TheVariants.{NoType, Memory}
-use Rattle.net_syntax.specs.ChildParts.{child_count, seen}
-use Rattle.net_syntax.specs.declared.place.TreeRef.{TreeRef}
+use Rattle.net_tree.specs.LawStep.{seen}
+use Rattle.net_syntax.specs.ChildParts.{child_count}
+use Rattle.net_tree.specs.declared.law_step.TreeRef.{TreeRef}
 use Rattle.net_syntax.specs.Standing.{Standing, standing, TreeWithin, ChildStands, in_arr, first_in_seq, second_in_seq, in_first, in_par, constant_in_loop, network_in_loop, in_i_pre, in_delay, in_hold, step_in_accum, start_in_accum, in_after, in_repeatedly, network_in_switch, continuation_in_switch, network_in_r_switch, continuation_in_r_switch, network_in_k_switch, event_in_k_switch, continuation_in_k_switch, constant_in_initial_out, network_in_initial_out, constant_in_initial_in, network_in_initial_in, route_in_p_switch, member_in_p_switch, event_in_p_switch, continuation_in_p_switch, member_in_rp_switch, choice_in_rp_switch, continuation_in_rp_switch}
 use Rattle.net_syntax.specs.StandingWalk.{leaf_type, inside, standing_of}
 use Rattle.net_syntax.proofs.Children.{event_is, continuation_is}

@@ -4,17 +4,18 @@ ghost use Rattle.std.specs.Prelude.{◌≡◌, IfOk, Some, map};
 ghost use Rattle.sample_core.specs.TypeView.{type_of};
 ghost use Rattle.leaf_core.specs.{ExpressionView.expression_of};
 ghost use Rattle.net_tree.specs.{NetworkView.tree_of, Place.a_leaf, Place.a_network};
-ghost use Rattle.net_syntax.specs.{ChildParts.seen, NeedView.need_of, Leaves.need_at, Leaves.LeavesOf};
+ghost use Rattle.net_tree.specs.LawStep.{seen};
+ghost use Rattle.net_syntax.specs.{NeedView.need_of, Leaves.need_at, Leaves.LeavesOf};
 ghost use Rattle.net_syntax.specs.StandingWalk.{leaf_type, standing_of};
 ghost use Rattle.net_syntax.specs.LeafWalk.{Lists, ListsChild, NotTyped, Walked};
 
 use crate::need::LeafNeed;
 use crate::output::{Untyped, leaf_type};
-use crate::place::{TreeRef, child, child_count};
+use crate::place::{child, child_count};
 use crate::standing::{Standing, inside};
 use crate::typed_net::TypedNet;
 use leaf_core::{Expr, LeafKey};
-use net_tree::{MOST_MEMBERS, Net, Position};
+use net_tree::{MOST_MEMBERS, Net, Position, TreeRef};
 use sample_core::{Memory, Ty, try_copy_types};
 use std::alloc::Global;
 

@@ -5,19 +5,11 @@ ghost use Rattle.leaf_core.specs.ExpressionView.{expression_of};
 ghost use Rattle.net_tree.specs.NetworkView.{tree, tree_of, trees};
 ghost use Rattle.net_tree.specs.Place.{a_network, child, child_network, collection_child, member, p_switch_child};
 ghost use Rattle.net_tree.specs.FormParts.{parts_of};
-ghost use Rattle.net_syntax.specs.{BehindRoute.behind_of, ChildParts.child_count, ChildParts.seen, ChildParts.seen_place, Placed.bound, Placed.bound_in, Placed.placed_at, Placed.FewBound};
+ghost use Rattle.net_tree.specs.LawStep.{seen};
+ghost use Rattle.net_syntax.specs.{BehindRoute.behind_of, ChildParts.child_count, ChildParts.seen_place, Placed.bound, Placed.bound_in, Placed.placed_at, Placed.FewBound};
 
 use leaf_core::{Expr, part_at};
-use net_tree::{Members, Net, NetChild, Parts, Position, parts_inside};
-
-/// A network or an expression that stands in a network.
-#[derive(Clone, Copy)]
-pub enum TreeRef<'n> {
-    /// A network.
-    Net(&'n Net<Expr>),
-    /// An expression.
-    Expr(&'n Expr),
-}
+use net_tree::{Members, Net, NetChild, Parts, Position, TreeRef, parts_inside};
 
 /// What stands at a position.
 #[derive(Clone, Copy)]

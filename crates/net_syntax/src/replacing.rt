@@ -7,9 +7,9 @@ ghost use Rattle.net_tree.specs.NetworkView.{network_of, tree, tree_of, trees};
 ghost use Rattle.net_tree.specs.{LawStep.part_of, Place.a_leaf, Place.a_network};
 ghost use Rattle.net_syntax.specs.{ChildParts.if_there, Placed.replaced, Placed.with_child, Placed.with_member};
 
-use crate::place::{StandsBehind, TreeRef, child, kind_behind};
+use crate::place::{StandsBehind, child, kind_behind};
 use leaf_core::{Expr, with_part_at};
-use net_tree::{Members, Net, NetChild, Position, Tree};
+use net_tree::{Members, Net, NetChild, Position, Tree, TreeRef};
 use sample_core::Memory;
 use std::alloc::Global;
 use std::mem::replace as exchanged;

@@ -3,7 +3,8 @@
 ghost use Rattle.std.specs.Prelude.{◌≡◌, IfOk, MatchOption, None, Some, option_map};
 ghost use Rattle.sample_core.specs.TypeView.{type_of};
 ghost use Rattle.leaf_core.specs.ExpressionView.{expression_of};
-ghost use Rattle.net_syntax.specs.{ArrowView.arrow_of, ChildParts.seen, FoundType.Finds};
+ghost use Rattle.net_tree.specs.LawStep.{seen};
+ghost use Rattle.net_syntax.specs.{ArrowView.arrow_of, FoundType.Finds};
 ghost use Rattle.net_tree.specs.NetworkView.{tree, tree_of, trees};
 ghost use Rattle.net_tree.specs.Place.{a_leaf, a_network, continuation_child, p_switch_child};
 ghost use Rattle.net_syntax.specs.Scopes.{and_olds};
@@ -16,11 +17,11 @@ use crate::output::{
     right_listed_in, route_type, routed_types,
 };
 use crate::part_types::{arrow_from, pair_of, pair_under};
-use crate::place::{StandsBehind, TreeRef, child, kind_behind};
+use crate::place::{StandsBehind, child, kind_behind};
 use crate::scope::ScopeTypes;
 use crate::typed_net::TypedNet;
 use leaf_core::{Expr, part_type};
-use net_tree::{Members, Net, NetChild, Position};
+use net_tree::{Members, Net, NetChild, Position, TreeRef};
 use sample_core::{Memory, Ty};
 use std::alloc::Global;
 

@@ -14,7 +14,7 @@ use crate::new_forms::{is_new, version_word};
 use itoa::Buffer;
 use leaf_expr::{Expr, push_expr};
 use net_tree::{Members, Net, NetChild};
-use sample_core::{Memory, Ty, push_type};
+use sample_core::{Memory, Ty, push_type, push_word};
 use std::alloc::Global;
 
 /// The network file of that input type and network, as a new text of three lines: `yampa 1`, or
@@ -68,14 +68,6 @@ pub fn push_net(text: &mut String, net: &Net<Expr>) -> Result<(), Memory>
         Net::PSwitch(r, all, e, t) => push_p_switch(text, r, all, e, t),
         Net::Old(k) => push_old(text, *k),
     }
-}
-
-/// Adds a word to the end of the text.
-pub(crate) fn push_word(text: &mut String, word: &str) -> Result<(), Memory>
-    ensures { Adds result (string_bytes text.old) (string_bytes text.new) word.now }
-{
-    text.push_str(word)?;
-    Ok(())
 }
 
 /// The beginning of a form.

@@ -10,11 +10,11 @@ ghost use Rattle.net_text.specs.Printing.{version_word};
 ghost use Rattle.net_text.specs.CertificatePrinting as printing;
 
 use crate::new_forms::{is_new, version_word};
-use crate::print::{push_net, push_next, push_next_expr, push_word};
+use crate::print::{push_net, push_next, push_next_expr};
 use itoa::Buffer;
 use leaf_expr::push_expr;
 use net_tree::{Direction, Law, LawStep, Tree, push_position};
-use sample_core::Memory;
+use sample_core::{Memory, push_word};
 use std::alloc::Global;
 
 /// The certificate file of those steps, as a new text: a line `laws 1`, or `laws 2` where a law

@@ -9,6 +9,8 @@ use Rattle.net_tree.specs.declared.law_step.Direction.{Direction}
 use Rattle.net_tree.specs.declared.law_step.LawStep.{LawStep}
 use Rattle.net_tree.specs.declared.law_step.Tree as C
 use Rattle.net_tree.specs.declared.law_step.Tree.TheVariants as V
+use Rattle.net_tree.specs.declared.law_step.TreeRef.{TreeRef}
+use Rattle.net_tree.specs.declared.law_step.TreeRef.TheVariants as R
 
 -- a law that is taken one way at a position, with the tree that is given for it, if one is
 pub record Step : Type 0 where
@@ -21,6 +23,11 @@ pub record Step : Type 0 where
 abbrev pub part_of : C.Tree → Tree Expression
 part_of (V.Net net) = a_network (tree_of net)
 part_of (V.Expr e) = a_leaf (expression_of e)
+
+-- the network or the expression that a `TreeRef` is
+abbrev pub seen : TreeRef → Tree Expression
+seen (R.Net f) = a_network (tree_of f.now)
+seen (R.Expr e) = a_leaf (expression_of e.now)
 
 -- the step that a `LawStep` is
 abbrev pub step_of : LawStep → Step

@@ -37,8 +37,8 @@ pub enum Parts<'n> {
     Collection(&'n Members<Expr>, &'n Expr, &'n NetChild<Expr>),
 }
 
-/// The number of the network's form.
-fn form_number(net: &Net<Expr>) -> u8
+/// The number of the network's form: no two forms have one.
+pub fn form_number(net: &Net<Expr>) -> u8
     ensures { result ≡ form_number (tree_of net.now) }
 {
     match net {

@@ -1,6 +1,7 @@
 // Steps of certificates.
 
 ghost use Rattle.std.specs.Prelude.{◌≡◌, IfOk};
+ghost use Rattle.net_tree.specs.LawStep.{part_of, seen};
 ghost use Rattle.net_tree.specs.declared.law_step.Tree.TheVariants as V;
 
 use crate::net::Net;
@@ -37,6 +38,15 @@ pub enum Tree {
     Expr(Expr),
 }
 
+/// A reference to a network or an expression, which may stand in a larger network.
+#[derive(Clone, Copy)]
+pub enum TreeRef<'n> {
+    /// A network.
+    Net(&'n Net<Expr>),
+    /// An expression.
+    Expr(&'n Expr),
+}
+
 /// A step of a certificate: a law that is taken one way at a position.
 #[derive(Drop)]
 pub struct LawStep {
@@ -50,7 +60,30 @@ pub struct LawStep {
     pub given: Option<Tree>,
 }
 
+impl TreeRef<'_> {
+    /// A copy, whose parts are shared with it. It takes no memory; `Memory` only if a count of
+    /// references is full.
+    pub fn try_copy(self, alloc: Global) -> Result<Tree, Memory>
+        ensures { IfOk result (λ copy. part_of copy ≡ seen self.entry) }
+    {
+        match self {
+            TreeRef::Net(net) => Ok(Tree::Net(net.try_copy(alloc)?)),
+            TreeRef::Expr(expr) => Ok(Tree::Expr(expr.try_copy(alloc)?)),
+        }
+    }
+}
+
 impl Tree {
+    /// A reference to what it is.
+    pub fn by_ref(&self) -> TreeRef<'_>
+        ensures { seen result ≡ part_of self.now }
+    {
+        match self {
+            Tree::Net(net) => TreeRef::Net(net),
+            Tree::Expr(expr) => TreeRef::Expr(expr),
+        }
+    }
+
     /// A copy, whose parts are shared with it. It takes no memory; `Memory` only if a count of
     /// references is full.
     pub fn try_copy(&self, alloc: Global) -> Result<Tree, Memory>

@@ -20,9 +20,9 @@ mod measure;
 mod net;
 mod position;
 
-pub use equal::{Parts, parts_inside, same_net};
+pub use equal::{Parts, form_number, parts_inside, same_net};
 pub use forms::{FedForm, LeafForm, PairForm};
-pub use law_step::{Direction, Law, LawStep, Tree};
+pub use law_step::{Direction, Law, LawStep, Tree, TreeRef};
 pub use limits::{MOST_DELAY, MOST_MEMBERS, MOST_WAIT};
 pub use measure::{MOST_HEIGHT, MOST_SIZE, MOST_WEIGHT, Measures, height, measured, weight};
 pub use net::{Members, Net, NetChild};

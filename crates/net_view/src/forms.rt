@@ -11,15 +11,7 @@ ghost use Rattle.net_view.specs.Texts.{first_word, tree_word};
 use leaf_core::Expr;
 use leaf_expr::push_expr;
 use net_tree::{Net, Tree};
-use sample_core::Memory;
-
-/// Adds a word to the end of the text.
-pub(crate) fn push_word(text: &mut String, word: &str) -> Result<(), Memory>
-    ensures { Adds result (string_bytes text.old) (string_bytes text.new) word.now }
-{
-    text.push_str(word)?;
-    Ok(())
-}
+use sample_core::{Memory, push_word};
 
 /// Adds the word of the tree's form; of a literal its own text.
 pub(crate) fn push_form(text: &mut String, tree: &Tree) -> Result<(), Memory>

@@ -5,13 +5,13 @@ ghost use Rattle.sample_core.specs.TypeView.{type_of};
 ghost use Rattle.leaf_core.specs.ExpressionView.{expression_of};
 ghost use Rattle.leaf_core.specs.PartWalk.{part_input, with_carried};
 ghost use Rattle.net_tree.specs.{NetworkView.tree_of, Place.a_leaf};
-ghost use Rattle.net_syntax.specs.ChildParts.{seen};
+ghost use Rattle.net_tree.specs.LawStep.{seen};
 ghost use Rattle.net_syntax.specs.StandingWalk.{output_in, standing_of, type_walk_at};
 ghost use Rattle.net_view.specs.Walked.{inside_tree};
 
 use leaf_core::{Expr, part_type};
-use net_syntax::{Standing, TreeRef, child_standing, pair_under};
-use net_tree::{Net, NetChild};
+use net_syntax::{Standing, child_standing, pair_under};
+use net_tree::{Net, NetChild, TreeRef};
 use sample_core::{Memory, Ty};
 use std::alloc::Global;
 

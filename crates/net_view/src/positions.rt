@@ -1,13 +1,13 @@
 // The positions of a network, in preorder, and what stands at one.
 
 ghost use Rattle.std.specs.Prelude.{◌≡◌, ◌↔◌, IfOk, IsTrue, OnOk, option_map};
-ghost use Rattle.net_syntax.specs.ChildParts.{seen, seen_place};
+ghost use Rattle.net_syntax.specs.ChildParts.{seen_place};
 ghost use Rattle.net_tree.specs.LawStep.{part_of};
 ghost use Rattle.cert_check.specs.Derives.{standing_tree};
 ghost use Rattle.net_view.specs.Listed.{AddsPositions, ArePositions, IsInside, IsReached, IsThere};
 
 use cert_check::place_in;
-use net_syntax::{Place, TreeRef, TypedNet, place_below};
+use net_syntax::{Place, TypedNet, place_below};
 use net_tree::{Position, Tree};
 use sample_core::Memory;
 use std::alloc::Global;
@@ -29,18 +29,8 @@ pub(crate) fn tree_at(
     ensures { IfOk result (λ found. option_map part_of found ≡ standing_tree net.now position.now) }
 {
     match place_in(net, position) {
-        Some(place) => Ok(Some(copied(alloc, place.tree)?)),
+        Some(place) => Ok(Some(place.tree.try_copy(alloc)?)),
         None => Ok(None),
-    }
-}
-
-/// A copy of the tree.
-pub(crate) fn copied(alloc: Global, tree: TreeRef) -> Result<Tree, Memory>
-    ensures { IfOk result (λ copy. part_of copy ≡ seen tree.entry) }
-{
-    match tree {
-        TreeRef::Net(net) => Ok(Tree::Net(net.try_copy(alloc)?)),
-        TreeRef::Expr(expr) => Ok(Tree::Expr(expr.try_copy(alloc)?)),
     }
 }
 

@@ -1,16 +1,16 @@
 // The outline of a network: what stands where, with its type and weight.
 
 ghost use Rattle.std.specs.Prelude.{◌≡◌, IfOk, OnOk, map};
-ghost use Rattle.net_syntax.specs.ChildParts.{seen, seen_place};
+ghost use Rattle.net_tree.specs.LawStep.{seen};
+ghost use Rattle.net_syntax.specs.ChildParts.{seen_place};
 ghost use Rattle.net_syntax.specs.StandingWalk.{standing_of};
 ghost use Rattle.net_view.specs.Listed.{IsInside};
 ghost use Rattle.net_view.specs.Rows.{IsOutline, row_of, weight_in};
 ghost use Rattle.net_view.specs.Walked.{AddsRows, IsRowBelow, IsWalked};
 
 use crate::inner::{standing_inside, type_here};
-use crate::positions::copied;
-use net_syntax::{Place, Standing, TreeRef, TypedNet, place_below};
-use net_tree::{Position, Tree, weight};
+use net_syntax::{Place, Standing, TypedNet, place_below};
+use net_tree::{Position, Tree, TreeRef, weight};
 use sample_core::{Memory, Ty};
 use std::alloc::Global;
 
@@ -95,7 +95,7 @@ fn row_here(
     };
     let position = Position::of_node(alloc, path)?;
     let weight = weight_of(alloc, place.tree)?;
-    let tree = copied(alloc, place.tree)?;
+    let tree = place.tree.try_copy(alloc)?;
     Ok(OutlineRow {
         position,
         tree,

@@ -5,7 +5,7 @@ ghost use Rattle.sample_core.specs.Adding.{Adds};
 ghost use Rattle.net_view.specs.{Possible.possible_of, Rows.row_of};
 ghost use Rattle.net_view.specs.Texts.{OutlineText, PossibleText, indent, possible_spelling, row_spelling, weight_spelling};
 
-use crate::forms::{push_form, push_word};
+use crate::forms::push_form;
 use crate::possible::{PossibleStep, possible_steps};
 use crate::rows::{OutlineRow, outline};
 use crate::told::push_cut_line;
@@ -13,7 +13,7 @@ use itoa::Buffer;
 use net_syntax::TypedNet;
 use net_text::push_step;
 use net_tree::{Position, push_position};
-use sample_core::{Memory, push_type};
+use sample_core::{Memory, push_type, push_word};
 use std::alloc::Global;
 
 /// The network's outline as a new text, a line a row: two blanks for each level of depth, then the

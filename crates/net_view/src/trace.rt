@@ -1,14 +1,13 @@
 // Steps taken one after the other, with what each changes.
 
 ghost use Rattle.std.specs.Prelude.{◌≡◌, ◌≤◌, length, map, option_map, IfOk};
-ghost use Rattle.net_syntax.specs.{ChildParts.seen};
 ghost use Rattle.net_tree.specs.{LawStep.part_of, LawStep.step_of};
 ghost use Rattle.cert_check.specs.Derives.{standing_tree};
 ghost use Rattle.net_view.specs.Trace.{IsLedTo, IsRefusedSo, IsStepTrace, TraceAnswer, TracesSteps, first_steps};
 
 use crate::positions::tree_at;
 use cert_check::{CheckFault, MOST_STEPS, answer_at, place_in, take_step};
-use net_syntax::{Place, TreeRef, TypedNet};
+use net_syntax::{Place, TypedNet};
 use net_tree::{Direction, LawStep, Tree};
 use sample_core::Memory;
 use std::alloc::Global;
@@ -158,19 +157,9 @@ fn led_by(alloc: Global, net: &TypedNet, step: &LawStep) -> Result<Option<Tree>,
         return Ok(None);
     };
     let given = Place {
-        tree: tree_ref(given),
+        tree: given.by_ref(),
         params: place.params,
         olds: place.olds,
     };
     answer_at(alloc, step.law, Direction::Forward, given, None)
-}
-
-/// A reference to what the tree is.
-fn tree_ref(tree: &Tree) -> TreeRef<'_>
-    ensures { seen result ≡ part_of tree.now }
-{
-    match tree {
-        Tree::Net(net) => TreeRef::Net(net),
-        Tree::Expr(expr) => TreeRef::Expr(expr),
-    }
 }

@@ -28,7 +28,7 @@ pub use equal::{same, same_type};
 pub use fault::ValueFault;
 pub use laws::reading_laws;
 pub use memory::{Memory, OutOfMemory};
-pub use print::{print_type, print_value, push_type, push_value};
+pub use print::{print_type, print_value, push_type, push_value, push_word};
 pub use read::{read_value, read_value_over};
 pub use sample::{Sample, SampleChild, SamplePair, Samples};
 pub use ty::{Ty, TyChild, try_copy_types};

@@ -52,9 +52,9 @@ pub fn push_value(text: &mut String, sample: &Sample) -> Result<(), Memory>
     }
 }
 
-/// Adds a word to the end of the text.
+/// Adds a word to the end of the text. `Memory` if allocation fails.
 #[inline(always)]
-fn push_word(text: &mut String, word: &str) -> Result<(), Memory>
+pub fn push_word(text: &mut String, word: &str) -> Result<(), Memory>
     ensures { Adds result (string_bytes text.old) (string_bytes text.new) word.now }
 {
     text.push_str(word)?;

@@ -2,7 +2,8 @@ use Rattle.std.proofs.Common.{◌≡◌, Some, refl, sym, ap, ◌∙◌, subst, 
 use Rattle.net_tree.specs.Place.{a_network}
 use Rattle.net_syntax.specs.Placed.{placed_at}
 use Rattle.net_tree.specs.LawStep.{step_of}
-use Rattle.net_syntax.specs.ChildParts.{seen, seen_place}
+use Rattle.net_tree.specs.LawStep.{seen}
+use Rattle.net_syntax.specs.ChildParts.{seen_place}
 use Rattle.cert_check.specs.StepAnswers.{IsTreeAnswer}
 use Rattle.cert_check.proofs.Taken.{answered_there, unmatched_there}
 use Rattle.cert_check.proofs.step.law_answer.Goals as goal

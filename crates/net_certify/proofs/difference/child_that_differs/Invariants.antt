@@ -1,4 +1,4 @@
-use Rattle.net_syntax.specs.ChildParts.{seen}
+use Rattle.net_tree.specs.LawStep.{seen}
 use Rattle.net_certify.specs.Difference.{SameBefore}
 use Rattle.net_certify.proofs.difference.child_that_differs.Given as goal
 

@@ -2,7 +2,7 @@ use Rattle.std.proofs.Common.{◌≡◌, Some, subst}
 use Rattle.net_tree.specs.LawStep.{part_of}
 use Rattle.net_tree.specs.NetworkView.{tree_of}
 use Rattle.net_tree.specs.Place.{a_network}
-use Rattle.net_syntax.specs.ChildParts.{seen}
+use Rattle.net_tree.specs.LawStep.{seen}
 use Rattle.net_certify.proofs.Differing.{carried, carries_below, differing_nodes, same_nodes}
 use Rattle.net_certify.proofs.difference.first_difference.Goals as goal
 

@@ -1,6 +1,6 @@
 use Rattle.net_tree.specs.NetworkView.{tree_of}
 use Rattle.net_tree.specs.Place.{a_network}
-use Rattle.net_syntax.specs.ChildParts.{seen}
+use Rattle.net_tree.specs.LawStep.{seen}
 use Rattle.net_certify.proofs.Differing.{Carries}
 use Rattle.net_certify.proofs.difference.first_difference.Given as goal
 

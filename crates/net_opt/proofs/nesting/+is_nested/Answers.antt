@@ -1,7 +1,7 @@
 use Rattle.std.proofs.Common.{◌≡◌, suc, ◌-◌, Some, option_map, sym, ap, ◌∙◌, subst, arith}
 use Rattle.net_tree.specs.NetworkView.{tree_of}
 use Rattle.net_tree.specs.Place.{a_network, child}
-use Rattle.net_syntax.specs.ChildParts.{seen}
+use Rattle.net_tree.specs.LawStep.{seen}
 use Rattle.net_opt.specs.Nesting.{IsNested, not_nested, nested_in}
 use Rattle.net_opt.proofs.nesting.+is_nested.Goals as goal
 

@@ -1,6 +1,7 @@
 use Rattle.std.proofs.Common.{◌≡◌, [], ◌∷◌, Some, option_map, sym, ap, ◌∙◌, arith}
 use Rattle.std.proofs.lemmas.Grind.{common_steps}
-use Rattle.net_syntax.specs.ChildParts.{seen, seen_place}
+use Rattle.net_tree.specs.LawStep.{seen}
+use Rattle.net_syntax.specs.ChildParts.{seen_place}
 use Rattle.net_syntax.specs.Placed.{placed_at}
 use Rattle.net_tree.specs.LawStep.{step_of}
 use Rattle.net_opt.specs.Search.{PassedAt, PassedWithin, FirstAt, FirstWithin}

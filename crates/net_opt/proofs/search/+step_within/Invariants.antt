@@ -1,5 +1,5 @@
 use Rattle.std.proofs.Common.{◌≡◌, ℕ, ◌-◌, ◌<◌, true, [], ◌∷◌, ◌++◌}
-use Rattle.net_syntax.specs.ChildParts.{seen}
+use Rattle.net_tree.specs.LawStep.{seen}
 use Rattle.net_opt.specs.Search.{PassedAt, PassedWithin}
 use Rattle.net_opt.proofs.Walked.{rank}
 use Rattle.net_opt.proofs.search.+step_within.Given as goal

@@ -2,7 +2,7 @@ use Rattle.std.proofs.Common.{arith, add-one, ◌≡◌, ◌+◌, ◌*◌, map, 
 use Rattle.std.proofs.lemmas.Result.{err_from_is_err_and}
 use Rattle.net_tree.specs.Network.{network_size}
 use Rattle.net_tree.specs.NetworkView.{tree_of}
-use Rattle.net_syntax.specs.ChildParts.{seen}
+use Rattle.net_tree.specs.LawStep.{seen}
 use Rattle.net_syntax.specs.NeedView.{need_of}
 use Rattle.net_syntax.specs.StandingWalk.{standing_of}
 use Rattle.net_syntax.proofs.ChildFalls.{fall, child_falls}

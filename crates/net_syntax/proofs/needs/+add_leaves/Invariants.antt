@@ -1,7 +1,7 @@
 use Rattle.std.proofs.Common.{◌≡◌, ◌+◌, ◌*◌, map}
 use Rattle.net_tree.specs.Network.{network_size}
 use Rattle.net_tree.specs.NetworkView.{tree_of}
-use Rattle.net_syntax.specs.ChildParts.{seen}
+use Rattle.net_tree.specs.LawStep.{seen}
 use Rattle.net_syntax.specs.NeedView.{need_of}
 use Rattle.net_syntax.specs.StandingWalk.{standing_of}
 use Rattle.net_syntax.proofs.ChildFalls.{fall}

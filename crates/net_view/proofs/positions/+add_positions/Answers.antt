@@ -1,6 +1,7 @@
 use Rattle.std.proofs.Common.{◌≡◌, [], ◌∷◌, ◌++◌, Some, option_map, refl, sym, ap, ◌∙◌, arith}
 use Rattle.std.proofs.lemmas.Grind.{common_steps}
-use Rattle.net_syntax.specs.ChildParts.{seen, seen_place}
+use Rattle.net_tree.specs.LawStep.{seen}
+use Rattle.net_syntax.specs.ChildParts.{seen_place}
 use Rattle.net_syntax.specs.Placed.{placed_at}
 use Rattle.net_opt.proofs.Walked.{lower_inside, low_number, few_there, nothing_below}
 use Rattle.net_view.proofs.Paths.{paths_begin, paths_more, paths_end, reached_onward}

@@ -1,5 +1,6 @@
 use Rattle.std.proofs.Common.{◌≡◌, ◌-◌}
-use Rattle.net_syntax.specs.ChildParts.{seen, seen_place}
+use Rattle.net_tree.specs.LawStep.{seen}
+use Rattle.net_syntax.specs.ChildParts.{seen_place}
 use Rattle.net_opt.proofs.Walked.{rank}
 use Rattle.net_view.specs.Listed.{AddsPositions}
 use Rattle.net_view.proofs.Paths.{IsUpTo}

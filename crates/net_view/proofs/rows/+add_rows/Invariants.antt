@@ -1,5 +1,6 @@
 use Rattle.std.proofs.Common.{◌≡◌, ◌-◌, map}
-use Rattle.net_syntax.specs.ChildParts.{seen, seen_place}
+use Rattle.net_tree.specs.LawStep.{seen}
+use Rattle.net_syntax.specs.ChildParts.{seen_place}
 use Rattle.net_syntax.specs.StandingWalk.{standing_of}
 use Rattle.net_opt.proofs.Walked.{rank}
 use Rattle.net_view.specs.Rows.{row_of}

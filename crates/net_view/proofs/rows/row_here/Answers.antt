@@ -1,6 +1,7 @@
 use Rattle.std.proofs.Common.{◌≡◌, [], None, option_map, sym, ap, ◌∙◌}
 use Rattle.sample_core.specs.TypeView.{type_of}
-use Rattle.net_syntax.specs.ChildParts.{seen, seen_place}
+use Rattle.net_tree.specs.LawStep.{seen}
+use Rattle.net_syntax.specs.ChildParts.{seen_place}
 use Rattle.net_syntax.specs.StandingWalk.{standing_of, type_walk_at}
 use Rattle.net_view.proofs.Outlines.{typed_here}
 use Rattle.net_view.proofs.rows.row_here.Goals as goal

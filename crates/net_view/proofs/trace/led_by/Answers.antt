@@ -10,4 +10,4 @@ pub returns : goal.returns
 returns c =
     led_by c.args.net.now (step_of c.args.step.now) (seen_place c.in-Some.place) (part_of c.in-Some-given.given) c.answer_at.result
     (sym c.place_in.ensures ∙ ap (option_map seen_place) c.in-Some.is) (ap (option_map part_of) c.in-Some-given.is)
-    (subst (λ z. IfOk c.answer_at.result (IsTreeAnswer c.in-Some.place.olds c.args.step.now.law Forward z None)) c.tree_ref.ensures c.answer_at.ensures)
+    (subst (λ z. IfOk c.answer_at.result (IsTreeAnswer c.in-Some.place.olds c.args.step.now.law Forward z None)) c.by_ref.ensures c.answer_at.ensures)
