@@ -1,4 +1,3 @@
 -- Lemmas.
 pub mod Joined
 pub mod NamedLemmas
-pub mod RegisterTypes

@@ -5,7 +5,7 @@ use Rattle.leaf_core.specs.Expression.{Expression, Expressions, param, unit_expr
 use Rattle.leaf_core.specs.ExpressionCode.{expression_code}
 use Rattle.leaf_core.specs.EqualityByCode.{same_by, same_by_decides, same_by_is}
 use Rattle.expr_laws.specs.Rows.{Spread, pair_spread, fst_spread, snd_spread, neg_spread, add_spread, sub_spread, mul_spread, less_spread, equal_spread, not_spread, and_spread, or_spread, if_spread, event_spread, nth_spread, len_spread, list_spread, Turned, and_true, and_false, or_true, or_false, and_turned, or_turned, Compared, equal_same, equal_turned, is_bool, HasNoPart, param_constant, unit_constant, bool_constant, int_constant, no_event_constant, list_constant, OnLiterals, neg_literal, add_literals, sub_literals, mul_literals, less_literals, equal_units, equal_bools, equal_ints, not_literal, and_literals, or_literals, ExpressionRow, row_e4, row_e6, row_e15, row_e18, row_e23, row_e26}
-use Rattle.expr_laws.specs.Direct.{spread, law4, is_constant, law6, on_literals, law15, picked_in, law18, turned_and, turned_or, law23, turned_equal, law26}
+use Rattle.expr_laws.specs.Direct.{spread, law4, is_constant, law6, on_literals, law15, picked_in, law18, turned_by, law23, turned_equal, law26}
 
 -- an answer, if there is one, is a right side
 abbrev pub IsRight : ℕ → Expression → Option Expression → Type 0
@@ -71,12 +71,12 @@ pub law18-gives : (e : Expression) → IsRight 18 e (law18 e)
 law18-gives (nth (list_expr T es) (int_expr i) d) = picked-gives T es i d
 law18-gives _ = tt
 
-and-gives : (a b : Expression) → Turned (and_expr a b) (turned_and a b)
+and-gives : (a b : Expression) → Turned (and_expr a b) (turned_by true and_expr a b)
 and-gives (bool_expr true) b = and_true
 and-gives (bool_expr false) b = and_false
 and-gives _ b = and_turned refl
 
-or-gives : (a b : Expression) → Turned (or_expr a b) (turned_or a b)
+or-gives : (a b : Expression) → Turned (or_expr a b) (turned_by false or_expr a b)
 or-gives (bool_expr true) b = or_true
 or-gives (bool_expr false) b = or_false
 or-gives _ b = or_turned refl
@@ -113,21 +113,17 @@ pub on_literals-is : {o : Expression} → OnLiterals o → on_literals o ≡ tru
 on_literals-is neg_literal = refl
 on_literals-is _ = refl
 
-and-is : (a b : Expression) → is_bool a ≡ false → turned_and a b ≡ and_expr b a
-and-is (bool_expr c) b q = absurd (cc)
-and-is _ b q = refl
-
-or-is : (a b : Expression) → is_bool a ≡ false → turned_or a b ≡ or_expr b a
-or-is (bool_expr c) b q = absurd (cc)
-or-is _ b q = refl
+exchanged-is : (neutral : Bool) (operator : Expression → Expression → Expression) (a b : Expression) → is_bool a ≡ false → turned_by neutral operator a b ≡ operator b a
+exchanged-is neutral operator (bool_expr c) b q = absurd (cc)
+exchanged-is neutral operator _ b q = refl
 
 pub turned-is : {o r : Expression} → Turned o r → law23 o ≡ Some r
 turned-is and_true = refl
 turned-is and_false = refl
 turned-is or_true = refl
 turned-is or_false = refl
-turned-is (and_turned {a = a} {b = b} q) = ap Some (and-is a b q)
-turned-is (or_turned {a = a} {b = b} q) = ap Some (or-is a b q)
+turned-is (and_turned {a = a} {b = b} q) = ap Some (exchanged-is true and_expr a b q)
+turned-is (or_turned {a = a} {b = b} q) = ap Some (exchanged-is false or_expr a b q)
 
 pub compared-is : {o r : Expression} → Compared o r → law26 o ≡ Some r
 compared-is (equal_same {a = a}) = sym (same-made a a true (λ e. refl, λ e. refl) refl)

@@ -60,29 +60,10 @@ infixr 5 ◌and◌
 ◌and◌ : {A B : Type 0} → A → B → A × B
 a and b = (a, b)
 
--- what stands in each row of a table, from number k on
-abbrev Each : {A : Type 0} → List A → (A → Rule) → (A → List Sym) → (A → List Sym) → ℕ → Type 0
-Each [] rule left right k = Unit {0}
-Each (x ∷ xs) rule left right k = Stands k (rule x) (left x) (right x) × Each xs rule left right (suc k)
-
-abbrev shifted : ℕ → ℕ → ℕ
-shifted k zero = k
-shifted k (suc n) = shifted (suc k) n
-
-shifted-is : (k n : ℕ) → shifted k n ≡ k + n
-shifted-is k zero = omega arith
-shifted-is k (suc n) = let e : shifted (suc k) n ≡ suc k + n = shifted-is (suc k) n in omega arith
-
-each-at : {A : Type 0} (xs : List A) (rule : A → Rule) (left right : A → List Sym) (k n : ℕ) → length LAWS ≤ k + length xs → Each xs rule left right k
-    → Stands (shifted k n) (get_or (map rule xs) n R.Nothing) (get_or (map left xs) n []) (get_or (map right xs) n [])
-each-at [] rule left right k n b e = let q = shifted-is k n in λ h l. absurd (omega (arith, q, b, l))
-each-at (x ∷ xs) rule left right k zero b e = e.0
-each-at (x ∷ xs) rule left right k (suc n) b e = each-at xs rule left right (suc k) n (omega (arith, b)) e.1
-
 found : {n : ℕ} {l r : Expression} → ExpressionRow n l r → SomeRow n
 found {l = l} {r = r} h = (l, r, h)
 
-all : Each LAWS (λ row. row.0) (λ row. row.1.now) (λ row. row.2.now) 0
+all : Each Stands LAWS 0
 all =
     (λ h k. absurd (omega (arith, h))) and
     (λ a. row_e1) and
@@ -115,9 +96,7 @@ all =
 
 -- what stands at any number
 pub stands : (n : ℕ) → Stands n (rule_at n) (left_at n) (right_at n)
-stands n =
-    subst (λ k. Stands k (rule_at n) (left_at n) (right_at n)) (shifted-is 0 n ∙ omega arith)
-    (each-at LAWS (λ row. row.0) (λ row. row.1.now) (λ row. row.2.now) 0 n (omega arith) all)
+stands n = each-at Stands LAWS R.Nothing n (λ m b h l. absurd (omega (arith, b, l))) all
 
 -- what a law of two patterns makes is a right side, and no other is
 pub two-patterns : (n : ℕ) → R.Sides ≡ rule_at n → RuleInstance (ExpressionRow n) (left_at n) (right_at n)

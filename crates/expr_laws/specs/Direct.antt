@@ -93,23 +93,19 @@ abbrev pub law18 : Expression → Option Expression
 law18 (nth e i d) = picked_from e i d
 law18 _ = None
 
--- what `and` of two expressions is where the first is a literal, else `and` of the second and the
--- first
-abbrev pub turned_and : Expression → Expression → Expression
-turned_and (bool_expr true) b = b
-turned_and (bool_expr false) b = bool_expr false
-turned_and a b = and_expr b a
+-- an operator, `and` or `or`, on two expressions: where the first is a literal, the second if the
+-- literal is the operator's neutral one, else the literal; with another first one the operator on
+-- the second and the first
+abbrev pub turned_by : Bool → (Expression → Expression → Expression)
+    → Expression → Expression → Expression
+turned_by neutral operator (bool_expr true) b = cond neutral b (bool_expr true)
+turned_by neutral operator (bool_expr false) b = cond neutral (bool_expr false) b
+turned_by neutral operator a b = operator b a
 
--- the same of `or`
-abbrev pub turned_or : Expression → Expression → Expression
-turned_or (bool_expr true) b = bool_expr true
-turned_or (bool_expr false) b = b
-turned_or a b = or_expr b a
-
--- the same of an expression that is one of both
+-- the same of an expression that is `and` or `or`
 abbrev pub law23 : Expression → Option Expression
-law23 (and_expr a b) = Some (turned_and a b)
-law23 (or_expr a b) = Some (turned_or a b)
+law23 (and_expr a b) = Some (turned_by true and_expr a b)
+law23 (or_expr a b) = Some (turned_by false or_expr a b)
 law23 _ = None
 
 -- `true` where two expressions are the same, else `equal` of the second and the first

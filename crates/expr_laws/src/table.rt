@@ -1,12 +1,12 @@
 // The laws as a table.
 
-ghost use Rattle.std.specs.Prelude.{◌≡◌, [], get_or, map};
+ghost use Rattle.std.specs.Prelude.{◌≡◌};
 ghost use Rattle.expr_laws.specs.Table.{left_at, right_at, rule_at};
 
 use Rule::{Compare, Compute, Constant, Nothing, Pick, Sides, Spread, Turn};
 use law_patterns::{
-    ADD, EVENT, F, FALSE, FST, G, H, I, IF, MUL, NEG, NONE, NOT, ON, PAIR, SND, SUB, Sym, THEN,
-    TRUE, X,
+    ADD, EVENT, F, FALSE, FST, G, H, I, IF, LawLine, MUL, NEG, NONE, NOT, ON, PAIR, SND, SUB, Sym,
+    THEN, TRUE, X, law_at,
 };
 
 /// What a law is.
@@ -30,14 +30,11 @@ pub enum Rule {
     Compare,
 }
 
-/// What a law is, and its two sides, if it has any: each form is written before its parts.
-pub type Row = (Rule, &'static [Sym], &'static [Sym]);
-
 /// The greatest number of a law.
 pub const LAST_LAW: u8 = 26;
 
-/// The laws by number, from 0.
-pub const LAWS: [Row; 27] = [
+/// The laws by number, from 0. In each side a form is written before its parts.
+pub const LAWS: [LawLine<Rule, Sym>; 27] = [
     (Nothing, &[], &[]),
     (Sides, &[THEN, X, F], &[F]),
     (Sides, &[THEN, F, X], &[F]),
@@ -74,22 +71,10 @@ pub const LAWS: [Row; 27] = [
 ];
 
 /// The law of this number.
-pub fn law_rule(number: u8) -> Row
+pub fn law_rule(number: u8) -> LawLine<Rule, Sym>
     ensures rule { result.0 ≡ rule_at number }
     ensures left { result.1.now ≡ left_at number }
     ensures right { result.2.now ≡ right_at number }
 {
-    row_at(&LAWS, number)
-}
-
-/// The row of a number, in a table from 0; no law outside.
-fn row_at(laws: &'static [Row], number: u8) -> Row
-    ensures rule { result.0 ≡ get_or (map (λ row. row.0) laws.now) number Rule.Nothing }
-    ensures left { result.1.now ≡ get_or (map (λ row. row.1.now) laws.now) number [] }
-    ensures right { result.2.now ≡ get_or (map (λ row. row.2.now) laws.now) number [] }
-{
-    match laws.get(usize::from(number)) {
-        Some(row) => *row,
-        None => (Nothing, &[], &[]),
-    }
+    law_at(&LAWS, number, Nothing)
 }

@@ -2,9 +2,10 @@
 
 ghost use Rattle.std.specs.Prelude.{◌≡◌, IfOk, Some, option_map};
 ghost use Rattle.leaf_core.specs.ExpressionView.{expression_of};
-ghost use Rattle.expr_laws.specs.Direct.{law23, turned_and, turned_or};
+ghost use Rattle.leaf_core.specs.Inside.{with_two};
+ghost use Rattle.expr_laws.specs.Direct.{law23, turned_by};
 
-use leaf_core::{Expr, ExprChild, Literal};
+use leaf_core::{Expr, ExprChild, Literal, with_two_parts};
 use sample_core::Memory;
 use std::alloc::Global;
 
@@ -14,38 +15,31 @@ pub fn turned(alloc: Global, expr: &Expr) -> Result<Option<Expr>, Memory>
     ensures { IfOk result (λ o. option_map expression_of o ≡ law23 (expression_of expr.now)) }
 {
     match expr {
-        Expr::And(a, b) => turned_and(alloc, a, b),
-        Expr::Or(a, b) => turned_or(alloc, a, b),
+        Expr::And(a, b) => turned_by(alloc, true, expr, a, b),
+        Expr::Or(a, b) => turned_by(alloc, false, expr, a, b),
         _ => Ok(None),
     }
 }
 
-/// What `(and a b)` is where a is a literal, else `(and b a)`.
-fn turned_and(alloc: Global, a: &ExprChild, b: &ExprChild) -> Result<Option<Expr>, Memory>
-    ensures { IfOk result (λ o. option_map expression_of o ≡ Some (turned_and a.now b.now)) }
+/// The operator on a and b: where a is a literal, b if the literal is the operator's neutral one,
+/// else the literal; with another a the operator with its parts exchanged.
+fn turned_by(
+    alloc: Global,
+    neutral: bool,
+    operator: &Expr,
+    a: &ExprChild,
+    b: &ExprChild,
+) -> Result<Option<Expr>, Memory>
+    ensures { IfOk result (λ o. option_map expression_of o
+        ≡ Some (turned_by neutral (λ p q. expression_of (with_two operator.now p q)) a.now b.now)) }
 {
     match a.get() {
-        Expr::Literal(Literal::Bool(true)) => copy_of(alloc, b),
-        Expr::Literal(Literal::Bool(false)) => Ok(Some(Expr::Literal(Literal::Bool(false)))),
+        Expr::Literal(Literal::Bool(truth)) if *truth == neutral => copy_of(alloc, b),
+        Expr::Literal(Literal::Bool(truth)) => Ok(Some(Expr::Literal(Literal::Bool(*truth)))),
         _ => {
             let first = b.try_copy()?;
             let second = a.try_copy()?;
-            Ok(Some(Expr::And(first, second)))
-        }
-    }
-}
-
-/// What `(or a b)` is where a is a literal, else `(or b a)`.
-fn turned_or(alloc: Global, a: &ExprChild, b: &ExprChild) -> Result<Option<Expr>, Memory>
-    ensures { IfOk result (λ o. option_map expression_of o ≡ Some (turned_or a.now b.now)) }
-{
-    match a.get() {
-        Expr::Literal(Literal::Bool(true)) => Ok(Some(Expr::Literal(Literal::Bool(true)))),
-        Expr::Literal(Literal::Bool(false)) => copy_of(alloc, b),
-        _ => {
-            let first = b.try_copy()?;
-            let second = a.try_copy()?;
-            Ok(Some(Expr::Or(first, second)))
+            Ok(Some(with_two_parts(operator, first, second)))
         }
     }
 }

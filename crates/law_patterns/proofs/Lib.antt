@@ -8,3 +8,4 @@ pub mod NetFits
 pub mod NetRows
 pub mod NetRules
 pub mod OneRightSide
+pub mod Tables

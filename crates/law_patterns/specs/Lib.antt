@@ -8,3 +8,4 @@ pub mod NetMatching
 pub mod NetBuilding
 pub mod NetRule
 pub mod PatternLaws
+pub mod Table

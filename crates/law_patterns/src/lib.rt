@@ -23,6 +23,7 @@ mod net_todo;
 mod rewrite;
 mod stack;
 mod sym;
+mod table;
 mod todo;
 
 pub use laws::pattern_laws;
@@ -32,3 +33,4 @@ pub use sym::{
     ADD, EVENT, F, FALSE, FST, G, H, I, IF, Letter, MUL, NEG, NONE, NOT, ON, PAIR, SND, SUB, Sym,
     THEN, TRUE, UNIT, X,
 };
+pub use table::{LawLine, law_at};

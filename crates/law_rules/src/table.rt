@@ -1,6 +1,6 @@
 // The laws as a table.
 
-ghost use Rattle.std.specs.Prelude.{◌≡◌, [], get_or, map};
+ghost use Rattle.std.specs.Prelude.{◌≡◌};
 ghost use Rattle.law_rules.specs.Table.{left_at, right_at, rule_at};
 
 use NetSym::{
@@ -11,7 +11,7 @@ use Rule::{
     BeforeMembers, ElementsApart, MembersApart, Nothing, OneMember, Resumed, Sides, Unchanging,
     WithoutInput,
 };
-use law_patterns::{Letter, NetLetter, NetSym, Sym};
+use law_patterns::{LawLine, Letter, NetLetter, NetSym, Sym, law_at};
 
 /// What a law is.
 #[derive(Clone, Copy)]
@@ -67,15 +67,12 @@ const THEN: NetSym = Leaf(Sym::Then);
 
 const ON: NetSym = Leaf(Sym::On);
 
-/// What a law is, and its two sides, if it has any: each form is written before its expressions,
-/// and these before its networks.
-pub type Row = (Rule, &'static [NetSym], &'static [NetSym]);
-
 /// The greatest number of a law.
 pub const LAST_LAW: u8 = 51;
 
-/// The laws by number, from 0.
-pub const LAWS: [Row; 52] = [
+/// The laws by number, from 0. In each side a form is written before its expressions, and these
+/// before its networks.
+pub const LAWS: [LawLine<Rule, NetSym>; 52] = [
     (Nothing, &[], &[]),
     (Sides, &[Seq, Arr, X, NET_F], &[NET_F]),
     (Sides, &[Seq, NET_F, Arr, X], &[NET_F]),
@@ -318,22 +315,10 @@ pub const LAWS: [Row; 52] = [
 ];
 
 /// The law of this number.
-pub(crate) fn law_rule(number: u8) -> Row
+pub(crate) fn law_rule(number: u8) -> LawLine<Rule, NetSym>
     ensures rule { result.0 ≡ rule_at number }
     ensures left { result.1.now ≡ left_at number }
     ensures right { result.2.now ≡ right_at number }
 {
-    row_at(&LAWS, number)
-}
-
-/// The row of a number, in a table from 0; no law outside.
-fn row_at(laws: &'static [Row], number: u8) -> Row
-    ensures rule { result.0 ≡ get_or (map (λ row. row.0) laws.now) number Rule.Nothing }
-    ensures left { result.1.now ≡ get_or (map (λ row. row.1.now) laws.now) number [] }
-    ensures right { result.2.now ≡ get_or (map (λ row. row.2.now) laws.now) number [] }
-{
-    match laws.get(usize::from(number)) {
-        Some(row) => *row,
-        None => (Nothing, &[], &[]),
-    }
+    law_at(&LAWS, number, Nothing)
 }

@@ -3,7 +3,7 @@ use Rattle.std.proofs.Common.{◌≡◌, ◌↔◌, ℕ, true, false, nat_eq, if
 use Rattle.std.specs.Hash as fed
 use Rattle.leaf_core.specs.Expression.{Expression, nodes_in, input, param, unit_expr, bool_expr, int_expr, pair_expr, fst, snd, then_expr, neg, add, sub, mul, less, equal, not_expr, and_expr, or_expr, if_expr, no_event_expr, event_expr, on, list_expr, nth, len}
 use Rattle.leaf_core.specs.HashWrites.{tag_of, expression_writes}
-use Rattle.leaf_core.specs.Inside.{Inside, nothing, index, literal, one, two, three, one_type, row, inside_of, inside_nodes, inside_fed}
+use Rattle.leaf_core.specs.Inside.{Inside, nothing, index, literal, one, two, three, one_type, many, inside_of, inside_nodes, inside_fed}
 
 -- the expression of a form with this inside
 abbrev form_with : ℕ → Inside → Expression
@@ -16,7 +16,7 @@ form_with n (two a b) = if nat_eq n 5 then pair_expr a b else if nat_eq n 8 then
     else if nat_eq n 12 then mul a b else if nat_eq n 13 then less a b else if nat_eq n 14 then equal a b else if nat_eq n 16 then and_expr a b else or_expr a b
 form_with n (three a b c) = if nat_eq n 18 then if_expr a b c else if nat_eq n 21 then on a b c else nth a b c
 form_with n (one_type t) = no_event_expr t
-form_with n (row t es) = list_expr t es
+form_with n (many t es) = list_expr t es
 
 -- what is said of an expression by its form and what stands inside it
 forms : (e : Expression) →

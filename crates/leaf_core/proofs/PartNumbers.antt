@@ -8,7 +8,7 @@ use Rattle.std.proofs.lemmas.List.{length-map}
 use Rattle.leaf_core.specs.Expression.{Expression, expressions_of, and_then}
 use Rattle.leaf_core.specs.ExpressionView.{expression_of}
 use Rattle.leaf_core.specs.Parts.{element, with_element, part_inside, part}
-use Rattle.leaf_core.specs.Inside.{row, inside_of}
+use Rattle.leaf_core.specs.Inside.{many, inside_of}
 use Rattle.sample_core.specs.TypeTree.{TypeTree}
 use Rattle.leaf_core.specs.declared.expr.Expr.{Expr}
 
@@ -25,7 +25,7 @@ place_found all k (Some x) found within =
     ap (λ e. Some (expression_of e)) found ∙ sym (element_is all k ∙ ap (option_map expression_of) (slice_get-get_or all k x.now within.0))
 
 -- what a place of the elements of a list expression holds
-pub element_found : (e : Expression) (t : TypeTree) (all : List Expr) (es : List Expression) (k : ℕ) (r : Option (Bor Expr)) → row t (expressions_of es) ≡ inside_of e
+pub element_found : (e : Expression) (t : TypeTree) (all : List Expr) (es : List Expression) (k : ℕ) (r : Option (Bor Expr)) → many t (expressions_of es) ≡ inside_of e
     → map expression_of all ≡ es → IfSome r (λ x. x.now ≡ get_or all k x.now) → MatchOption r (length all ≤ k) (λ x. (k < length all) × HoldsAt (λ y. x.now ≡ y) all k)
     → option_map (λ e. expression_of e.now) r ≡ part e k
 element_found e t all es k r q p found within =

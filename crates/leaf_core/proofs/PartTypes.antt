@@ -6,7 +6,7 @@ use Rattle.sample_core.specs.TypeTree.{TypeTree, pair_ty, event_ty, list_ty}
 use Rattle.leaf_core.specs.Expression.{Expression, Expressions, no_more, and_then, pair_expr, fst, snd, then_expr, neg, add, sub, mul, less, equal, not_expr, and_expr, or_expr, if_expr, event_expr, bool_expr, on, list_expr, nth, len}
 use Rattle.leaf_core.specs.ExpressionTyping.{ExpressionTyped, ExpressionsTyped, bool_typed, pair_typed, fst_typed, snd_typed, then_typed, neg_typed, add_typed, sub_typed, mul_typed, less_typed, equal_typed, not_typed, and_typed, or_typed, if_typed, event_typed, on_typed, list_typed, nth_typed, len_typed, no_more_typed, and_then_typed}
 use Rattle.leaf_core.specs.ExpressionLimits.{Within, AllWithin}
-use Rattle.leaf_core.specs.Inside.{row}
+use Rattle.leaf_core.specs.Inside.{many}
 use Rattle.leaf_core.specs.Parts.{element, with_element, refilled, part, with_part, part_at, with_part_at, HasInputOfWhole, PartInput, behind_first, with_event, as_whole, InputAt, input_here, input_inside}
 use Rattle.leaf_core.specs.PartWalk.{with_carried, part_input, part_type_at}
 use Rattle.leaf_core.proofs.Exactness.{walk-complete}
@@ -90,7 +90,7 @@ part_typed (on_typed {A = A} {C = C} {V = V} h i j) w (suc (suc zero)) =
 part_typed {Ps = Ps} {A = A} (list_typed {T = T} {es = es} hs) w k = go (element es k) (element_typed hs w.1 k)
   where
     put_in : (o : Option Expressions) → IfSome o (λ v. ExpressionsTyped v Ps A T)
-        → IfSome (option_map (refilled (list_expr T es)) (option_map (row T) o)) (λ v. ExpressionTyped v Ps A (list_ty T))
+        → IfSome (option_map (refilled (list_expr T es)) (option_map (many T) o)) (λ v. ExpressionTyped v Ps A (list_ty T))
     put_in None h = tt
     put_in (Some v) h = list_typed h
 
@@ -182,7 +182,7 @@ kept Ps A (on a b c) (suc (suc zero)) s = (refl, go)
 kept Ps A (list_expr T es) k s = go (with_element es k s) (element_there es k s)
   where
     go : (o : Option Expressions) → IfSome o (λ v. element v k ≡ Some s)
-        → IfSome (option_map (refilled (list_expr T es)) (option_map (row T) o))
+        → IfSome (option_map (refilled (list_expr T es)) (option_map (many T) o))
         (λ v. (part v k ≡ Some s) × ((B : TypeTree) → PartInput Ps A (list_expr T es) k B → PartInput Ps A v k B))
     go None h = tt
     go (Some v) h = (h, as_before tt tt)
@@ -195,7 +195,7 @@ kept Ps A (bool_expr true) k s = tt
 kept Ps A _ k s = tt
 
 -- the one value of an option
-value_is : {X : Type 0} (P : X → Type 0) {o : Option X} {x : X} → o ≡ Some x → IfSome o P → P x
+pub value_is : {X : Type 0} (P : X → Type 0) {o : Option X} {x : X} → o ≡ Some x → IfSome o P → P x
 value_is P e h = subst (λ o. IfSome o P) e h
 
 nothing_is : {X : Type 0} {x : X} → None ≡ Some x → ⊥

@@ -7,7 +7,7 @@ use Rattle.sample_core.specs.HasType.{HasType, pair_has, no_event_has, event_has
 use Rattle.leaf_core.specs.Expression.{Expression, Expressions, pair_expr, fst, snd, then_expr, neg, add, sub, mul, less, equal, not_expr, and_expr, or_expr, if_expr, event_expr, on, list_expr, nth, len, and_then}
 use Rattle.leaf_core.specs.ExpressionValue.{value_of, values_of, wrap, same_datum, is_true, choose, on_event, element_at, count_of}
 use Rattle.leaf_core.specs.ExpressionTyping.{ExpressionTyped, ExpressionsTyped, input_typed, param_typed, unit_typed, bool_typed, int_typed, pair_typed, fst_typed, snd_typed, then_typed, neg_typed, add_typed, sub_typed, mul_typed, less_typed, equal_typed, not_typed, and_typed, or_typed, if_typed, no_event_typed, event_typed, on_typed, list_typed, nth_typed, len_typed, no_more_typed, and_then_typed}
-use Rattle.leaf_core.specs.Inside.{row}
+use Rattle.leaf_core.specs.Inside.{many}
 use Rattle.leaf_core.specs.Parts.{element, with_element, refilled, part, with_part, part_at, with_part_at, PartInput, behind_first, with_event, as_whole, InputAt, input_here, input_inside}
 use Rattle.leaf_core.specs.SameValue.{SameValue}
 use Rattle.leaf_core.specs.PartLaws.{SamePartLaw}
@@ -189,7 +189,7 @@ module _ (Ps : List TypeTree) (A : TypeTree) where
         out = T;
         part_typed = r.element_typed;
         whole = λ s. list_expr T (r.others s);
-        whole_is = λ s. ap (λ o. option_map (refilled e) (option_map (row T) o)) (r.others_is s);
+        whole_is = λ s. ap (λ o. option_map (refilled e) (option_map (many T) o)) (r.others_is s);
         whole_typed = λ s t. list_typed (r.others_typed s t);
         whole_same = λ s q ps x k l. ap (λ vs. list (list_of vs)) (r.others_same s q ps x k l);
       }

@@ -7,11 +7,11 @@ use Rattle.sample_core.specs.TypeTree.{TypeTree, pair_ty, list_ty}
 use Rattle.leaf_core.specs.Expression.{Expression, Expressions, and_then, list_expr}
 use Rattle.leaf_core.specs.ExpressionTyping.{ExpressionTyped, ExpressionsTyped, bool_typed, pair_typed, fst_typed, snd_typed, then_typed, neg_typed, add_typed, sub_typed, mul_typed, less_typed, equal_typed, not_typed, and_typed, or_typed, if_typed, event_typed, on_typed, list_typed, nth_typed, len_typed, no_more_typed, and_then_typed}
 use Rattle.leaf_core.specs.ExpressionLimits.{Within, AllWithin, TypedWithin}
-use Rattle.leaf_core.specs.Inside.{row}
+use Rattle.leaf_core.specs.Inside.{many}
 use Rattle.leaf_core.specs.Parts.{element, with_element, refilled, part, with_part, with_part_at}
 use Rattle.leaf_core.specs.PartWalk.{with_carried, part_input, part_type_at}
 use Rattle.leaf_core.proofs.Exactness.{walk-complete, walk-sound}
-use Rattle.leaf_core.proofs.PartTypes.{Inner, inner}
+use Rattle.leaf_core.proofs.PartTypes.{value_is, Inner, inner}
 
 -- part k of an expression of type B, which gets an A: the type of what it gets and its own; another part gets the same, and one of that type leaves the whole a B
 pub record WithinPart (Ps : List TypeTree) (A B : TypeTree) (e : Expression) (k : ℕ) (c : Expression) : Type 0 where
@@ -98,7 +98,7 @@ within_part (on_typed {A = A} {C = C} {V = V} h i j) w (suc (suc zero)) =
 within_part {Ps = Ps} {A = A} (list_typed {T = T} {es = es} hs) w k = go (element es k) (element_within hs w.1 k)
   where
     put_in : (s : Expression) → (o : Option Expressions) → IfSome o (λ v. (element v k ≡ Some s) × (TypedWithin s Ps A T → AllTypedWithin Ps A T v))
-        → IfSome (option_map (refilled (list_expr T es)) (option_map (row T) o))
+        → IfSome (option_map (refilled (list_expr T es)) (option_map (many T) o))
         (λ v. (part v k ≡ Some s) × (part_input Ps A v k ≡ Some A) × (TypedWithin s Ps A T → TypedWithin v Ps A (list_ty T)))
     put_in s None h = tt
     put_in s (Some v) h = (h.0, refl, λ t. let all = h.1 t in with_limits (list_typed all.0) (w.0, all.1, w.2))
@@ -113,9 +113,6 @@ within_part (len_typed h) w zero = as_whole refl h w.0 (λ s. (refl, refl, λ t.
 within_part (bool_typed {b = false}) w k = tt
 within_part (bool_typed {b = true}) w k = tt
 within_part _ w k = tt
-
-value_is : {X : Type 0} (P : X → Type 0) {o : Option X} {x : X} → o ≡ Some x → IfSome o P → P x
-value_is P e h = subst (λ o. IfSome o P) e h
 
 -- what is found at a path, found at its rest in the part
 below : (Ps : List TypeTree) (A D C : TypeTree) (e c : Expression) (k : ℕ) (p : List ℕ) → part e k ≡ Some c → part_input Ps A e k ≡ Some D

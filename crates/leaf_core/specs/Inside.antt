@@ -21,7 +21,7 @@ pub data Inside : Type 0 where
   two : Expression → Expression → Inside
   three : Expression → Expression → Expression → Inside
   one_type : TypeTree → Inside
-  row : TypeTree → Expressions → Inside
+  many : TypeTree → Expressions → Inside
 
 -- what stands inside an expression; with the number of its form it is the expression
 abbrev pub inside_of : Expression → Inside
@@ -48,7 +48,7 @@ inside_of (if_expr a b c) = three a b c
 inside_of (no_event_expr t) = one_type t
 inside_of (event_expr a) = one a
 inside_of (on a b c) = three a b c
-inside_of (list_expr t es) = row t es
+inside_of (list_expr t es) = many t es
 inside_of (nth a b c) = three a b c
 inside_of (len a) = one a
 
@@ -61,14 +61,14 @@ inside_in (V.One a) = one a.now
 inside_in (V.Two a b) = two a.now b.now
 inside_in (V.Three a b c) = three a.now b.now c.now
 inside_in (V.Type t) = one_type (type_of t.now)
-inside_in (V.Elements t es) = row (type_of t.now) (expressions_of es.now)
+inside_in (V.Elements t es) = many (type_of t.now) (expressions_of es.now)
 
 -- how many expressions an expression is made of, by what stands inside it
 abbrev pub inside_nodes : Inside → ℕ
 inside_nodes (one a) = suc (nodes_in a)
 inside_nodes (two a b) = suc (nodes_in a + nodes_in b)
 inside_nodes (three a b c) = suc (nodes_in a + nodes_in b + nodes_in c)
-inside_nodes (row t es) = suc (nodes_in_all es)
+inside_nodes (many t es) = suc (nodes_in_all es)
 inside_nodes _ = 1
 
 -- what a hasher is fed behind the number of the form
@@ -80,7 +80,7 @@ inside_fed (one a) = expression_writes a
 inside_fed (two a b) = expression_writes a ++ expression_writes b
 inside_fed (three a b c) = expression_writes a ++ (expression_writes b ++ expression_writes c)
 inside_fed (one_type t) = type_writes t
-inside_fed (row t es) = type_writes t ++ (expressions_writes es ++ fed.u8 26)
+inside_fed (many t es) = type_writes t ++ (expressions_writes es ++ fed.u8 26)
 
 -- the code's expression of a form that has nothing inside
 abbrev pub plain : Expr → Expr

@@ -3,7 +3,7 @@ use Rattle.std.specs.Prelude.{◌≡◌, ℕ, zero, suc, List, [], ◌∷◌, Op
 use Rattle.sample_core.specs.TypeTree.{TypeTree, pair_ty, event_ty}
 use Rattle.leaf_core.specs.Expression.{Expression, Expressions, no_more, and_then, pair_expr, fst, snd, then_expr, neg, add, sub, mul, less, equal, not_expr, and_expr, or_expr, if_expr, event_expr, on, list_expr, nth, len}
 use Rattle.leaf_core.specs.ExpressionTyping.{ExpressionTyped}
-use Rattle.leaf_core.specs.Inside.{Inside, one, two, three, row, inside_of}
+use Rattle.leaf_core.specs.Inside.{Inside, one, two, three, many, inside_of}
 
 -- element k of a list expression
 abbrev pub element : Expressions → ℕ → Option Expression
@@ -25,7 +25,7 @@ part_inside (two a b) (suc zero) = Some b
 part_inside (three a b c) zero = Some a
 part_inside (three a b c) (suc zero) = Some b
 part_inside (three a b c) (suc (suc zero)) = Some c
-part_inside (row t es) k = element es k
+part_inside (many t es) k = element es k
 part_inside _ k = None
 
 -- what stands inside, with s in place of part k; nothing where there is no such part
@@ -36,7 +36,7 @@ inside_with (two a b) (suc zero) s = Some (two a s)
 inside_with (three a b c) zero s = Some (three s b c)
 inside_with (three a b c) (suc zero) s = Some (three a s c)
 inside_with (three a b c) (suc (suc zero)) s = Some (three a b s)
-inside_with (row t es) k s = option_map (row t) (with_element es k s)
+inside_with (many t es) k s = option_map (many t) (with_element es k s)
 inside_with _ k s = None
 
 -- the expression of the form of another that has parts, with this inside
@@ -57,7 +57,7 @@ refilled (or_expr _ _) (two a b) = or_expr a b
 refilled (if_expr _ _ _) (three a b c) = if_expr a b c
 refilled (event_expr _) (one a) = event_expr a
 refilled (on _ _ _) (three a b c) = on a b c
-refilled (list_expr _ _) (row t es) = list_expr t es
+refilled (list_expr _ _) (many t es) = list_expr t es
 refilled (nth _ _ _) (three a b c) = nth a b c
 refilled (len _) (one a) = len a
 refilled e _ = e

@@ -2,7 +2,7 @@
 
 ghost use Rattle.std.specs.Prelude.{◌≡◌, ◌<◌, IfOk, length, map, option_map, set};
 ghost use Rattle.sample_core.specs.TypeView.{type_of};
-ghost use Rattle.leaf_core.specs.{ExpressionView.expression_of, Inside.one, Inside.two, Inside.three, Inside.row, Inside.inside_of};
+ghost use Rattle.leaf_core.specs.{ExpressionView.expression_of, Inside.one, Inside.two, Inside.three, Inside.many, Inside.inside_of};
 ghost use Rattle.leaf_core.specs.Expression.{expressions_of, list_expr};
 ghost use Rattle.leaf_core.specs.Parts.{inside_with, part, part_at, refilled, with_part, with_part_at};
 
@@ -176,7 +176,7 @@ fn with_element(
 ) -> Result<Option<Expr>, Memory>
     ensures { IfOk result (λ found. option_map expression_of found
         ≡ option_map (refilled (list_expr (type_of element.now) (expressions_of all.now)))
-        (inside_with (row (type_of element.now) (expressions_of all.now)) k
+        (inside_with (many (type_of element.now) (expressions_of all.now)) k
         (expression_of other))) }
 {
     let elements = all.as_slice();

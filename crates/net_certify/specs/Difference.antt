@@ -21,7 +21,7 @@ tree_child (a_leaf e) k = option_map a_leaf (part e k)
 abbrev pub number_in : FormParts → ℕ
 number_in (F.index k) = k
 number_in (F.timed q e) = q
-number_in (F.row fs) = members fs
+number_in (F.many fs) = members fs
 number_in (F.routed r fs e t) = members fs
 number_in (F.collection fs m t) = members fs
 number_in _ = 0
@@ -34,7 +34,7 @@ elements (and_then e es) = suc (elements es)
 -- the number in an expression's node: of a parameter, or how many elements
 abbrev pub number_inside : Inside → ℕ
 number_inside (I.index k) = k
-number_inside (I.row t es) = elements es
+number_inside (I.many t es) = elements es
 number_inside _ = 0
 
 -- that of a literal
@@ -45,7 +45,7 @@ literal_inside _ = None
 -- the type in it
 abbrev pub type_inside : Inside → Option TypeTree
 type_inside (I.one_type t) = Some t
-type_inside (I.row t es) = Some t
+type_inside (I.many t es) = Some t
 type_inside _ = None
 
 -- two expressions are the same but for their parts

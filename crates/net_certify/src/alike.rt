@@ -67,7 +67,7 @@ fn number_in(net: &Net<Expr>) -> u64
     match parts_inside(net) {
         Parts::Index(k) => u64::from(k),
         Parts::Timed(q, _) => q,
-        Parts::Row(fs) | Parts::Routed(_, fs, _, _) | Parts::Collection(fs, _, _) => {
+        Parts::Many(fs) | Parts::Routed(_, fs, _, _) | Parts::Collection(fs, _, _) => {
             fs.as_slice().len() as u64
         }
         _ => 0,

@@ -4,12 +4,13 @@ use Rattle.std.specs.Prelude.{option_and_then}
 use Rattle.std.proofs.lemmas.Option.{none-some, same_Some}
 use Rattle.sample_core.specs.TypeTree.{TypeTree}
 use Rattle.leaf_core.specs.Expression.{Expression, Expressions, no_more, and_then, bool_expr, pair_expr, fst, snd, then_expr, neg, add, sub, mul, less, equal, not_expr, and_expr, or_expr, if_expr, event_expr, on, list_expr, nth, len}
-use Rattle.leaf_core.specs.Inside.{Inside, one, two, three, row, inside_of}
+use Rattle.leaf_core.specs.Inside.{Inside, one, two, three, many, inside_of}
 use Rattle.leaf_core.specs.Parts.{element, with_element, part_inside, inside_with, refilled, part, with_part, part_at, with_part_at}
-use Rattle.leaf_core.proofs.PartTypes.{inner}
+use Rattle.leaf_core.proofs.PartTypes.{inner, value_is}
 use Rattle.net_tree.specs.Network.{Network, Networks, arr, seq, first, par, loop_pre, i_pre, delay, hold, accum_by, after, repeatedly, switch, r_switch, k_switch, p_switch, initial_out, initial_in, rp_switch, no_members, and_member}
 use Rattle.net_tree.specs.Place.{◌>>=◌, Tree, a_network, a_leaf, member, child, child_network, collection_child, PSwitchChild, p_switch_child, member_child, event_child, continuation_child, no_child}
 use Rattle.net_syntax.specs.Placed.{Bound, Placed, placed, placed_at, bound_in, bound_behind, bound_started, with_member, with_child, with_p_switch_child, with_collection_child, replaced}
+use Rattle.net_syntax.proofs.Splits.{split}
 use Rattle.net_opt.specs.Order.{LeftOf, lower, deeper}
 
 -- what holds of the numbers below 1, 2
@@ -52,10 +53,10 @@ inside_put (two a b) (suc zero) s = record { here = refl; left = below_one (λ l
 inside_put (three a b c) zero s = record { here = refl; left = none_below (λ l. part_inside (three s b c) l ≡ part_inside (three a b c) l) }
 inside_put (three a b c) (suc zero) s = record { here = refl; left = below_one (λ l. part_inside (three a s c) l ≡ part_inside (three a b c) l) refl }
 inside_put (three a b c) (suc (suc zero)) s = record { here = refl; left = below_two (λ l. part_inside (three a b s) l ≡ part_inside (three a b c) l) refl refl }
-inside_put (row t es) k s = go (with_element es k s) (element_put es k s)
+inside_put (many t es) k s = go (with_element es k s) (element_put es k s)
   where
     go : (o : Option Expressions) → IfSome o (λ fs. (element fs k ≡ Some s) × ((l : ℕ) → l < k → element fs l ≡ element es l))
-        → IfSome (option_map (row t) o) (PartPut s k (row t es))
+        → IfSome (option_map (many t) o) (PartPut s k (many t es))
     go None h = tt
     go (Some fs) h = record { here = h.0; left = h.1 }
 inside_put _ k s = tt
@@ -64,7 +65,7 @@ inside_put _ k s = tt
 abbrev Refills : Expression → ℕ → Expression → Type 0
 Refills e k s = IfSome (inside_with (inside_of e) k s) (λ i. inside_of (refilled e i) ≡ i)
 
-row_refills : (t : TypeTree) (es : Expressions) (o : Option Expressions) → IfSome (option_map (row t) o) (λ i. inside_of (refilled (list_expr t es) i) ≡ i)
+row_refills : (t : TypeTree) (es : Expressions) (o : Option Expressions) → IfSome (option_map (many t) o) (λ i. inside_of (refilled (list_expr t es) i) ≡ i)
 row_refills t es None = tt
 row_refills t es (Some fs) = refl
 
@@ -342,33 +343,9 @@ child_put (initial_in c f) (suc zero) (a_network s) = put_second (initial_in c f
 child_put (rp_switch fs m t) k s = collection_put fs m t k (p_switch_child fs k) refl s
 child_put _ k s = tt
 
--- a tree that is replaced, split at the first number of the position
-record Split (f : Network Expression) (k : ℕ) (p : List ℕ) (s w : Tree Expression) : Type 0 where
-  before : Tree Expression
-  there : child f k ≡ Some before
-  now : Tree Expression
-  changed : replaced before p s ≡ Some now
-  net : Network Expression
-  put : ChildPut now k f net
-  whole : a_network net ≡ w
-
-split : (f : Network Expression) (k : ℕ) (p : List ℕ) (s w : Tree Expression) → replaced (a_network f) (k ∷ p) s ≡ Some w → Split f k p s w
-split f k p s w q = at_child (child f k) refl q
-  where
-    put_there : (c : Tree Expression) → child f k ≡ Some c → (d : Tree Expression) → replaced c p s ≡ Some d → (o : Option (Network Expression))
-        → IfSome o (ChildPut d k f) → option_map a_network o ≡ Some w → Split f k p s w
-    put_there c i d j None l r = absurd (none-some w r)
-    put_there c i d j (Some v) l r = record { before = c; there = i; now = d; changed = j; net = v; put = l; whole = same_Some (a_network v) w r }
-
-    at_now : (c : Tree Expression) → child f k ≡ Some c → (o : Option (Tree Expression)) → replaced c p s ≡ o
-        → (o >>= (λ d. option_map a_network (with_child f k d))) ≡ Some w → Split f k p s w
-    at_now c i None j r = absurd (none-some w r)
-    at_now c i (Some d) j r = put_there c i d j (with_child f k d) (child_put f k d) r
-
-    at_child : (o : Option (Tree Expression)) → child f k ≡ o → (o >>= (λ c. replaced c p s >>= (λ d. option_map a_network (with_child f k d)))) ≡ Some w
-        → Split f k p s w
-    at_child None i r = absurd (none-some w r)
-    at_child (Some c) i r = at_now c i (replaced c p s) refl r
+-- a child that is put at its place, in what that makes
+put_there : (f : Network Expression) (k : ℕ) (s : Tree Expression) (w : Network Expression) → with_child f k s ≡ Some w → ChildPut s k f w
+put_there f k s w q = value_is (ChildPut s k f) q (child_put f k s)
 
 -- what stands at the rest of a position, in a child with so much bound
 abbrev below : ℕ → ℕ → List ℕ → Bound → Option (Tree Expression) → Option Placed
@@ -391,11 +368,12 @@ beside {p = p} h m n (a_leaf e) (a_leaf s) u r = leaf_beside h m n e s u (with_p
 beside h m n (a_leaf e) (a_network s) u r = absurd (none-some u r)
 beside (lower {j = j} {k = k} {q = q} {p = p} lt) m n (a_network f) s u r =
     let t = split f k p s u r in
-    let same = t.put.left j lt in
+    let same = (put_there f k t.now t.net t.is).left j lt in
     subst (λ w. placed_at m n w (j ∷ q) ≡ placed_at m n (a_network f) (j ∷ q)) t.whole (below_same m n q same.1 same.0)
 beside (deeper {k = k} {q = q} {p = p} h) m n (a_network f) s u r =
     let t = split f k p s u r in
+    let put = put_there f k t.now t.net t.is in
     let b = bound_in f k in
     subst (λ w. placed_at m n w (k ∷ q) ≡ placed_at m n (a_network f) (k ∷ q)) t.whole
-    (below_same m n q t.put.bound_here t.put.here
+    (below_same m n q put.bound_here put.here
     ∙ (beside h (m + b.params) (n + b.olds) t.before s t.now t.changed ∙ sym (below_same m n q refl t.there)))

@@ -2,7 +2,7 @@
 use Rattle.std.proofs.Common.{◌≡◌, ℕ, zero, suc, ◌+◌, ◌≤◌, ◌<◌, Option, Some, None, option_map, refl, sym, ap, ◌∙◌, subst, arith}
 use Rattle.std.specs.Prelude.{IfSome}
 use Rattle.leaf_core.specs.Expression.{Expression, Expressions, no_more, and_then, nodes_in, nodes_in_all}
-use Rattle.leaf_core.specs.Inside.{Inside, one, two, three, row, inside_of, inside_nodes}
+use Rattle.leaf_core.specs.Inside.{Inside, one, two, three, many, inside_of, inside_nodes}
 use Rattle.leaf_core.specs.Parts.{element, part_inside, part}
 use Rattle.leaf_core.proofs.InsideLaws.{nodes_inside}
 use Rattle.net_tree.specs.Network.{Network, Networks, network_size, networks_size, arr, seq, first, par, loop_pre, i_pre, delay, hold, accum_by, after, repeatedly, switch, r_switch, k_switch, p_switch, initial_out, initial_in, rp_switch, no_members, and_member}
@@ -124,7 +124,7 @@ some_inside : (i : Inside) → 1 ≤ inside_nodes i
 some_inside (one a) = omega arith
 some_inside (two a b) = omega arith
 some_inside (three a b c) = omega arith
-some_inside (row t es) = omega arith
+some_inside (many t es) = omega arith
 some_inside _ = omega arith
 
 some_node : (e : Expression) → 1 ≤ nodes_in e
@@ -147,7 +147,7 @@ inside_fits (two a b) (suc zero) = (omega arith, omega (arith, some_node a))
 inside_fits (three a b c) zero = (omega arith, omega arith)
 inside_fits (three a b c) (suc zero) = (omega arith, omega (arith, some_node a))
 inside_fits (three a b c) (suc (suc zero)) = (omega arith, omega (arith, some_node a, some_node b))
-inside_fits (row t es) k = go (element es k) (element_fits es k)
+inside_fits (many t es) k = go (element es k) (element_fits es k)
   where
     go : (o : Option Expression) → IfSome o (λ c. (nodes_in c ≤ nodes_in_all es) × (k < nodes_in_all es)) → IfSome o (PartFits (suc (nodes_in_all es)) k)
     go None h = tt
@@ -240,7 +240,7 @@ parts_in_a_row (F.two f g) (suc k) = tt
 parts_in_a_row (F.three f g h) zero = tt
 parts_in_a_row (F.three f g h) (suc zero) = tt
 parts_in_a_row (F.three f g h) (suc (suc k)) = tt
-parts_in_a_row (F.row fs) k = members_in_a_row fs k
+parts_in_a_row (F.many fs) k = members_in_a_row fs k
 parts_in_a_row (routed r fs e t) zero = always (option_map a_network (child_network (p_switch_child fs zero) fs e t zero))
 parts_in_a_row (routed r fs e t) (suc k) = behind_in_a_row fs e t k
 parts_in_a_row (collection fs m t) k = collection_in_a_row fs m t k
@@ -257,7 +257,7 @@ insides_in_a_row (two a b) (suc k) = tt
 insides_in_a_row (three a b c) zero = tt
 insides_in_a_row (three a b c) (suc zero) = tt
 insides_in_a_row (three a b c) (suc (suc k)) = tt
-insides_in_a_row (row t es) k = elements_in_a_row es k
+insides_in_a_row (many t es) k = elements_in_a_row es k
 insides_in_a_row _ k = tt
 
 -- where nothing is inside at a number, nothing is at a later one

@@ -5,7 +5,7 @@ use Rattle.std.proofs.lemmas.Option.{none-some, same_Some}
 use Rattle.sample_core.specs.TypeTree.{TypeTree}
 use Rattle.leaf_core.specs.Expression.{Expression}
 use Rattle.leaf_core.specs.Parts.{part, with_part, part_at, with_part_at, InputAt}
-use Rattle.leaf_core.proofs.PartTypes.{Inner, inner, kept_there}
+use Rattle.leaf_core.proofs.PartTypes.{value_is, Inner, inner, kept_there}
 use Rattle.net_tree.specs.Network.{Network}
 use Rattle.net_tree.specs.Place.{◌>>=◌, Tree, a_network, a_leaf, child}
 use Rattle.net_syntax.specs.Placed.{with_child, replaced}
@@ -13,12 +13,10 @@ use Rattle.net_meaning.specs.NetworkLimits.{NetTypedWithin}
 use Rattle.net_syntax.specs.Standing.{Standing, standing, TreeWithin, ChildStands, StandsAt, at_network, inside_network, inside_expression}
 use Rattle.net_syntax.specs.StandingWalk.{inside}
 use Rattle.net_syntax.proofs.OnePlace.{populated, one_place}
+use Rattle.net_syntax.proofs.Splits.{Split, split}
 use Rattle.net_types.proofs.ChangedPlaces.{kept}
 use Rattle.net_types.proofs.Holes.{Hole, hole, found_there}
 use Rattle.net_search.proofs.Restored.{part_restored, child_restored}
-
-value_is : {X : Type 0} (P : X → Type 0) {o : Option X} {x : X} → o ≡ Some x → IfSome o P → P x
-value_is P e h = subst (λ o. IfSome o P) e h
 
 one_of : {X : Type 0} {o : Option X} {a b : X} → o ≡ Some a → o ≡ Some b → a ≡ b
 one_of {a = a} {b = b} e h = same_Some a b (sym e ∙ h)
@@ -34,35 +32,6 @@ leaf_back e (k ∷ p) s v c q r =
     let below : with_part_at t.now p c ≡ Some t.before =
     leaf_back t.before p s t.now c t.changed (sym (ap (option_and_then (λ a. part_at a p)) t.there) ∙ r) in
     ap (option_and_then (λ a. option_and_then (with_part v k) (with_part_at a p c))) h.0 ∙ (ap (option_and_then (with_part v k)) below ∙ back)
-
--- a tree that is replaced, split at the first number of the position
-record Split (f : Network Expression) (k : ℕ) (p : List ℕ) (s w : Tree Expression) : Type 0 where
-  before : Tree Expression
-  there : child f k ≡ Some before
-  now : Tree Expression
-  changed : replaced before p s ≡ Some now
-  net : Network Expression
-  is : with_child f k now ≡ Some net
-  whole : a_network net ≡ w
-
-split : (f : Network Expression) (k : ℕ) (p : List ℕ) (s w : Tree Expression) → replaced (a_network f) (k ∷ p) s ≡ Some w → Split f k p s w
-split f k p s w q = outer (child f k) refl q
-  where
-    innermost : (c d : Tree Expression) → child f k ≡ Some c → replaced c p s ≡ Some d → (o : Option (Network Expression)) → with_child f k d ≡ o
-        → option_map a_network o ≡ Some w → Split f k p s w
-    innermost c d i j None l r = absurd (none-some w r)
-    innermost c d i j (Some v) l r =
-        record { before = c; there = i; now = d; changed = j; net = v; is = l; whole = same_Some (a_network v) w r }
-
-    middle : (c : Tree Expression) → child f k ≡ Some c → (o : Option (Tree Expression)) → replaced c p s ≡ o
-        → (o >>= (λ d. option_map a_network (with_child f k d))) ≡ Some w → Split f k p s w
-    middle c i None j r = absurd (none-some w r)
-    middle c i (Some d) j r = innermost c d i j (with_child f k d) refl r
-
-    outer : (o : Option (Tree Expression)) → child f k ≡ o
-        → (o >>= (λ c. replaced c p s >>= (λ d. option_map a_network (with_child f k d)))) ≡ Some w → Split f k p s w
-    outer None i r = absurd (none-some w r)
-    outer (Some c) i r = middle c i (replaced c p s) refl r
 
 -- s stands in w where another stood in the tree, and with that one there w is the tree
 pub record PutBack (R Q : Standing) (tree there : Tree Expression) (p : List ℕ) (s w : Tree Expression) : Type 0 where

@@ -2,7 +2,7 @@
 use Rattle.std.proofs.Common.{◌≡◌, ℕ, zero, suc, Option, Some, None, IfSome, true, false, refl, ap, ◌∙◌}
 use Rattle.std.specs.Option.{option_map}
 use Rattle.leaf_core.specs.Expression.{Expression, Expressions, no_more, and_then, bool_expr, pair_expr, fst, snd, then_expr, neg, add, sub, mul, less, equal, not_expr, and_expr, or_expr, if_expr, event_expr, on, list_expr, nth, len}
-use Rattle.leaf_core.specs.Inside.{row}
+use Rattle.leaf_core.specs.Inside.{many}
 use Rattle.leaf_core.specs.Parts.{element, with_element, refilled, part, with_part}
 use Rattle.net_tree.specs.Network.{Network, Networks, arr, seq, first, par, loop_pre, i_pre, delay, hold, accum_by, after, repeatedly, switch, r_switch, k_switch, p_switch, initial_out, initial_in, rp_switch, no_members, and_member}
 use Rattle.net_tree.specs.Place.{Tree, a_network, a_leaf, member, child, child_network, collection_child, PSwitchChild, p_switch_child, member_child, event_child, continuation_child, no_child}
@@ -58,10 +58,10 @@ part_restored (on a b c) (suc (suc zero)) s = (refl, refl)
 part_restored (list_expr T es) k s = go (with_element es k s) (element es k) (element_restored es k s)
   where
     go : (w : Option Expressions) (o : Option Expression) → IfSome w (λ v. (element v k ≡ Some s) × IfSome o (λ c. with_element v k c ≡ Some es))
-        → IfSome (option_map (refilled (list_expr T es)) (option_map (row T) w)) (λ v. (part v k ≡ Some s) × IfSome o (λ c. with_part v k c ≡ Some (list_expr T es)))
+        → IfSome (option_map (refilled (list_expr T es)) (option_map (many T) w)) (λ v. (part v k ≡ Some s) × IfSome o (λ c. with_part v k c ≡ Some (list_expr T es)))
     go None o h = tt
     go (Some v) None h = (h.0, tt)
-    go (Some v) (Some c) h = (h.0, ap (λ z. option_map (refilled (list_expr T v)) (option_map (row T) z)) h.1)
+    go (Some v) (Some c) h = (h.0, ap (λ z. option_map (refilled (list_expr T v)) (option_map (many T) z)) h.1)
 part_restored (nth a b c) zero s = (refl, refl)
 part_restored (nth a b c) (suc zero) s = (refl, refl)
 part_restored (nth a b c) (suc (suc zero)) s = (refl, refl)

@@ -4,7 +4,7 @@ use Rattle.std.specs.Prelude.{IfSome}
 use Rattle.leaf_core.specs.Expression.{Expression}
 use Rattle.net_tree.specs.Network.{Network, Networks, network_size, networks_size, no_members, and_member}
 use Rattle.net_tree.specs.Place.{Tree, a_network, a_leaf, member, child, child_network, collection_child, PSwitchChild, p_switch_child, member_child, event_child, continuation_child, no_child}
-use Rattle.net_tree.specs.FormParts.{FormParts, leaf, timed, leaves, one, fed, two, three, row, routed, collection, parts_of, parts_size}
+use Rattle.net_tree.specs.FormParts.{FormParts, leaf, timed, leaves, one, fed, two, three, many, routed, collection, parts_of, parts_size}
 use Rattle.net_tree.proofs.FormLaws.{size_inside}
 use Rattle.net_syntax.specs.ChildParts.{child_inside}
 use Rattle.net_syntax.proofs.ChildNumbers.{child_is}
@@ -60,7 +60,7 @@ inside_falls (two f g) (suc zero) = omega arith
 inside_falls (three f g h) zero = omega arith
 inside_falls (three f g h) (suc zero) = omega arith
 inside_falls (three f g h) (suc (suc zero)) = omega arith
-inside_falls (row fs) k = member_falls fs _ (member fs k) (omega arith) (member_smaller fs k)
+inside_falls (many fs) k = member_falls fs _ (member fs k) (omega arith) (member_smaller fs k)
 inside_falls (routed r fs e t) zero = omega arith
 inside_falls (routed r fs e t) (suc k) = behind_falls fs e t k (p_switch_child fs k)
 inside_falls (collection fs m t) k = collection_falls fs m t k (p_switch_child fs k)

@@ -4,7 +4,7 @@ use Rattle.std.proofs.lemmas.Option.{same_Some}
 use Rattle.sample_core.specs.TypeTree.{TypeTree}
 use Rattle.leaf_core.specs.Expression.{Expression}
 use Rattle.leaf_core.specs.ExpressionTyping.{ExpressionTyped}
-use Rattle.leaf_core.proofs.PartTypes.{one_input}
+use Rattle.leaf_core.proofs.PartTypes.{one_input, value_is}
 use Rattle.leaf_core.proofs.Uniqueness.{one_type}
 use Rattle.net_tree.specs.Network.{Network}
 use Rattle.net_tree.specs.Place.{Tree, a_network, a_leaf, child}
@@ -14,10 +14,6 @@ use Rattle.net_syntax.specs.TypingLaws.{OneTypeAtLaw}
 use Rattle.net_meaning.proofs.StreamLaws.{one-output-type}
 use Rattle.net_syntax.proofs.FoundTypes.{ChildThere, child_there}
 use Rattle.net_syntax.proofs.OnePlace.{populated, one_place}
-
--- the one value of an option
-value_is : {X : Type 0} (P : X → Type 0) {o : Option X} {x : X} → o ≡ Some x → IfSome o P → P x
-value_is P e h = subst (λ o. IfSome o P) e h
 
 -- the child that stands there is typed within the limits
 child_within : {S R : Standing} {f : Network Expression} {B : TypeTree} {k : ℕ} {c : Tree Expression} → NetTypedWithin S.params S.olds f S.input B → child f k ≡ Some c

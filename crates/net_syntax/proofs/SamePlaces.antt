@@ -22,6 +22,7 @@ use Rattle.net_syntax.specs.Standing.{Standing, standing, TreeTyped, MembersType
 use Rattle.net_meaning.specs.Congruence.{TwinLeaf, Twin, TwinMembers, no_twins, and_twins}
 use Rattle.net_syntax.specs.SamePlace.{SameInPlace, SamePlaceLaw}
 use Rattle.net_syntax.proofs.Children.{event_is, continuation_is}
+use Rattle.net_syntax.proofs.Splits.{onward}
 use Rattle.net_meaning.proofs.SameNets.{same-arr, same-loop_pre, same-i_pre, same-delay, same-hold, same-accum_by, same-after, same-repeatedly, same-p_switch, same-typed, same-all_typed}
 use Rattle.net_meaning.proofs.Congruence.{leaf_same}
 use Rattle.net_meaning.proofs.SameForms.{seq_same, first_same, loop_same, switch_same, r_switch_same, k_switch_same, par_same, p_switch_same, initial_out_congruent, initial_in_congruent, collection_congruent}
@@ -529,16 +530,6 @@ module _ (Ps : List TypeTree) (Os : List Arrow) where
         whole_same = λ n i q. collection_congruent Ps Os D X C V fs fs m m t n (twins_of Ps Os D X fs ds) (own_leaf Ps C (choice_ty V) m h)
             (as_twin (Ps ++ V ∷ []) Os D X t n dt i q);
       }))
-
--- what goes on from what was found
-record Onward (X Y : Type 0) (o : Option X) (f : X → Option Y) (y : Y) : Type 0 where
-  from : X
-  was : o ≡ Some from
-  goes : f from ≡ Some y
-
-onward : {X Y : Type 0} (o : Option X) (f : X → Option Y) (y : Y) → P.◌>>=◌ o f ≡ Some y → Onward X Y o f y
-onward None f y e = absurd (none-some y e)
-onward (Some x) f y e = record { from = x; was = refl; goes = e }
 
 -- what does the same as a tree has its kind
 same_kind : (S : Standing) (c d : Tree Expression) → SameInPlace S c d → (n : Filler c) × (filled c n ≡ d)

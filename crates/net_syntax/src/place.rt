@@ -106,7 +106,7 @@ pub fn child(net: &Net<Expr>, k: u32) -> Option<TreeRef<'_>>
             2 => Some(TreeRef::Net(h.get())),
             _ => None,
         },
-        Parts::Row(fs) => Some(TreeRef::Net(member(fs, k)?)),
+        Parts::Many(fs) => Some(TreeRef::Net(member(fs, k)?)),
         Parts::Routed(r, fs, e, t) => match k {
             0 => Some(TreeRef::Expr(r)),
             _ => Some(TreeRef::Net(behind_route(fs, e, t, k - 1)?)),
@@ -125,7 +125,7 @@ pub(crate) fn child_count(net: &Net<Expr>) -> usize
         Parts::Leaf(_) | Parts::Timed(..) | Parts::One(_) => 1,
         Parts::Leaves(..) | Parts::Fed(..) | Parts::Two(..) => 2,
         Parts::Three(..) => 3,
-        Parts::Row(fs) => fs.as_slice().len(),
+        Parts::Many(fs) => fs.as_slice().len(),
         Parts::Routed(_, fs, _, _) => fs.as_slice().len() + 3,
         Parts::Collection(fs, _, _) => fs.as_slice().len() + 2,
         Parts::Nothing | Parts::Index(_) => 0,

@@ -19,9 +19,9 @@ use std::alloc::Global;
 
 /// The certificate file of those steps, as a new text: a line `laws 1`, or `laws 2` where a law
 /// above L42 is among them or a form of the second version in a given tree, or `laws 3` where a law
-/// above E18 or L46 is, and a line for each step, with given trees in core forms. Where each law is one, each given tree is of its law's
-/// kind, and their numbers, their depth and the text's length are within the limits of files, it is
-/// read back to the same. `Memory` if allocation fails.
+/// above E18 or L46 is, and a line for each step, with given trees in core forms. Where each law is
+/// one, each given tree is of its law's kind, and their numbers, their depth and the text's length
+/// are within the limits of files, it is read back to the same. `Memory` if allocation fails.
 pub fn print_cert(alloc: Global, steps: &[LawStep]) -> Result<String, Memory>
     ensures { IfOk result
         (λ text. string_bytes text ≡ certificate_spelling (map step_of steps.now)) }

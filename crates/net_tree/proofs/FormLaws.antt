@@ -4,7 +4,7 @@ use Rattle.leaf_core.specs.Expression.{Expression}
 use Rattle.leaf_core.specs.declared.expr.Expr.{Expr}
 use Rattle.net_tree.specs.Network.{Network, Networks, arr, seq, first, par, loop_pre, i_pre, delay, hold, accum_by, after, repeatedly, time, integral, at_once, delayed, switch, r_switch, k_switch, p_switch, old, initial_out, initial_in, rp_switch, no_members, and_member, network_size, networks_size}
 use Rattle.net_tree.specs.NetworkView.{tree_of, trees, members_of}
-use Rattle.net_tree.specs.FormParts.{FormParts, nothing, index, leaf, timed, leaves, one, fed, two, three, row, routed, collection, form_number, parts_of, parts_size}
+use Rattle.net_tree.specs.FormParts.{FormParts, nothing, index, leaf, timed, leaves, one, fed, two, three, many, routed, collection, form_number, parts_of, parts_size}
 use Rattle.net_tree.specs.declared.net.Net.{Net}
 
 -- the network of a form with these parts
@@ -19,7 +19,7 @@ form_with n (fed e f) = if nat_eq n 4 then loop_pre e f else if nat_eq n 19 then
 form_with n (two f g) = if nat_eq n 1 then seq f g else if nat_eq n 13 then switch at_once f g
     else if nat_eq n 14 then switch delayed f g else if nat_eq n 15 then r_switch at_once f g else r_switch delayed f g
 form_with n (three f g h) = k_switch f g h
-form_with n (row fs) = par fs
+form_with n (many fs) = par fs
 form_with n (routed r fs e t) = p_switch r fs e t
 form_with n (collection fs m t) = rp_switch fs m t
 

@@ -26,7 +26,7 @@ pub data FormParts : Type 0 where
   fed : Expression → Network Expression → FormParts
   two : Network Expression → Network Expression → FormParts
   three : Network Expression → Network Expression → Network Expression → FormParts
-  row : Networks Expression → FormParts
+  many : Networks Expression → FormParts
   routed : Expression → Networks Expression → Network Expression → Network Expression → FormParts
   collection : Networks Expression → Expression → Network Expression → FormParts
 
@@ -35,7 +35,7 @@ abbrev pub parts_of : Network Expression → FormParts
 parts_of (arr e) = leaf e
 parts_of (seq f g) = two f g
 parts_of (first f) = one f
-parts_of (par fs) = row fs
+parts_of (par fs) = many fs
 parts_of (loop_pre c f) = fed c f
 parts_of (i_pre c) = leaf c
 parts_of (delay q c) = timed q c
@@ -65,7 +65,7 @@ parts_in (V.One f) = one (tree f.now)
 parts_in (V.Fed e f) = fed (expression_of e.now) (tree f.now)
 parts_in (V.Two f g) = two (tree f.now) (tree g.now)
 parts_in (V.Three f g h) = three (tree f.now) (tree g.now) (tree h.now)
-parts_in (V.Row fs) = row (trees fs.now)
+parts_in (V.Many fs) = many (trees fs.now)
 parts_in (V.Routed r fs e t) = routed (expression_of r.now) (trees fs.now) (tree e.now) (tree t.now)
 parts_in (V.Collection fs m t) = collection (trees fs.now) (expression_of m.now) (tree t.now)
 
@@ -75,7 +75,7 @@ parts_size (one f) = suc (network_size f)
 parts_size (fed e f) = suc (network_size f)
 parts_size (two f g) = suc (network_size f + network_size g)
 parts_size (three f g h) = suc (network_size f + network_size g + network_size h)
-parts_size (row fs) = suc (networks_size fs)
+parts_size (many fs) = suc (networks_size fs)
 parts_size (routed r fs e t) = suc (networks_size fs + network_size e + network_size t)
 parts_size (collection fs m t) = suc (networks_size fs + network_size t)
 parts_size _ = 0

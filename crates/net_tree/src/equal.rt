@@ -30,7 +30,7 @@ pub enum Parts<'n> {
     /// Three networks, in their order.
     Three(&'n NetChild<Expr>, &'n NetChild<Expr>, &'n NetChild<Expr>),
     /// Members.
-    Row(&'n Members<Expr>),
+    Many(&'n Members<Expr>),
     /// A route, members and two networks.
     Routed(&'n Expr, &'n Members<Expr>, &'n NetChild<Expr>, &'n NetChild<Expr>),
     /// Members, an expression and a network.
@@ -85,7 +85,7 @@ pub fn parts_inside(net: &Net<Expr>) -> Parts<'_>
         | Net::RSwitch(f, g)
         | Net::DrSwitch(f, g) => Parts::Two(f, g),
         Net::KSwitch(f, e, t) => Parts::Three(f, e, t),
-        Net::Par(fs) => Parts::Row(fs),
+        Net::Par(fs) => Parts::Many(fs),
         Net::PSwitch(r, fs, e, t) => Parts::Routed(r, fs, e, t),
         Net::Old(k) => Parts::Index(*k),
         Net::RpSwitch(fs, m, t) => Parts::Collection(fs, m, t),
@@ -118,7 +118,7 @@ fn same_inside(a: &Net<Expr>, b: &Net<Expr>) -> bool
         (Parts::Fed(d, f), Parts::Fed(e, g)) => same_expr(d, e) && same_child(f, g),
         (Parts::Two(f, g), Parts::Two(h, i)) => same_two(f, g, h, i),
         (Parts::Three(f, g, h), Parts::Three(i, j, k)) => same_child(f, i) && same_two(g, h, j, k),
-        (Parts::Row(fs), Parts::Row(gs)) => same_members(fs, gs),
+        (Parts::Many(fs), Parts::Many(gs)) => same_members(fs, gs),
         (Parts::Routed(q, fs, f, g), Parts::Routed(r, gs, h, i)) => {
             same_expr(q, r) && same_members(fs, gs) && same_two(f, g, h, i)
         }

@@ -10,7 +10,7 @@ use leaf_core::Expr;
 use sample_core::Memory;
 use std::alloc::Global;
 
-/// A law by its number: `E1` to `E18` are of expressions, `L1` to `L46` of networks. Any other
+/// A law by its number: `E1` to `E26` are of expressions, `L1` to `L51` of networks. Any other
 /// number is that of no law.
 #[derive(Clone, Copy, PartialEq, Eq, Debug)]
 pub enum Law {

@@ -12,7 +12,7 @@ use Rattle.leaf_core.specs.Parts.{part_at, with_part_at, InputAt}
 use Rattle.leaf_core.specs.PartWalk.{part_type_at}
 use Rattle.leaf_core.proofs.Exactness.{same_tree-true, same_tree-refl}
 use Rattle.leaf_core.proofs.Uniqueness.{one_type}
-use Rattle.leaf_core.proofs.PartTypes.{TypedThere, there_typed, one_input, kept_there, inner}
+use Rattle.leaf_core.proofs.PartTypes.{value_is, TypedThere, there_typed, one_input, kept_there, inner}
 use Rattle.leaf_core.proofs.WithinParts.{put_there}
 use Rattle.net_tree.specs.Network.{Network, network_size}
 use Rattle.net_tree.specs.Measured.{MeasuresWithin, capped}
@@ -29,6 +29,7 @@ use Rattle.net_syntax.specs.StandingWalk.{inside}
 use Rattle.net_meaning.proofs.StreamLaws.{one-output-type}
 use Rattle.net_syntax.proofs.FoundTypes.{forget}
 use Rattle.net_syntax.proofs.SamePlaces.{Filler, filled}
+use Rattle.net_syntax.proofs.Splits.{Split, split}
 use Rattle.net_types.specs.KeptTypes.{checked_output, same_type, kept_in_leaf, both_there, type_kept}
 use Rattle.net_types.specs.Answered.{NoRewriting}
 use Rattle.net_types.proofs.Sizes.{few_inside}
@@ -36,40 +37,6 @@ use Rattle.net_types.proofs.Checks.{walk_exact}
 use Rattle.net_types.proofs.Holes.{output_found, Hole, hole, found_there}
 use Rattle.net_types.proofs.ChangedPlaces.{kept}
 use Rattle.net_syntax.proofs.OnePlace.{populated, one_place}
-
--- what goes on from what was found
-record Onward (X Y : Type 0) (o : Option X) (f : X → Option Y) (y : Y) : Type 0 where
-  from : X
-  was : o ≡ Some from
-  goes : f from ≡ Some y
-
-onward : {X Y : Type 0} (o : Option X) (f : X → Option Y) (y : Y) → (o >>= f) ≡ Some y → Onward X Y o f y
-onward None f y e = absurd (none-some y e)
-onward (Some x) f y e = record { from = x; was = refl; goes = e }
-
-value_is : {X : Type 0} (P : X → Type 0) {o : Option X} {x : X} → o ≡ Some x → IfSome o P → P x
-value_is P e h = subst (λ o. IfSome o P) e h
-
--- a tree that is replaced, split at the first number of the position
-record Split (f : Network Expression) (k : ℕ) (p : List ℕ) (s w : Tree Expression) : Type 0 where
-  before : Tree Expression
-  there : child f k ≡ Some before
-  now : Tree Expression
-  changed : replaced before p s ≡ Some now
-  net : Network Expression
-  is : with_child f k now ≡ Some net
-  whole : a_network net ≡ w
-
-split : (f : Network Expression) (k : ℕ) (p : List ℕ) (s w : Tree Expression) → replaced (a_network f) (k ∷ p) s ≡ Some w → Split f k p s w
-split f k p s w q =
-    let a = onward (child f k) (λ c. replaced c p s >>= (λ d. option_map a_network (with_child f k d))) w q in
-    let b = onward (replaced a.from p s) (λ d. option_map a_network (with_child f k d)) w a.goes in
-    go a.from a.was b.from b.was (with_child f k b.from) refl b.goes
-  where
-    go : (c : Tree Expression) → child f k ≡ Some c → (d : Tree Expression) → replaced c p s ≡ Some d → (o : Option (Network Expression)) → with_child f k d ≡ o
-        → option_map a_network o ≡ Some w → Split f k p s w
-    go c i d j None l r = absurd (none-some w r)
-    go c i d j (Some v) l r = record { before = c; there = i; now = d; changed = j; net = v; is = l; whole = same_Some (a_network v) w r }
 
 -- what a tree becomes is of its kind
 same_kind : (c d : Tree Expression) (p : List ℕ) (s : Tree Expression) → replaced c p s ≡ Some d → (n : Filler c) × (filled c n ≡ d)

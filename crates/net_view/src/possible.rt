@@ -1,15 +1,15 @@
 // The steps that may be taken forward.
 
 ghost use Rattle.std.specs.Prelude.{◌≡◌, ◌≢◌, ◌+◌, ◌<◌, IfOk, OnOk, None, Some, map, option_map};
-ghost use Rattle.net_syntax.specs.{ChildParts.seen, ChildParts.seen_place, Placed.placed_at};
-ghost use Rattle.net_tree.specs.LawStep.{part_of, step_of};
+ghost use Rattle.net_syntax.specs.{ChildParts.seen_place, Placed.placed_at};
+ghost use Rattle.net_tree.specs.LawStep.{part_of, seen, step_of};
 ghost use Rattle.net_tree.specs.Place.{a_network};
 ghost use Rattle.cert_check.specs.declared.answer.CheckFault.TheVariants as F;
 ghost use Rattle.net_text.specs.CertificatePrinting.{IsLaw};
 ghost use Rattle.net_view.specs.declared.possible.TheConstants.{LAWS};
 ghost use Rattle.net_view.specs.Possible.{ArePossible, ArePossibleAt, IsForward, IsFoundBy, IsTreeAfter, changing, law_rank, possible_of};
 
-use crate::positions::{copied, positions_within, tree_at};
+use crate::positions::{positions_within, tree_at};
 use crate::trace::Change;
 use cert_check::{CheckFault, answer_at, place_in, take_step};
 use net_syntax::{Place, TypedNet};
@@ -141,7 +141,7 @@ fn with_change(
     ensures { IfOk result (λ found. option_map possible_of found
         ≡ Some (changing (step_of step) (seen place.entry.tree) (part_of after))) }
 {
-    match copied(alloc, place.tree) {
+    match place.tree.try_copy(alloc) {
         Ok(before) => Ok(Some(PossibleStep {
             step,
             change: Change { before, after },

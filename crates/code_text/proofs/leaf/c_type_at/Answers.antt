@@ -1,7 +1,7 @@
 use Rattle.std.proofs.Common.{arith}
 use Rattle.std.proofs.lemmas.Grind.{common_steps}
 use Rattle.sample_core.specs.TypeView.{type_of}
-use Rattle.code_text.proofs.RegisterTypes.{found}
+use Rattle.leaf_code.proofs.Types.{found}
 use Rattle.code_text.proofs.leaf.c_type_at.Goals as goal
 
 pub returns-in-Some : goal.returns-in-Some
