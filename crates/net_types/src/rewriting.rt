@@ -14,7 +14,9 @@ use crate::fault::TypeFault;
 use crate::walk::output_type;
 use leaf_core::{Expr, expr_fits, part_type, with_part_at};
 use net_syntax::{Standing, TypedNet, child, child_standing, replace};
-use net_tree::{MOST_HEIGHT, MOST_SIZE, MOST_WEIGHT, Measures, Net, Position, Tree, TreeRef, measured};
+use net_tree::{
+    MOST_HEIGHT, MOST_SIZE, MOST_WEIGHT, Measures, Net, Position, Tree, TreeRef, measured,
+};
 use sample_core::{Memory, Ty, same_type};
 use std::alloc::Global;
 
