@@ -9,10 +9,10 @@ use Rattle.net_tree.specs.Weight.{weight, weights, weight_at, total}
 use Rattle.net_meaning.specs.SignalFunction.{TimedList}
 use Rattle.net_machine.specs.Store.{Moment, start, step, Store, Origin, written, made, one, other, mode_of, front_part, taker_part, entries}
 use Rattle.net_machine.specs.Stepper.{Timed, Stepper, event_in, event_beside, Turn, turns, members_at, members_in}
-use Rattle.net_code.specs.declared.place.Place.{Place}
+use Rattle.net_code.specs.declared.freezable.Freezable.{Freezable}
 use Rattle.net_code.specs.Running.{Body, Code, Given, given_value, value_taken, cleared, taken_by, frozen_now, beside_in, is_none, going, Linked, Local, entered, latest, nothing_given}
 use Rattle.net_code.specs.Bodies.{member_rows}
-use Rattle.net_code.specs.CodeOf.{place, and_body, body_of_old, emit, emit_all, code_of}
+use Rattle.net_code.specs.CodeOf.{freezable, and_body, body_of_old, emit, emit_all, code_of}
 use Rattle.net_code.specs.CodeLaw.{value_in}
 use Rattle.net_code.specs.Calls.{Counter, Counted, no_calls, each_calls, routed_calls, member_calls, turns_calls, going_calls, body_calls, function_calls, run_calls, CallsLaw}
 use Rattle.net_code.proofs.BodyLaws.{steps_of}
@@ -147,21 +147,21 @@ module _ (val : Expr → List Datum → Datum → Datum) (D : Code) where
   counters-earlier d (j ∷ js) (w ∷ ws) g i l h = (at-most-earlier d j w i l.0 h.0 g, counters-earlier d js ws g i l.1 h.1)
 
   -- what may be frozen is among q functions, and calls at most so many
-  abbrev Weighs : ℕ → List Place → List ℕ → Type 0
+  abbrev Weighs : ℕ → List Freezable → List ℕ → Type 0
   Weighs q [] ws = ws ≡ []
   Weighs q (p ∷ ps) [] = ⊥
   Weighs q (p ∷ ps) (w ∷ ws) = (p.function < q) × AtMost p.function w × Weighs q ps ws
 
-  weighs-more : (q r : ℕ) (ps : List Place) (ws : List ℕ) → q ≤ r → Weighs q ps ws → Weighs r ps ws
+  weighs-more : (q r : ℕ) (ps : List Freezable) (ws : List ℕ) → q ≤ r → Weighs q ps ws → Weighs r ps ws
   weighs-more q r [] ws l h = h
   weighs-more q r (p ∷ ps) [] l h = absurd h
   weighs-more q r (p ∷ ps) (w ∷ ws) l h = let k : p.function < q = h.0 in (omega arith, h.1, weighs-more q r ps ws l h.2)
 
-  weighs-append : (q n m : ℕ) (ps : List Place) (ws js us : List ℕ) → Weighs q ps ws → AllBelow q js → CountersWithin js us
-      → Weighs q (ps ++ map (place n m) js) (ws ++ us)
+  weighs-append : (q n m : ℕ) (ps : List Freezable) (ws js us : List ℕ) → Weighs q ps ws → AllBelow q js → CountersWithin js us
+      → Weighs q (ps ++ map (freezable n m) js) (ws ++ us)
   weighs-append q n m [] [] js us h i k = members js us i k
     where
-      members : (js us : List ℕ) → AllBelow q js → CountersWithin js us → Weighs q (map (place n m) js) us
+      members : (js us : List ℕ) → AllBelow q js → CountersWithin js us → Weighs q (map (freezable n m) js) us
       members [] us i k = k
       members (j ∷ js) [] i k = absurd k
       members (j ∷ js) (u ∷ us) i k = (i.0, k.0, members js us i.1 k.1)
@@ -186,7 +186,7 @@ module _ (val : Expr → List Datum → Datum → Datum) (D : Code) where
       ∙ ap (λ hs. body_calls val F N g b (local rs s m hs) ((ns ++ N f g ∷ []) ++ map (λ j. N j g) fs)) (append_assoc hs (F f g ∷ []) (steps_of val F g fs))
       ∙ ap (λ ns. body_calls val F N g b (local rs s m (hs ++ F f g ∷ steps_of val F g fs)) ns) (append_assoc ns (N f g ∷ []) (map (λ j. N j g) fs))
 
-  old-calls : (d : Code) (ps : List Place) (ws : List ℕ) (k i : ℕ) → Begins d D → Weighs (length d) ps ws → (g : Given) (s : Store) (x : Timed)
+  old-calls : (d : Code) (ps : List Freezable) (ws : List ℕ) (k i : ℕ) → Begins d D → Weighs (length d) ps ws → (g : Given) (s : Store) (x : Timed)
       → body_calls val (function_of val d) (counter_of val d) g (body_of_old ps k i) (entered s x) [] ≤ weight_at ws k
   old-calls d [] ws k i b h g s x = none _
   old-calls d (p ∷ ps) [] k i b h g s x = absurd h
@@ -204,7 +204,7 @@ module _ (val : Expr → List Datum → Datum → Datum) (D : Code) where
   before d b i = begins-trans d (and_body d b) D (begins-body d b) i
 
   mutual
-    pub calls : (net : Network Expr) (n : ℕ) (ps : List Place) (ws : List ℕ) (c : Code) → Weighs (length c) ps ws → Begins (emit net n ps c) D
+    pub calls : (net : Network Expr) (n : ℕ) (ps : List Freezable) (ws : List ℕ) (c : Code) → Weighs (length c) ps ws → Begins (emit net n ps c) D
         → AtMost (latest (emit net n ps c)) (weight net ws)
     calls (arr e) n ps ws c w i = node-calls c _ 0 i (λ g s x. none _)
     calls (seq f h) n ps ws c w i =
@@ -305,7 +305,7 @@ module _ (val : Expr → List Datum → Datum → Datum) (D : Code) where
         let k : Code = emit e n ps d in
         let js : List ℕ = latest d ∷ [] in
         let us : List ℕ = weight f ws ∷ [] in
-        let qs : List Place = ps ++ map (place n (length ps)) js in
+        let qs : List Freezable = ps ++ map (freezable n (length ps)) js in
         let b : Code = emit t (suc n) qs k in
         let ib : Begins b D = before b _ i in
         let ik : Begins k D = begins-trans k b D (adds t (suc n) qs k).0 ib in
@@ -330,7 +330,7 @@ module _ (val : Expr → List Datum → Datum → Datum) (D : Code) where
         let k : Code = emit e n ps d.0 in
         let js : List ℕ = d.1 in
         let us : List ℕ = weights fs ws in
-        let qs : List Place = ps ++ map (place n (length ps)) js in
+        let qs : List Freezable = ps ++ map (freezable n (length ps)) js in
         let b : Code = emit t (suc n) qs k in
         let ib : Begins b D = before b _ i in
         let ik : Begins k D = begins-trans k b D (adds t (suc n) qs k).0 ib in
@@ -387,7 +387,7 @@ module _ (val : Expr → List Datum → Datum → Datum) (D : Code) where
         (subst (λ a. times (length (chosen_now g s x)) most ≤ a) (times-is most)
         (times-more (length (chosen_now g s x)) 64 most (few-turns (val m g.params) x.0 (steps_of val (function_of val b) g d.1) s (event_beside x.1))))))
 
-    all_calls : (fs : Networks Expr) (n : ℕ) (ps : List Place) (ws : List ℕ) (c : Code) → Weighs (length c) ps ws → Begins (emit_all fs n ps c).0 D
+    all_calls : (fs : Networks Expr) (n : ℕ) (ps : List Freezable) (ws : List ℕ) (c : Code) → Weighs (length c) ps ws → Begins (emit_all fs n ps c).0 D
         → CountersWithin (emit_all fs n ps c).1 (weights fs ws)
     all_calls no_members n ps ws c w i = refl
     all_calls (and_member f fs) n ps ws c w i =

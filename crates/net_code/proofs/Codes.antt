@@ -9,38 +9,38 @@ use Rattle.cell_core.specs.declared.form.Form.TheVariants as Form
 use Rattle.net_machine.specs.Store.{Moment, Store, nothing, both, one, other}
 use Rattle.net_machine.specs.Stepper.{Stepper, Frozen, freeze, seq_step, first_step, par_step, loop_step, switch_step, r_switch_step, initial_out_step, initial_in_step, resume_step, old_step, freezing_step, freeze_each, routed, rp_switch_step}
 use Rattle.net_machine.specs.Machine.{Scope, push_param, push_olds, machine, machines}
-use Rattle.net_code.specs.declared.place.Place.{Place}
+use Rattle.net_code.specs.declared.freezable.Freezable.{Freezable}
 use Rattle.net_code.specs.Running.{Body, Code, Kept, kept_at, split, Given, Linked, given_value, given_kept, given_first, body_step, latest}
 use Rattle.net_code.specs.Bodies.{seq_body, par_body}
-use Rattle.net_code.specs.CodeOf.{place, and_body, body_of_old, emit, emit_all}
+use Rattle.net_code.specs.CodeOf.{freezable, and_body, body_of_old, emit, emit_all}
 use Rattle.net_code.proofs.BodyLaws.{steps_of, arr_done, seq_done, first_done, par_done, loop_done, cell_done, accum_done, time_done, integral_done, switch_done, r_switch_done, k_switch_done, p_switch_done, old_done, same_done, out_done, in_done, collection_done}
 use Rattle.net_code.proofs.Links.{Begins, function_of, same_function, next_function}
 use Rattle.net_code.proofs.Emitted.{begins-trans, begins-body, adds, adds_all, AllBelow, below-more, latest_below, all_below, latest_body}
 
 -- what may be frozen is among q functions, and within n parameters and m frozen networks
-pub data Fits (q n m : ℕ) : List Place → Type 0 where
-  no_place : Fits q n m []
-  and_place : {p : Place} {ps : List Place} → p.function < q → p.params ≤ n → p.olds ≤ m → Fits q n m ps → Fits q n m (p ∷ ps)
+pub data Fits (q n m : ℕ) : List Freezable → Type 0 where
+  no_freezable : Fits q n m []
+  and_freezable : {p : Freezable} {ps : List Freezable} → p.function < q → p.params ≤ n → p.olds ≤ m → Fits q n m ps → Fits q n m (p ∷ ps)
 
-fits-more : (q n m q' n' m' : ℕ) (ps : List Place) → q ≤ q' → n ≤ n' → m ≤ m' → Fits q n m ps → Fits q' n' m' ps
-fits-more q n m q' n' m' [] i l k no_place = no_place
-fits-more q n m q' n' m' (p ∷ ps) i l k (and_place h a b f) = and_place (omega arith) (omega arith) (omega arith) (fits-more q n m q' n' m' ps i l k f)
+fits-more : (q n m q' n' m' : ℕ) (ps : List Freezable) → q ≤ q' → n ≤ n' → m ≤ m' → Fits q n m ps → Fits q' n' m' ps
+fits-more q n m q' n' m' [] i l k no_freezable = no_freezable
+fits-more q n m q' n' m' (p ∷ ps) i l k (and_freezable h a b f) = and_freezable (omega arith) (omega arith) (omega arith) (fits-more q n m q' n' m' ps i l k f)
 
-fits-append : (q n m : ℕ) (ps qs : List Place) → Fits q n m ps → Fits q n m qs → Fits q n m (ps ++ qs)
-fits-append q n m [] qs no_place g = g
-fits-append q n m (p ∷ ps) qs (and_place h a b f) g = and_place h a b (fits-append q n m ps qs f g)
+fits-append : (q n m : ℕ) (ps qs : List Freezable) → Fits q n m ps → Fits q n m qs → Fits q n m (ps ++ qs)
+fits-append q n m [] qs no_freezable g = g
+fits-append q n m (p ∷ ps) qs (and_freezable h a b f) g = and_freezable h a b (fits-append q n m ps qs f g)
 
--- the places of these functions
-abbrev places : ℕ → ℕ → List ℕ → List Place
-places n m js = map (place n m) js
+-- the networks of these functions, which may be frozen
+abbrev freezables : ℕ → ℕ → List ℕ → List Freezable
+freezables n m js = map (freezable n m) js
 
-fits-places : (q n m n' m' : ℕ) (js : List ℕ) → AllBelow q js → n ≤ n' → m ≤ m' → Fits q n' m' (places n m js)
-fits-places q n m n' m' [] i l k = no_place
-fits-places q n m n' m' (j ∷ js) i l k = and_place i.0 l k (fits-places q n m n' m' js i.1 l k)
+fits-freezables : (q n m n' m' : ℕ) (js : List ℕ) → AllBelow q js → n ≤ n' → m ≤ m' → Fits q n' m' (freezables n m js)
+fits-freezables q n m n' m' [] i l k = no_freezable
+fits-freezables q n m n' m' (j ∷ js) i l k = and_freezable i.0 l k (fits-freezables q n m n' m' js i.1 l k)
 
-length-places : (n m : ℕ) (js : List ℕ) (a : Store) (w : Moment) → length (split (length js) a w) ≡ length (places n m js)
-length-places n m [] a w = refl
-length-places n m (j ∷ js) a w = ap suc (length-places n m js (other a) w)
+length-freezables : (n m : ℕ) (js : List ℕ) (a : Store) (w : Moment) → length (split (length js) a w) ≡ length (freezables n m js)
+length-freezables n m [] a w = refl
+length-freezables n m (j ∷ js) a w = ap suc (length-freezables n m js (other a) w)
 
 module _ (val : Expr → List Datum → Datum → Datum) (D : Code) where
   -- the functions of the whole code
@@ -51,26 +51,26 @@ module _ (val : Expr → List Datum → Datum → Datum) (D : Code) where
   abbrev given : List Datum → List Kept → Given
   given vs ks = record { params = vs; olds = ks }
 
-  -- the frozen networks that these places and what they kept are
-  abbrev olds_by : List Place → List Datum → List Kept → List Kept → List Frozen
+  -- the frozen networks that these and what they kept are
+  abbrev olds_by : List Freezable → List Datum → List Kept → List Kept → List Frozen
   olds_by [] vs ks gs = []
   olds_by (p ∷ ps) vs ks [] = []
   olds_by (p ∷ ps) vs ks (g ∷ gs) = freeze (F p.function (given (take p.params vs) (take p.olds ks))) g.0 g.1 ∷ olds_by ps vs ks gs
 
-  abbrev scope_by : List Place → Given → Scope
+  abbrev scope_by : List Freezable → Given → Scope
   scope_by ps g = record { params = g.params; olds = olds_by ps g.params g.olds g.olds }
 
-  -- a place sees no more than it saw
-  olds-later : (q : ℕ) (ps : List Place) (vs : List Datum) (ks : List Kept) (vs' : List Datum) (ks' gs : List Kept) → Fits q (length vs) (length ks) ps
+  -- what may be frozen sees no more than it saw
+  olds-later : (q : ℕ) (ps : List Freezable) (vs : List Datum) (ks : List Kept) (vs' : List Datum) (ks' gs : List Kept) → Fits q (length vs) (length ks) ps
       → olds_by ps (vs ++ vs') (ks ++ ks') gs ≡ olds_by ps vs ks gs
   olds-later q [] vs ks vs' ks' gs f = refl
   olds-later q (p ∷ ps) vs ks vs' ks' [] f = refl
-  olds-later q (p ∷ ps) vs ks vs' ks' (g ∷ gs) (and_place h l k f) =
+  olds-later q (p ∷ ps) vs ks vs' ks' (g ∷ gs) (and_freezable h l k f) =
       ap₂ (λ (h : Stepper) (os : List Frozen). freeze h g.0 g.1 ∷ os)
       (ap₂ (λ us is. F p.function (given us is)) (take-append-le p.params vs vs' l) (take-append-le p.olds ks ks' k))
       (olds-later q ps vs ks vs' ks' gs f)
 
-  olds-append : (ps qs : List Place) (vs : List Datum) (ks gs hs : List Kept) → length gs ≡ length ps
+  olds-append : (ps qs : List Freezable) (vs : List Datum) (ks gs hs : List Kept) → length gs ≡ length ps
       → olds_by (ps ++ qs) vs ks (gs ++ hs) ≡ olds_by ps vs ks gs ++ olds_by qs vs ks hs
   olds-append [] qs vs ks [] hs e = refl
   olds-append [] qs vs ks (g ∷ gs) hs e = absurd (omega arith)
@@ -80,28 +80,28 @@ module _ (val : Expr → List Datum → Datum → Datum) (D : Code) where
       ap (λ (os : List Frozen). freeze (F p.function (given (take p.params vs) (take p.olds ks))) g.0 g.1 ∷ os) (olds-append ps qs vs ks gs hs e')
 
   -- members frozen are frozen steps
-  olds-places : (n m : ℕ) (js : List ℕ) (vs : List Datum) (ks : List Kept) (vs' : List Datum) (ks' : List Kept) → n ≡ length vs → m ≡ length ks → (a : Store) (w : Moment)
-      → olds_by (places n m js) (vs ++ vs') (ks ++ ks') (split (length js) a w) ≡ freeze_each (map (λ j. F j (given vs ks)) js) a w
-  olds-places n m [] vs ks vs' ks' e h a w = refl
-  olds-places n m (j ∷ js) vs ks vs' ks' e h a w =
+  olds-freezables : (n m : ℕ) (js : List ℕ) (vs : List Datum) (ks : List Kept) (vs' : List Datum) (ks' : List Kept) → n ≡ length vs → m ≡ length ks → (a : Store) (w : Moment)
+      → olds_by (freezables n m js) (vs ++ vs') (ks ++ ks') (split (length js) a w) ≡ freeze_each (map (λ j. F j (given vs ks)) js) a w
+  olds-freezables n m [] vs ks vs' ks' e h a w = refl
+  olds-freezables n m (j ∷ js) vs ks vs' ks' e h a w =
       ap₂ (λ (g : Stepper) (os : List Frozen). freeze g (one a) w ∷ os)
       (ap₂ (λ us is. F j (given us is)) (take_at vs vs' n (sym e)) (take_at ks ks' m (sym h)))
-      (olds-places n m js vs ks vs' ks' e h (other a) w)
+      (olds-freezables n m js vs ks vs' ks' e h (other a) w)
 
   -- how much is in scope, behind so many functions
-  pub record Sees (q n : ℕ) (ps : List Place) (g : Given) : Type 0 where
+  pub record Sees (q n : ℕ) (ps : List Freezable) (g : Given) : Type 0 where
     pub all_params : length g.params ≡ n
     pub all_olds : length g.olds ≡ length ps
     pub fits : Fits q (length g.params) (length g.olds) ps
 
-  sees-more : (q r n : ℕ) (ps : List Place) (g : Given) → q ≤ r → Sees q n ps g → Sees r n ps g
+  sees-more : (q r n : ℕ) (ps : List Freezable) (g : Given) → q ≤ r → Sees q n ps g → Sees r n ps g
   sees-more q r n ps g l w = record {
     all_params = w.all_params;
     all_olds = w.all_olds;
     fits = fits-more q (length g.params) (length g.olds) r (length g.params) (length g.olds) ps l (omega arith) (omega arith) w.fits;
   }
 
-  sees-value : (q n : ℕ) (ps : List Place) (g : Given) (c : Datum) → Sees q n ps g → Sees q (suc n) ps (given_value g c)
+  sees-value : (q n : ℕ) (ps : List Freezable) (g : Given) (c : Datum) → Sees q n ps g → Sees q (suc n) ps (given_value g c)
   sees-value q n ps g c w =
       let vs : List Datum = g.params in
       let l : length (vs ++ c ∷ []) ≡ length vs + 1 = length-append vs (c ∷ []) in
@@ -112,7 +112,7 @@ module _ (val : Expr → List Datum → Datum → Datum) (D : Code) where
         fits = fits-more q (length vs) (length g.olds) q (length (vs ++ c ∷ [])) (length g.olds) ps (omega arith) (omega arith) (omega arith) w.fits;
       }
 
-  scope-value : (q n : ℕ) (ps : List Place) (g : Given) (c : Datum) → Sees q n ps g
+  scope-value : (q n : ℕ) (ps : List Freezable) (g : Given) (c : Datum) → Sees q n ps g
       → scope_by ps (given_value g c) ≡ push_param (scope_by ps g) c
   scope-value q n ps g c w =
       let vs : List Datum = g.params in
@@ -124,8 +124,8 @@ module _ (val : Expr → List Datum → Datum → Datum) (D : Code) where
   abbrev given_members : Given → Datum → List ℕ → Store → Moment → Given
   given_members g c js a m = given_kept (given_value g c) (split (length js) a m)
 
-  sees-members : (q n : ℕ) (ps : List Place) (g : Given) (c : Datum) (js : List ℕ) (a : Store) (m : Moment) → AllBelow q js → Sees q n ps g
-      → Sees q (suc n) (ps ++ places n (length ps) js) (given_members g c js a m)
+  sees-members : (q n : ℕ) (ps : List Freezable) (g : Given) (c : Datum) (js : List ℕ) (a : Store) (m : Moment) → AllBelow q js → Sees q n ps g
+      → Sees q (suc n) (ps ++ freezables n (length ps) js) (given_members g c js a m)
   sees-members q n ps g c js a m i w =
       let vs : List Datum = g.params in
       let ks : List Kept = g.olds in
@@ -134,26 +134,26 @@ module _ (val : Expr → List Datum → Datum → Datum) (D : Code) where
       let h : length vs ≡ n = w.all_params in
       let k : length ks ≡ length ps = w.all_olds in
       let j : length (ks ++ hs) ≡ length ks + length hs = length-append ks hs in
-      let o : length (ps ++ places n (length ps) js) ≡ length ps + length (places n (length ps) js) = length-append ps (places n (length ps) js) in
-      let e : length hs ≡ length (places n (length ps) js) = length-places n (length ps) js a m in
+      let o : length (ps ++ freezables n (length ps) js) ≡ length ps + length (freezables n (length ps) js) = length-append ps (freezables n (length ps) js) in
+      let e : length hs ≡ length (freezables n (length ps) js) = length-freezables n (length ps) js a m in
       record {
         all_params = omega arith;
         all_olds = omega arith;
-        fits = fits-append _ _ _ ps (places n (length ps) js)
+        fits = fits-append _ _ _ ps (freezables n (length ps) js)
             (fits-more q (length vs) (length ks) q (length (vs ++ c ∷ [])) (length (ks ++ hs)) ps (omega arith) (omega arith) (omega arith) w.fits)
-            (fits-places q n (length ps) (length (vs ++ c ∷ [])) (length (ks ++ hs)) js i (omega arith) (omega arith));
+            (fits-freezables q n (length ps) (length (vs ++ c ∷ [])) (length (ks ++ hs)) js i (omega arith) (omega arith));
       }
 
-  scope-members : (q n : ℕ) (ps : List Place) (g : Given) (c : Datum) (js : List ℕ) (a : Store) (m : Moment) → Sees q n ps g
-      → scope_by (ps ++ places n (length ps) js) (given_members g c js a m) ≡ push_olds (push_param (scope_by ps g) c) (freeze_each (map (λ j. F j g) js) a m)
+  scope-members : (q n : ℕ) (ps : List Freezable) (g : Given) (c : Datum) (js : List ℕ) (a : Store) (m : Moment) → Sees q n ps g
+      → scope_by (ps ++ freezables n (length ps) js) (given_members g c js a m) ≡ push_olds (push_param (scope_by ps g) c) (freeze_each (map (λ j. F j g) js) a m)
   scope-members q n ps g c js a m w =
       let vs : List Datum = g.params in
       let ks : List Kept = g.olds in
       let hs : List Kept = split (length js) a m in
       ap (λ (os : List Frozen). let s : Scope = record { params = vs ++ c ∷ []; olds = os } in s)
-      (olds-append ps (places n (length ps) js) (vs ++ c ∷ []) (ks ++ hs) ks hs w.all_olds
+      (olds-append ps (freezables n (length ps) js) (vs ++ c ∷ []) (ks ++ hs) ks hs w.all_olds
       ∙ ap₂ (λ (os qs : List Frozen). os ++ qs) (olds-later q ps vs ks (c ∷ []) hs ks w.fits)
-      (olds-places n (length ps) js vs ks (c ∷ []) hs (sym w.all_params) (sym w.all_olds) a m))
+      (olds-freezables n (length ps) js vs ks (c ∷ []) hs (sym w.all_params) (sym w.all_olds) a m))
 
   -- a node's function, over those of the code before it
   node : (d : Code) (b : Body) (g : Given) → Begins (and_body d b) D → F (latest (and_body d b)) g ≡ body_step val (function_of val d) b g
@@ -168,16 +168,16 @@ module _ (val : Expr → List Datum → Datum → Datum) (D : Code) where
   all-earlier d (j ∷ js) g i l = ap₂ (λ (f : Stepper) (fs : List Stepper). f ∷ fs) (ap (λ (h : Linked). h g) (earlier d j i l.0)) (all-earlier d js g i l.1)
 
   -- the frozen network k
-  old-is : (d : Code) (ps : List Place) (g : Given) (gs : List Kept) (k i : ℕ) → Begins d D → Fits (length d) (length g.params) (length g.olds) ps
+  old-is : (d : Code) (ps : List Freezable) (g : Given) (gs : List Kept) (k i : ℕ) → Begins d D → Fits (length d) (length g.params) (length g.olds) ps
       → length gs ≡ length ps → kept_at gs k ≡ kept_at g.olds i
       → body_step val (function_of val d) (body_of_old ps k i) g ≡ old_step (olds_by ps g.params g.olds gs) k
   old-is d [] g gs k i b f e h = same_done val (function_of val d) g
   old-is d (p ∷ ps) g [] k i b f e h = absurd (omega arith)
-  old-is d (p ∷ ps) g (o ∷ gs) zero i b (and_place q l m f) e h =
+  old-is d (p ∷ ps) g (o ∷ gs) zero i b (and_freezable q l m f) e h =
       old_done val (function_of val d) g i p.function p.params p.olds
       ∙ ap (λ (t : Linked). resume_step (t (given_first g p.params p.olds)) (kept_at g.olds i).0 (kept_at g.olds i).1) (earlier d p.function b q)
       ∙ ap (λ (o : Kept). resume_step (F p.function (given_first g p.params p.olds)) o.0 o.1) (sym h)
-  old-is d (p ∷ ps) g (o ∷ gs) (suc k) i b (and_place q l m f) e h = old-is d ps g gs k i b f (omega arith) h
+  old-is d (p ∷ ps) g (o ∷ gs) (suc k) i b (and_freezable q l m f) e h = old-is d ps g gs k i b f (omega arith) h
 
   -- what stands before a node's last function
   before : (d : Code) (b : Body) → Begins (and_body d b) D → Begins d D
@@ -188,7 +188,7 @@ module _ (val : Expr → List Datum → Datum → Datum) (D : Code) where
   by_value H k g c = H k (given_value g c)
 
   mutual
-    pub code_is : (net : Network Expr) (n : ℕ) (ps : List Place) (c : Code) (g : Given) → Sees (length c) n ps g → Begins (emit net n ps c) D
+    pub code_is : (net : Network Expr) (n : ℕ) (ps : List Freezable) (c : Code) (g : Given) → Sees (length c) n ps g → Begins (emit net n ps c) D
         → F (latest (emit net n ps c)) g ≡ machine val net (scope_by ps g)
     code_is (arr e) n ps c g w i = node c _ g i ∙ arr_done val (function_of val c) g e
     code_is (seq f h) n ps c g w i =
@@ -264,7 +264,7 @@ module _ (val : Expr → List Datum → Datum → Datum) (D : Code) where
         let d : Code = emit f n ps c in
         let k : Code = emit e n ps d in
         let js : List ℕ = latest d ∷ [] in
-        let qs : List Place = ps ++ places n (length ps) js in
+        let qs : List Freezable = ps ++ freezables n (length ps) js in
         let b : Code = emit t (suc n) qs k in
         let s : Scope = scope_by ps g in
         let ib : Begins b D = before b _ i in
@@ -298,7 +298,7 @@ module _ (val : Expr → List Datum → Datum → Datum) (D : Code) where
         let d : Code × List ℕ = emit_all fs n ps c in
         let k : Code = emit e n ps d.0 in
         let js : List ℕ = d.1 in
-        let qs : List Place = ps ++ places n (length ps) js in
+        let qs : List Freezable = ps ++ freezables n (length ps) js in
         let b : Code = emit t (suc n) qs k in
         let s : Scope = scope_by ps g in
         let ib : Begins b D = before b _ i in
@@ -357,7 +357,7 @@ module _ (val : Expr → List Datum → Datum → Datum) (D : Code) where
         ∙ code_is t (suc n) ps d.0 (given_value g v) (sees-value (length d.0) n ps g v wd) ib
         ∙ ap (machine val t) (scope-value (length c) n ps g v w)))
 
-    pub codes_are : (fs : Networks Expr) (n : ℕ) (ps : List Place) (c : Code) (g : Given) → Sees (length c) n ps g → Begins (emit_all fs n ps c).0 D
+    pub codes_are : (fs : Networks Expr) (n : ℕ) (ps : List Freezable) (c : Code) (g : Given) → Sees (length c) n ps g → Begins (emit_all fs n ps c).0 D
         → map (λ j. F j g) (emit_all fs n ps c).1 ≡ machines val fs (scope_by ps g)
     codes_are no_members n ps c g w i = refl
     codes_are (and_member f fs) n ps c g w i =

@@ -2,9 +2,9 @@
 use Rattle.std.proofs.Common.{◌≡◌, ◌≤◌, ◌<◌, ℕ, suc, ◌+◌, List, [], ◌∷◌, ◌++◌, map, length, refl, sym, ap, ◌∙◌, arith, append_assoc, append-nil, length-append}
 use Rattle.leaf_core.specs.declared.expr.Expr.{Expr}
 use Rattle.net_tree.specs.Network.{Network, Networks, arr, seq, first, par, loop_pre, initial_out, initial_in, i_pre, delay, hold, accum_by, after, repeatedly, time, integral, switch, r_switch, rp_switch, k_switch, p_switch, old, no_members, and_member}
-use Rattle.net_code.specs.declared.place.Place.{Place}
+use Rattle.net_code.specs.declared.freezable.Freezable.{Freezable}
 use Rattle.net_code.specs.Running.{Body, Code, latest}
-use Rattle.net_code.specs.CodeOf.{place, and_body, emit, emit_all}
+use Rattle.net_code.specs.CodeOf.{freezable, and_body, emit, emit_all}
 use Rattle.net_code.proofs.Links.{Begins}
 
 pub begins-trans : (c d e : Code) → Begins c d → Begins d e → Begins c e
@@ -43,7 +43,7 @@ keeps_two : (c d e : Code) → Adds c d → Adds d e → Keeps c e
 keeps_two c d e i j = keeps-trans c d e (adds-keeps c d i) (adds-keeps d e j)
 
 mutual
-  pub adds : (net : Network Expr) (n : ℕ) (ps : List Place) (c : Code) → Adds c (emit net n ps c)
+  pub adds : (net : Network Expr) (n : ℕ) (ps : List Freezable) (c : Code) → Adds c (emit net n ps c)
   adds (arr e) n ps c = adds-body c c _ (keeps-same c)
   adds (seq f g) n ps c = adds-body c _ _ (keeps_two c _ _ (adds f n ps c) (adds g n ps (emit f n ps c)))
   adds (first f) n ps c = adds-body c _ _ (adds-keeps c _ (adds f n ps c))
@@ -62,13 +62,13 @@ mutual
   adds (k_switch f e t) n ps c =
       let d : Code = emit f n ps c in
       let w : Code = emit e n ps d in
-      let qs : List Place = ps ++ place n (length ps) (latest d) ∷ [] in
+      let qs : List Freezable = ps ++ freezable n (length ps) (latest d) ∷ [] in
       let b : Code = emit t (suc n) qs w in
       adds-body c b _ (keeps-trans c w b (keeps_two c d w (adds f n ps c) (adds e n ps d)) (adds-keeps w b (adds t (suc n) qs w)))
   adds (p_switch r fs e t) n ps c =
       let d : Code × List ℕ = emit_all fs n ps c in
       let w : Code = emit e n ps d.0 in
-      let qs : List Place = ps ++ map (place n (length ps)) d.1 in
+      let qs : List Freezable = ps ++ map (freezable n (length ps)) d.1 in
       let b : Code = emit t (suc n) qs w in
       adds-body c b _ (keeps-trans c w b (keeps-trans c d.0 w (adds_all fs n ps c) (adds-keeps d.0 w (adds e n ps d.0)))
       (adds-keeps w b (adds t (suc n) qs w)))
@@ -80,7 +80,7 @@ mutual
       let b : Code = emit t (suc n) ps d.0 in
       adds-body c b _ (keeps-trans c d.0 b (adds_all fs n ps c) (adds-keeps d.0 b (adds t (suc n) ps d.0)))
 
-  pub adds_all : (fs : Networks Expr) (n : ℕ) (ps : List Place) (c : Code) → Keeps c (emit_all fs n ps c).0
+  pub adds_all : (fs : Networks Expr) (n : ℕ) (ps : List Freezable) (c : Code) → Keeps c (emit_all fs n ps c).0
   adds_all no_members n ps c = keeps-same c
   adds_all (and_member f fs) n ps c =
       let d : Code = emit f n ps c in
@@ -96,10 +96,10 @@ below-more n m [] l i = tt
 below-more n m (j ∷ js) l i = let k : j < n = i.0 in (omega arith, below-more n m js l i.1)
 
 -- the last function is there
-pub latest_below : (net : Network Expr) (n : ℕ) (ps : List Place) (c : Code) → latest (emit net n ps c) < length (emit net n ps c)
+pub latest_below : (net : Network Expr) (n : ℕ) (ps : List Freezable) (c : Code) → latest (emit net n ps c) < length (emit net n ps c)
 latest_below net n ps c = let l : length c < length (emit net n ps c) = (adds net n ps c).1 in omega arith
 
-pub all_below : (fs : Networks Expr) (n : ℕ) (ps : List Place) (c : Code) → AllBelow (length (emit_all fs n ps c).0) (emit_all fs n ps c).1
+pub all_below : (fs : Networks Expr) (n : ℕ) (ps : List Freezable) (c : Code) → AllBelow (length (emit_all fs n ps c).0) (emit_all fs n ps c).1
 all_below no_members n ps c = tt
 all_below (and_member f fs) n ps c =
     let d : Code = emit f n ps c in

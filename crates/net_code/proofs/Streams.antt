@@ -16,7 +16,7 @@ use Rattle.sample_core.specs.TypeTree.{TypeTree}
 use Rattle.leaf_core.specs.declared.expr.Expr.{Expr}
 use Rattle.net_code.specs.Running.{run_code}
 use Rattle.net_code.specs.CodeLaw.{value_in, leaf_in, CodeMachineLaw, CodeLaw, LeafCodeLaw}
-use Rattle.net_code.proofs.Codes.{no_place, code_is}
+use Rattle.net_code.proofs.Codes.{no_freezable, code_is}
 
 -- the machine of a network with other leaves
 module _ {L M : Type 0} (val : M → List Datum → Datum → Datum) (h : L → M) where
@@ -62,7 +62,7 @@ module _ {L M : Type 0} (val : M → List Datum → Datum → Datum) (h : L → 
 pub machine_law : CodeMachineLaw
 machine_law net s xs =
     ap (λ (f : Stepper). run f false s xs)
-    (code_is value_in (code_of net) net 0 [] [] nothing_given (record { all_params = refl; all_olds = refl; fits = no_place }) ([], sym (append-nil (code_of net)))
+    (code_is value_in (code_of net) net 0 [] [] nothing_given (record { all_params = refl; all_olds = refl; fits = no_freezable }) ([], sym (append-nil (code_of net)))
     ∙ mapped value_of _ net empty)
 
 pub code_law : CodeLaw

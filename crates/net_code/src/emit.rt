@@ -12,7 +12,7 @@ ghost use Rattle.std.specs.Prelude.{
   slice_get,
   suc,
 };
-ghost use Rattle.net_code.specs.CodeOf.{and_body, body_of_old, code_of, emit, emit_all, place};
+ghost use Rattle.net_code.specs.CodeOf.{and_body, body_of_old, code_of, emit, emit_all, freezable};
 ghost use Rattle.net_code.specs.CodeView.{AddsFunctions, code_in, rows_of};
 ghost use Rattle.net_code.specs.Bodies.{accum_body, cell_body};
 ghost use Rattle.net_code.specs.Running.{latest};
@@ -33,7 +33,7 @@ ghost use Rattle.net_tree.specs.Network.{
 };
 ghost use Rattle.net_tree.specs.NetworkView.{members_of, network_of};
 
-use crate::place::Place;
+use crate::freezable::Freezable;
 use crate::statement::Function;
 use cell_core::Form;
 use leaf_core::Expr;
@@ -46,7 +46,7 @@ use std::alloc::Global;
 pub(crate) struct Around<'a> {
     pub(crate) alloc: Global,
     pub(crate) params: usize,
-    pub(crate) places: &'a [Place],
+    pub(crate) freezables: &'a [Freezable],
 }
 
 /// The code of a network with nothing in scope. `Memory` if allocation fails, or where more
@@ -55,11 +55,11 @@ pub fn compile(alloc: Global, net: &Net<Expr>) -> Result<Vec<Function>, Memory>
     ensures { IfOk result (λ code. code_in code.items ≡ code_of (network_of net.now)) }
 {
     let mut code = Vec::new(alloc);
-    let places = Vec::new(alloc);
+    let freezables = Vec::new(alloc);
     let around = Around {
         alloc,
         params: 0,
-        places: places.as_slice(),
+        freezables: freezables.as_slice(),
     };
     emit_net(net, around, &mut code)?;
     Ok(code)
@@ -85,7 +85,7 @@ fn latest_of(code: &Vec<Function>) -> usize
 #[cycle(emit)]
 fn emit_net(net: &Net<Expr>, around: Around<'_>, code: &mut Vec<Function>) -> Result<(), Memory>
     ensures { IfOk result (λ _. code_in code.new.items
-        ≡ emit (network_of net.now) around.entry.params around.entry.places.now
+        ≡ emit (network_of net.now) around.entry.params around.entry.freezables.now
         (code_in code.old.items)) }
 {
     let alloc = around.alloc;
@@ -145,13 +145,13 @@ fn push_accum(
     push_function(code, Function::Accum(g, z))
 }
 
-/// Place k, if there is one.
-fn place_at(places: &[Place], k: usize) -> Option<Place>
-    ensures { MatchOption result (slice_get places.now k ≡ None)
-        (λ p. slice_get places.now k ≡ Some p) }
+/// The k-th network that may be frozen, if there is one.
+fn freezable_at(freezables: &[Freezable], k: usize) -> Option<Freezable>
+    ensures { MatchOption result (slice_get freezables.now k ≡ None)
+        (λ p. slice_get freezables.now k ≡ Some p) }
 {
-    match places.get(k) {
-        Some(place) => Some(*place),
+    match freezables.get(k) {
+        Some(freezable) => Some(*freezable),
         None => None,
     }
 }
@@ -159,9 +159,9 @@ fn place_at(places: &[Place], k: usize) -> Option<Place>
 /// What resumes the frozen network k, or the identity if there is none.
 #[tactic(auto, using(crate::proofs::Olds::found, crate::proofs::Olds::absent))]
 fn old_or_same(around: Around<'_>, k: usize) -> Function
-    ensures { rows_of result ≡ body_of_old around.entry.places.now k k }
+    ensures { rows_of result ≡ body_of_old around.entry.freezables.now k k }
 {
-    match place_at(around.places, k) {
+    match freezable_at(around.freezables, k) {
         Some(p) => Function::Old(k, p.function, p.params, p.olds),
         None => Function::Same,
     }
@@ -170,7 +170,7 @@ fn old_or_same(around: Around<'_>, k: usize) -> Function
 /// Adds what resumes the frozen network k, or the identity if there is none.
 fn push_old(around: Around<'_>, k: u32, code: &mut Vec<Function>) -> Result<(), Memory>
     ensures { IfOk result (λ _. code_in code.new.items
-        ≡ and_body (code_in code.old.items) (body_of_old around.entry.places.now k k)) }
+        ≡ and_body (code_in code.old.items) (body_of_old around.entry.freezables.now k k)) }
 {
     push_function(code, old_or_same(around, k as usize))
 }
@@ -183,7 +183,7 @@ fn emit_part(
     code: &mut Vec<Function>,
 ) -> Result<usize, Memory>
     ensures { IfOk result (λ k. (code_in code.new.items
-        ≡ emit f.now around.entry.params around.entry.places.now (code_in code.old.items))
+        ≡ emit f.now around.entry.params around.entry.freezables.now (code_in code.old.items))
         × (k ≡ latest (code_in code.new.items))) }
 {
     emit_net(f.get(), around, code)?;
@@ -198,7 +198,7 @@ fn emit_taker(
     code: &mut Vec<Function>,
 ) -> Result<usize, Memory>
     ensures { IfOk result (λ k. (code_in code.new.items
-        ≡ emit t.now (suc around.entry.params) around.entry.places.now (code_in code.old.items))
+        ≡ emit t.now (suc around.entry.params) around.entry.freezables.now (code_in code.old.items))
         × (k ≡ latest (code_in code.new.items))) }
 {
     let params = one_more(around.params)?;
@@ -207,7 +207,7 @@ fn emit_taker(
         Around {
             alloc: around.alloc,
             params,
-            places: around.places,
+            freezables: around.freezables,
         },
         code,
     )
@@ -222,16 +222,16 @@ fn emit_resumer(
     code: &mut Vec<Function>,
 ) -> Result<usize, Memory>
     ensures { IfOk result (λ k. (code_in code.new.items
-        ≡ emit t.now (suc around.entry.params) (around.entry.places.now
-        ++ map (place around.entry.params (length around.entry.places.now)) frozen.now)
+        ≡ emit t.now (suc around.entry.params) (around.entry.freezables.now
+        ++ map (freezable around.entry.params (length around.entry.freezables.now)) frozen.now)
         (code_in code.old.items)) × (k ≡ latest (code_in code.new.items))) }
 {
     let params = one_more(around.params)?;
-    let places = with_frozen(around, frozen)?;
+    let freezables = with_frozen(around, frozen)?;
     let inner = Around {
         alloc: around.alloc,
         params,
-        places: places.as_slice(),
+        freezables: freezables.as_slice(),
     };
     emit_part(t, inner, code)
 }
@@ -247,21 +247,21 @@ fn one_more(n: usize) -> Result<usize, Memory>
 }
 
 /// What may be frozen, with these functions.
-fn with_frozen(around: Around<'_>, frozen: &[usize]) -> Result<Vec<Place>, Memory>
-    ensures { IfOk result (λ places. places.items ≡ around.entry.places.now
-        ++ map (place around.entry.params (length around.entry.places.now)) frozen.now) }
+fn with_frozen(around: Around<'_>, frozen: &[usize]) -> Result<Vec<Freezable>, Memory>
+    ensures { IfOk result (λ freezables. freezables.items ≡ around.entry.freezables.now
+        ++ map (freezable around.entry.params (length around.entry.freezables.now)) frozen.now) }
 {
-    let mut places = Vec::new(around.alloc);
-    places.extend_from_slice(around.places)?;
+    let mut freezables = Vec::new(around.alloc);
+    freezables.extend_from_slice(around.freezables)?;
     for function in frozen {
-        let place = Place {
+        let freezable = Freezable {
             function: *function,
             params: around.params,
-            olds: around.places.len(),
+            olds: around.freezables.len(),
         };
-        places.push(place)?;
+        freezables.push(freezable)?;
     }
-    Ok(places)
+    Ok(freezables)
 }
 
 /// Adds the code of members; their functions.
@@ -271,7 +271,7 @@ fn emit_all(
     around: Around<'_>,
     code: &mut Vec<Function>,
 ) -> Result<Vec<usize>, Memory>
-    ensures { IfOk result (λ ks. emit_all fs.now around.entry.params around.entry.places.now
+    ensures { IfOk result (λ ks. emit_all fs.now around.entry.params around.entry.freezables.now
         (code_in code.old.items) ≡ (code_in code.new.items, ks.items)) }
 {
     let mut functions = Vec::new(around.alloc);
@@ -288,7 +288,7 @@ fn emit_members(
     code: &mut Vec<Function>,
 ) -> Result<(), Memory>
     ensures { IfOk result (λ _. AddsFunctions
-        (emit_all (members_of fs.now) around.entry.params around.entry.places.now
+        (emit_all (members_of fs.now) around.entry.params around.entry.freezables.now
         (code_in code.old.items))
         (code_in code.new.items) functions.old.items functions.new.items) }
 {
@@ -311,7 +311,7 @@ fn emit_seq(
     code: &mut Vec<Function>,
 ) -> Result<(), Memory>
     ensures { IfOk result (λ _. code_in code.new.items
-        ≡ emit (seq f.now g.now) around.entry.params around.entry.places.now
+        ≡ emit (seq f.now g.now) around.entry.params around.entry.freezables.now
         (code_in code.old.items)) }
 {
     let f = emit_part(f, around, code)?;
@@ -327,7 +327,7 @@ fn emit_first(
     code: &mut Vec<Function>,
 ) -> Result<(), Memory>
     ensures { IfOk result (λ _. code_in code.new.items
-        ≡ emit (first f.now) around.entry.params around.entry.places.now (code_in code.old.items)) }
+        ≡ emit (first f.now) around.entry.params around.entry.freezables.now (code_in code.old.items)) }
 {
     let f = emit_part(f, around, code)?;
     push_function(code, Function::First(f))
@@ -337,7 +337,7 @@ fn emit_first(
 #[cycle(emit)]
 fn emit_par(fs: &Members<Expr>, around: Around<'_>, code: &mut Vec<Function>) -> Result<(), Memory>
     ensures { IfOk result (λ _. code_in code.new.items
-        ≡ emit (par fs.now) around.entry.params around.entry.places.now (code_in code.old.items)) }
+        ≡ emit (par fs.now) around.entry.params around.entry.freezables.now (code_in code.old.items)) }
 {
     let fs = emit_all(fs, around, code)?;
     push_function(code, Function::Par(fs))
@@ -352,7 +352,7 @@ fn emit_loop(
     code: &mut Vec<Function>,
 ) -> Result<(), Memory>
     ensures { IfOk result (λ _. code_in code.new.items
-        ≡ emit (loop_pre c.now f.now) around.entry.params around.entry.places.now
+        ≡ emit (loop_pre c.now f.now) around.entry.params around.entry.freezables.now
         (code_in code.old.items)) }
 {
     let f = emit_part(f, around, code)?;
@@ -369,7 +369,7 @@ fn emit_out(
     code: &mut Vec<Function>,
 ) -> Result<(), Memory>
     ensures { IfOk result (λ _. code_in code.new.items
-        ≡ emit (initial_out c.now f.now) around.entry.params around.entry.places.now
+        ≡ emit (initial_out c.now f.now) around.entry.params around.entry.freezables.now
         (code_in code.old.items)) }
 {
     let f = emit_part(f, around, code)?;
@@ -386,7 +386,7 @@ fn emit_in(
     code: &mut Vec<Function>,
 ) -> Result<(), Memory>
     ensures { IfOk result (λ _. code_in code.new.items
-        ≡ emit (initial_in c.now f.now) around.entry.params around.entry.places.now
+        ≡ emit (initial_in c.now f.now) around.entry.params around.entry.freezables.now
         (code_in code.old.items)) }
 {
     let f = emit_part(f, around, code)?;
@@ -403,7 +403,7 @@ fn emit_switch(
     code: &mut Vec<Function>,
 ) -> Result<(), Memory>
     ensures { IfOk result (λ _. code_in code.new.items
-        ≡ emit (switch at_once f.now t.now) around.entry.params around.entry.places.now
+        ≡ emit (switch at_once f.now t.now) around.entry.params around.entry.freezables.now
         (code_in code.old.items)) }
 {
     let f = emit_part(f, around, code)?;
@@ -420,7 +420,7 @@ fn emit_late_switch(
     code: &mut Vec<Function>,
 ) -> Result<(), Memory>
     ensures { IfOk result (λ _. code_in code.new.items
-        ≡ emit (switch delayed f.now t.now) around.entry.params around.entry.places.now
+        ≡ emit (switch delayed f.now t.now) around.entry.params around.entry.freezables.now
         (code_in code.old.items)) }
 {
     let f = emit_part(f, around, code)?;
@@ -437,7 +437,7 @@ fn emit_restart(
     code: &mut Vec<Function>,
 ) -> Result<(), Memory>
     ensures { IfOk result (λ _. code_in code.new.items
-        ≡ emit (r_switch at_once f.now t.now) around.entry.params around.entry.places.now
+        ≡ emit (r_switch at_once f.now t.now) around.entry.params around.entry.freezables.now
         (code_in code.old.items)) }
 {
     let f = emit_part(f, around, code)?;
@@ -454,7 +454,7 @@ fn emit_late_restart(
     code: &mut Vec<Function>,
 ) -> Result<(), Memory>
     ensures { IfOk result (λ _. code_in code.new.items
-        ≡ emit (r_switch delayed f.now t.now) around.entry.params around.entry.places.now
+        ≡ emit (r_switch delayed f.now t.now) around.entry.params around.entry.freezables.now
         (code_in code.old.items)) }
 {
     let f = emit_part(f, around, code)?;
@@ -472,7 +472,7 @@ fn emit_k_switch(
     code: &mut Vec<Function>,
 ) -> Result<(), Memory>
     ensures { IfOk result (λ _. code_in code.new.items
-        ≡ emit (k_switch f.now e.now t.now) around.entry.params around.entry.places.now
+        ≡ emit (k_switch f.now e.now t.now) around.entry.params around.entry.freezables.now
         (code_in code.old.items)) }
 {
     let f = emit_part(f, around, code)?;
@@ -492,7 +492,7 @@ fn emit_p_switch(
     code: &mut Vec<Function>,
 ) -> Result<(), Memory>
     ensures { IfOk result (λ _. code_in code.new.items
-        ≡ emit (p_switch r.now fs.now e.now t.now) around.entry.params around.entry.places.now
+        ≡ emit (p_switch r.now fs.now e.now t.now) around.entry.params around.entry.freezables.now
         (code_in code.old.items)) }
 {
     let fs = emit_all(fs, around, code)?;
@@ -512,7 +512,7 @@ fn emit_collection(
     code: &mut Vec<Function>,
 ) -> Result<(), Memory>
     ensures { IfOk result (λ _. code_in code.new.items
-        ≡ emit (rp_switch fs.now m.now t.now) around.entry.params around.entry.places.now
+        ≡ emit (rp_switch fs.now m.now t.now) around.entry.params around.entry.freezables.now
         (code_in code.old.items)) }
 {
     let fs = emit_all(fs, around, code)?;

@@ -15,8 +15,8 @@
 
 mod bodies;
 mod emit;
+mod freezable;
 mod laws;
-mod place;
 mod statement;
 
 pub use emit::compile;
