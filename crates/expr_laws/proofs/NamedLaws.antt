@@ -71,12 +71,12 @@ pub law18-gives : (e : Expression) → IsRight 18 e (law18 e)
 law18-gives (nth (list_expr T es) (int_expr i) d) = picked-gives T es i d
 law18-gives _ = tt
 
-and-gives : (a b : Expression) → Turned (and_expr a b) (turned_by true and_expr a b)
+and-gives : (a b : Expression) → Turned (and_expr a b) (turned_by true (and_expr b a) a b)
 and-gives (bool_expr true) b = and_true
 and-gives (bool_expr false) b = and_false
 and-gives _ b = and_turned refl
 
-or-gives : (a b : Expression) → Turned (or_expr a b) (turned_by false or_expr a b)
+or-gives : (a b : Expression) → Turned (or_expr a b) (turned_by false (or_expr b a) a b)
 or-gives (bool_expr true) b = or_true
 or-gives (bool_expr false) b = or_false
 or-gives _ b = or_turned refl
@@ -113,17 +113,17 @@ pub on_literals-is : {o : Expression} → OnLiterals o → on_literals o ≡ tru
 on_literals-is neg_literal = refl
 on_literals-is _ = refl
 
-exchanged-is : (neutral : Bool) (operator : Expression → Expression → Expression) (a b : Expression) → is_bool a ≡ false → turned_by neutral operator a b ≡ operator b a
-exchanged-is neutral operator (bool_expr c) b q = absurd (cc)
-exchanged-is neutral operator _ b q = refl
+exchanged-is : (neutral : Bool) (x a b : Expression) → is_bool a ≡ false → turned_by neutral x a b ≡ x
+exchanged-is neutral x (bool_expr c) b q = absurd (cc)
+exchanged-is neutral x _ b q = refl
 
 pub turned-is : {o r : Expression} → Turned o r → law23 o ≡ Some r
 turned-is and_true = refl
 turned-is and_false = refl
 turned-is or_true = refl
 turned-is or_false = refl
-turned-is (and_turned {a = a} {b = b} q) = ap Some (exchanged-is true and_expr a b q)
-turned-is (or_turned {a = a} {b = b} q) = ap Some (exchanged-is false or_expr a b q)
+turned-is (and_turned {a = a} {b = b} q) = ap Some (exchanged-is true (and_expr b a) a b q)
+turned-is (or_turned {a = a} {b = b} q) = ap Some (exchanged-is false (or_expr b a) a b q)
 
 pub compared-is : {o r : Expression} → Compared o r → law26 o ≡ Some r
 compared-is (equal_same {a = a}) = sym (same-made a a true (λ e. refl, λ e. refl) refl)

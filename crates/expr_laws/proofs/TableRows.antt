@@ -1,5 +1,5 @@
 -- The table's laws are the rows.
-use Rattle.std.proofs.Common.{◌≡◌, ℕ, zero, suc, ◌+◌, ◌≤◌, pos, cond, length, get_or, map, List, [], ◌∷◌, Option, Some, None, refl, sym, ap, ◌∙◌, subst, arith}
+use Rattle.std.proofs.Common.{◌≡◌, ℕ, ◌+◌, ◌≤◌, pos, cond, length, List, [], Option, Some, None, refl, sym, ap, subst, arith}
 use Rattle.sample_core.specs.Datum.{unit}
 use Rattle.sample_core.specs.TypeTree.{unit_ty}
 use Rattle.leaf_core.specs.Expression.{Expression, input, no_more}
@@ -11,6 +11,7 @@ use Rattle.law_patterns.specs.Matching.{FoundLetters, going, ended, built, rewri
 use Rattle.law_patterns.specs.Pattern.{Assignment, filled}
 use Rattle.law_patterns.specs.Rule.{Related, RuleInstance}
 use Rattle.law_patterns.proofs.Rows.{rewritten-some}
+use Rattle.law_patterns.proofs.Tables.{Each, each-at}
 use Rattle.expr_laws.specs.Rows.{literal_for, neg_spread, unit_constant, equal_units, ExpressionRow, row_e1, row_e2, row_e3, row_e4, row_e5, row_e6, row_e7, row_e8, row_e9, row_e10, row_e11, row_e12, row_e13, row_e14, row_e15, row_e16, row_e17, row_e18, row_e19, row_e20, row_e21, row_e22, row_e23, row_e24, row_e25, row_e26, and_true, equal_same}
 use Rattle.expr_laws.specs.Direct.{law4, law6, law15, law18, law23, law26}
 use Rattle.expr_laws.specs.Table.{rule_at, left_at, right_at}

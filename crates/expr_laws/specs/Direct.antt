@@ -94,18 +94,17 @@ law18 (nth e i d) = picked_from e i d
 law18 _ = None
 
 -- an operator, `and` or `or`, on two expressions: where the first is a literal, the second if the
--- literal is the operator's neutral one, else the literal; with another first one the operator on
--- the second and the first
-abbrev pub turned_by : Bool → (Expression → Expression → Expression)
-    → Expression → Expression → Expression
-turned_by neutral operator (bool_expr true) b = cond neutral b (bool_expr true)
-turned_by neutral operator (bool_expr false) b = cond neutral (bool_expr false) b
-turned_by neutral operator a b = operator b a
+-- literal is the operator's neutral one, else the literal; with another first one what is given, the
+-- operator with its parts exchanged
+abbrev pub turned_by : Bool → Expression → Expression → Expression → Expression
+turned_by neutral exchanged (bool_expr true) b = cond neutral b (bool_expr true)
+turned_by neutral exchanged (bool_expr false) b = cond neutral (bool_expr false) b
+turned_by neutral exchanged a b = exchanged
 
 -- the same of an expression that is `and` or `or`
 abbrev pub law23 : Expression → Option Expression
-law23 (and_expr a b) = Some (turned_by true and_expr a b)
-law23 (or_expr a b) = Some (turned_by false or_expr a b)
+law23 (and_expr a b) = Some (turned_by true (and_expr b a) a b)
+law23 (or_expr a b) = Some (turned_by false (or_expr b a) a b)
 law23 _ = None
 
 -- `true` where two expressions are the same, else `equal` of the second and the first

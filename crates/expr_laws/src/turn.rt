@@ -31,11 +31,23 @@ fn turned_by(
     b: &ExprChild,
 ) -> Result<Option<Expr>, Memory>
     ensures { IfOk result (λ o. option_map expression_of o
-        ≡ Some (turned_by neutral (λ p q. expression_of (with_two operator.now p q)) a.now b.now)) }
+        ≡ Some (turned_by neutral (expression_of (with_two operator.now b.now a.now)) a.now b.now)) }
 {
     match a.get() {
-        Expr::Literal(Literal::Bool(truth)) if *truth == neutral => copy_of(alloc, b),
-        Expr::Literal(Literal::Bool(truth)) => Ok(Some(Expr::Literal(Literal::Bool(*truth)))),
+        Expr::Literal(Literal::Bool(true)) => {
+            if neutral {
+                copy_of(alloc, b)
+            } else {
+                Ok(Some(Expr::Literal(Literal::Bool(true))))
+            }
+        }
+        Expr::Literal(Literal::Bool(false)) => {
+            if neutral {
+                Ok(Some(Expr::Literal(Literal::Bool(false))))
+            } else {
+                copy_of(alloc, b)
+            }
+        }
         _ => {
             let first = b.try_copy()?;
             let second = a.try_copy()?;

@@ -1,6 +1,5 @@
 -- What holds of each law of a table holds at any number.
-use Rattle.std.proofs.Common.{◌≡◌, ℕ, zero, suc, ◌+◌, ◌≤◌, length, List, [], ◌∷◌, ◌∙◌, subst, arith}
-use Rattle.std.specs.Borrow.{Bor}
+use Rattle.std.proofs.Common.{◌≡◌, ℕ, zero, suc, ◌+◌, ◌≤◌, length, List, [], ◌∷◌, Bor, ◌∙◌, subst, arith}
 use Rattle.law_patterns.specs.Table.{rule_in, left_in, right_in}
 
 -- what stands at each number of a table, from number k on

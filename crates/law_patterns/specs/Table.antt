@@ -1,6 +1,6 @@
 -- Laws by number, as a table of code has them: a line is what the law is, and its two sides.
 use Rattle.std.specs.Prelude.{ℕ, List, [], get_or, map}
-use Rattle.std.specs.Borrow.{Bor}
+use Rattle.std.proofs.Common.{Bor}
 
 -- what the law of a number is; outside of the table what is no law
 abbrev pub rule_in : {R S : Type 0} → List (R × Bor (List S) × Bor (List S)) → R → ℕ → R

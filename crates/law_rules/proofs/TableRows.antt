@@ -1,5 +1,5 @@
 -- The table's laws are the rows.
-use Rattle.std.proofs.Common.{◌≡◌, ℕ, zero, suc, ◌+◌, ◌≤◌, cond, length, get_or, map, List, [], ◌∷◌, Option, Some, None, refl, sym, ap, ◌∙◌, subst, arith}
+use Rattle.std.proofs.Common.{◌≡◌, ℕ, ◌+◌, ◌≤◌, cond, length, List, [], Option, Some, None, refl, sym, ap, ◌∙◌, subst, arith}
 use Rattle.std.proofs.lemmas.Bool.{le-leb}
 use Rattle.sample_core.specs.TypeTree.{unit_ty}
 use Rattle.leaf_core.specs.Expression.{Expression, input, no_more, and_then}
@@ -15,6 +15,7 @@ use Rattle.law_patterns.specs.NetMatching.{NetFound, beside, net_ended, net_buil
 use Rattle.law_patterns.specs.NetPattern.{NetAssignment, net_filled}
 use Rattle.law_patterns.specs.NetRule.{NetRuleInstance}
 use Rattle.law_patterns.proofs.NetRows.{net_rewritten-some}
+use Rattle.law_patterns.proofs.Tables.{Each, each-at}
 use Rattle.law_rules.specs.NetworkRow.{behind_routes, each_after, each_arr, count, time_sees, NetworkRow, row_l1, row_l2, row_l3, row_l4, row_l5, row_l6, row_l7, row_l8, row_l9, row_l10, row_l11, row_l12, row_l13, row_l14, row_l15, row_l16, row_l17, row_l18, row_l19, row_l20, row_l21, row_l22, row_l23, row_l24, row_l25, row_l26, row_l27, row_l28, row_l29, row_l30, row_l31, row_l32, row_l33, row_l34, row_l35, row_l36, row_l37, row_l38, row_l39, row_l40, row_l41, row_l42, row_l43, row_l44, row_l45, row_l46, row_l47, row_l48, row_l49, row_l50, row_l51}
 use Rattle.law_rules.specs.Forward.{law20, law38, law39, law40, law41, law42, law46}
 use Rattle.law_rules.specs.Table.{rule_at, left_at, right_at}

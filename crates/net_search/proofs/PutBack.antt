@@ -6,7 +6,6 @@ use Rattle.sample_core.specs.TypeTree.{TypeTree}
 use Rattle.leaf_core.specs.Expression.{Expression}
 use Rattle.leaf_core.specs.Parts.{part, with_part, part_at, with_part_at, InputAt}
 use Rattle.leaf_core.proofs.PartTypes.{value_is, Inner, inner, kept_there}
-use Rattle.net_tree.specs.Network.{Network}
 use Rattle.net_tree.specs.Place.{◌>>=◌, Tree, a_network, a_leaf, child}
 use Rattle.net_syntax.specs.Placed.{with_child, replaced}
 use Rattle.net_meaning.specs.NetworkLimits.{NetTypedWithin}

@@ -20,7 +20,7 @@ use Rattle.net_tree.specs.Weight.{weight}
 use Rattle.net_tree.specs.Height.{height}
 use Rattle.net_tree.specs.declared.measure.Measures.{Measures}
 use Rattle.net_syntax.specs.Rewriting.{Rewrites}
-use Rattle.net_tree.specs.Place.{◌>>=◌, Tree, a_network, a_leaf, child}
+use Rattle.net_tree.specs.Place.{Tree, a_network, a_leaf, child}
 use Rattle.net_syntax.specs.Placed.{with_child, replaced}
 use Rattle.net_meaning.specs.TypedNetwork.{TypedNetwork}
 use Rattle.net_meaning.specs.NetworkLimits.{NetTypedWithin, WithinLimits}
