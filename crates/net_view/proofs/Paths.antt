@@ -136,7 +136,7 @@ none_onward : (p q : List ℕ) (m n : ℕ) → ((u : Tree Expression) → placed
 none_onward p q m n below None h = refl
 none_onward p q m n below (Some u) h = below u h
 
-none_below : (p q : List ℕ) (m n : ℕ) (u : Tree Expression) → placed_at m n u p ≡ None → placed_at m n u (p ++ q) ≡ None
+pub none_below : (p q : List ℕ) (m n : ℕ) (u : Tree Expression) → placed_at m n u p ≡ None → placed_at m n u (p ++ q) ≡ None
 none_below p q m n (a_leaf e) h = ap (option_map (λ x. placed m n (a_leaf x))) (no_part_below p q e (no_leaf m n (part_at e p) h))
 none_below [] q m n (a_network f) h = absurd (none-some (placed m n (a_network f)) (sym h))
 none_below (k ∷ p) q m n (a_network f) h =
@@ -188,7 +188,7 @@ pub reached_at : (t : TypedNetwork) (p : List ℕ) (c : Placed) → WithinLimits
 reached_at t p c w h = reached_further t [] p (placed 0 0 (a_network t.net)) c (reached_root t w) h
 
 -- the positions of the whole, from those below one
-order_behind : (p a b : List ℕ) → Before a b → Before (p ++ a) (p ++ b)
+pub order_behind : (p a b : List ℕ) → Before a b → Before (p ++ a) (p ++ b)
 order_behind [] a b h = h
 order_behind (k ∷ p) a b h = before_below (order_behind p a b h)
 
