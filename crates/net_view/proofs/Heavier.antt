@@ -1,10 +1,11 @@
 -- Where a part gets no more than so much heavier, the whole does so too: so much is what a function allows of each weight.
 use Rattle.std.proofs.Common.{◌≡◌, ℕ, zero, suc, ◌+◌, ◌*◌, ◌≤◌, max, List, [], ◌∷◌, ◌++◌, length, Option, Some, None, IfSome, option_map, refl, sym, ap, ◌∙◌, subst, arith}
-use Rattle.std.proofs.lemmas.Option.{none-some, same_Some}
+use Rattle.std.proofs.lemmas.Option.{same_Some}
 use Rattle.std.proofs.lemmas.List.{length-append}
 use Rattle.std.proofs.lemmas.Nat.{mul-le}
-use Rattle.std.proofs.Math.Nat.{mul-add, mul_assoc, mul-comm, mul-one}
+use Rattle.std.proofs.Math.Nat.{mul-add, mul_assoc, mul_comm, mul-one}
 use Rattle.leaf_core.specs.Expression.{Expression}
+use Rattle.leaf_core.specs.Parts.{with_part_at}
 use Rattle.net_tree.specs.Network.{Network, Networks, at_once, delayed, arr, seq, first, par, loop_pre, i_pre, delay, hold, accum_by, after, repeatedly, switch, r_switch, k_switch, p_switch, old, initial_out, initial_in, rp_switch, no_members, and_member}
 use Rattle.net_tree.specs.Height.{greatest}
 use Rattle.net_tree.specs.Weight.{weight, weights, weight_at, total}
@@ -137,7 +138,6 @@ module _ (B : ℕ → ℕ) (grows : (a b : ℕ) → a ≤ b → B a ≤ B b) (ad
       put : (o : Option (Networks Expression)) → IfSome o (AllLighter (n + 0) fs) → IfSome (option_map par o) (λ v. Lighter n (a_network (par fs)) (a_network v))
       put None h = tt
       put (Some gs) h = λ us ws u l. over_one (total (weights gs us)) (total (weights fs ws)) (under_total (h us ws u (same_scope n ws l)))
-
   child_lighter n (loop_pre c f) zero (a_leaf s) h = λ us ws u l. under (loop_pre c f) u
   child_lighter n (loop_pre c f) (suc zero) (a_network s) h = λ us ws u l. over_one (weight s us) (weight f ws) (h us ws u (same_scope n ws l))
   child_lighter n (i_pre c) zero (a_leaf s) h = λ us ws u l. over_none
@@ -272,7 +272,7 @@ more_times r a h = omega (arith, h, mul-add r 1 a, mul-one r)
 
 times_many : (r a : ℕ) → 64 * (r * a) ≤ r * (64 * a)
 times_many r a =
-    let e : 64 * (r * a) ≡ r * (64 * a) = sym (mul_assoc 64 r a) ∙ ap (λ z. z * a) (mul-comm 64 r) ∙ mul_assoc r 64 a in omega (arith, e)
+    let e : 64 * (r * a) ≡ r * (64 * a) = sym (mul_assoc 64 r a) ∙ ap (λ z. z * a) (mul_comm 64 r) ∙ mul_assoc r 64 a in omega (arith, e)
 
 -- where a part with nothing frozen in scope gets at most so many times heavier, the whole does so too
 pub whole_times : (r : ℕ) (f v : Network Expression) (p : List ℕ) (g s : Network Expression) (m : ℕ) → placed_at 0 0 (a_network f) p ≡ Some (placed m 0 (a_network g))

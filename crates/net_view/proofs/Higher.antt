@@ -1,8 +1,9 @@
 -- Where a part gets at most so much higher, the whole does so too.
 use Rattle.std.proofs.Common.{◌≡◌, ℕ, zero, suc, ◌+◌, ◌≤◌, max, List, [], ◌∷◌, ◌++◌, length, Option, Some, None, IfSome, option_map, refl, sym, ap, ◌∙◌, subst, arith}
-use Rattle.std.proofs.lemmas.Option.{none-some, same_Some}
+use Rattle.std.proofs.lemmas.Option.{same_Some}
 use Rattle.std.proofs.lemmas.List.{length-append}
 use Rattle.leaf_core.specs.Expression.{Expression}
+use Rattle.leaf_core.specs.Parts.{with_part_at}
 use Rattle.net_tree.specs.Network.{Network, Networks, arr, seq, first, par, loop_pre, i_pre, delay, hold, accum_by, after, repeatedly, switch, r_switch, k_switch, p_switch, old, initial_out, initial_in, rp_switch, no_members, and_member}
 use Rattle.net_tree.specs.Height.{height, heights, height_at, greatest}
 use Rattle.net_tree.specs.Place.{◌>>=◌, Tree, a_network, a_leaf, member, child, child_network, collection_child, PSwitchChild, p_switch_child, member_child, event_child, continuation_child, no_child}
@@ -15,40 +16,40 @@ many no_members ws = refl
 many (and_member f fs) ws = ap suc (many fs ws)
 
 -- lists of one length, each number at most so much above the other
-data Under (r : ℕ) : List ℕ → List ℕ → Type 0 where
-  none_under : Under r [] []
-  one_under : {x y : ℕ} {xs ys : List ℕ} → x ≤ r + y → Under r xs ys → Under r (x ∷ xs) (y ∷ ys)
+data Under (rise : ℕ) : List ℕ → List ℕ → Type 0 where
+  none_under : Under rise [] []
+  one_under : {x y : ℕ} {xs ys : List ℕ} → x ≤ rise + y → Under rise xs ys → Under rise (x ∷ xs) (y ∷ ys)
 
-module _ (r : ℕ) where
-  under_joined : {us ws vs xs : List ℕ} → Under r us ws → Under r vs xs → Under r (us ++ vs) (ws ++ xs)
+module _ (rise : ℕ) where
+  under_joined : {us ws vs xs : List ℕ} → Under rise us ws → Under rise vs xs → Under rise (us ++ vs) (ws ++ xs)
   under_joined none_under k = k
   under_joined (one_under h hs) k = one_under h (under_joined hs k)
 
-  under_at : {us ws : List ℕ} → Under r us ws → (k : ℕ) → height_at us k ≤ r + (height_at ws k)
+  under_at : {us ws : List ℕ} → Under rise us ws → (k : ℕ) → height_at us k ≤ rise + (height_at ws k)
   under_at none_under k = omega arith
   under_at (one_under h hs) zero = h
   under_at (one_under h hs) (suc k) = under_at hs k
 
-  under_greatest : {us ws : List ℕ} → Under r us ws → greatest us ≤ r + greatest ws
+  under_greatest : {us ws : List ℕ} → Under rise us ws → greatest us ≤ rise + greatest ws
   under_greatest none_under = omega arith
   under_greatest (one_under {x = x} {y = y} {xs = xs} {ys = ys} h hs) = omega (arith, h, under_greatest hs)
 
   -- a node over one, two and three of these
-  over_one : (x y : ℕ) → x ≤ r + y → suc x ≤ r + suc y
+  over_one : (x y : ℕ) → x ≤ rise + y → suc x ≤ rise + suc y
   over_one x y h = omega (arith, h)
 
-  over_two : (a b x y : ℕ) → a ≤ r + x → b ≤ r + y → suc (max a b) ≤ r + suc (max x y)
+  over_two : (a b x y : ℕ) → a ≤ rise + x → b ≤ rise + y → suc (max a b) ≤ rise + suc (max x y)
   over_two a b x y h k = omega (arith, h, k)
 
-  over_three : (a b c x y z : ℕ) → a ≤ r + x → b ≤ r + y → c ≤ r + z → suc (max (max a b) c) ≤ r + suc (max (max x y) z)
+  over_three : (a b c x y z : ℕ) → a ≤ rise + x → b ≤ rise + y → c ≤ rise + z → suc (max (max a b) c) ≤ rise + suc (max (max x y) z)
   over_three a b c x y z h k l = omega (arith, h, k, l)
 
-  over_none : 1 ≤ r + 1
+  over_none : 1 ≤ rise + 1
   over_none = omega arith
 
   mutual
     -- what is frozen is that much higher
-    under : (net : Network Expression) {us ws : List ℕ} → Under r us ws → height net us ≤ r + (height net ws)
+    under : (net : Network Expression) {us ws : List ℕ} → Under rise us ws → height net us ≤ rise + (height net ws)
     under (seq f g) {us = us} {ws = ws} u = over_two (height f us) (height g us) (height f ws) (height g ws) (under f u) (under g u)
     under (first f) {us = us} {ws = ws} u = over_one (height f us) (height f ws) (under f u)
     under (par fs) {us = us} {ws = ws} u = over_one (greatest (heights fs us)) (greatest (heights fs ws)) (under_greatest (all_under fs u))
@@ -68,17 +69,17 @@ module _ (r : ℕ) where
         over_two (greatest (heights fs us)) (height t us) (greatest (heights fs ws)) (height t ws) (under_greatest (all_under fs u)) (under t u)
     under _ u = over_none
 
-    all_under : (fs : Networks Expression) {us ws : List ℕ} → Under r us ws → Under r (heights fs us) (heights fs ws)
+    all_under : (fs : Networks Expression) {us ws : List ℕ} → Under rise us ws → Under rise (heights fs us) (heights fs ws)
     all_under no_members u = none_under
     all_under (and_member f fs) u = one_under (under f u) (all_under fs u)
 
   -- with so many frozen networks in scope, the second tree is at most that much higher than the first
   abbrev Lower : ℕ → Tree Expression → Tree Expression → Type 0
-  Lower n (a_network g) (a_network h) = (us ws : List ℕ) → Under r us ws → length ws ≡ n → height h us ≤ r + (height g ws)
+  Lower n (a_network g) (a_network h) = (us ws : List ℕ) → Under rise us ws → length ws ≡ n → height h us ≤ rise + (height g ws)
   Lower n _ _ = Unit {0}
 
   abbrev AllLower : ℕ → Networks Expression → Networks Expression → Type 0
-  AllLower n fs gs = (us ws : List ℕ) → Under r us ws → length ws ≡ n → Under r (heights gs us) (heights fs ws)
+  AllLower n fs gs = (us ws : List ℕ) → Under rise us ws → length ws ≡ n → Under rise (heights gs us) (heights fs ws)
 
   member_lower : (n : ℕ) (fs : Networks Expression) (k : ℕ) (s : Network Expression) → IfSome (member fs k) (λ g. Lower n (a_network g) (a_network s))
       → IfSome (with_member fs k s) (AllLower n fs)
@@ -115,7 +116,6 @@ module _ (r : ℕ) where
       put : (o : Option (Networks Expression)) → IfSome o (AllLower (n + 0) fs) → IfSome (option_map par o) (λ v. Lower n (a_network (par fs)) (a_network v))
       put None h = tt
       put (Some gs) h = λ us ws u l. over_one (greatest (heights gs us)) (greatest (heights fs ws)) (under_greatest (h us ws u (same_scope n ws l)))
-
   child_lower n (loop_pre c f) zero (a_leaf s) h = λ us ws u l. under (loop_pre c f) u
   child_lower n (loop_pre c f) (suc zero) (a_network s) h = λ us ws u l. over_one (height s us) (height f ws) (h us ws u (same_scope n ws l))
   child_lower n (i_pre c) zero (a_leaf s) h = λ us ws u l. over_none
@@ -155,7 +155,7 @@ module _ (r : ℕ) where
       put : (o : Option (Networks Expression)) → IfSome o (AllLower (n + 0) fs) → Is (option_map (λ gs. p_switch r gs e t) o)
       put None h = tt
       put (Some gs) h = λ us ws u l.
-          let all : Under r (heights gs us) (heights fs ws) = h us ws u (same_scope n ws l) in
+          let all : Under rise (heights gs us) (heights fs ws) = h us ws u (same_scope n ws l) in
           over_three (greatest (heights gs us)) (height e us) (height t (us ++ heights gs us)) (greatest (heights fs ws)) (height e ws) (height t (ws ++ heights fs ws))
           (under_greatest all) (under e u) (under t (under_joined u all))
 
@@ -239,15 +239,16 @@ module _ (r : ℕ) where
   whole_lower f v p c s i h q = subst (λ o. IfSome o (Lower 0 (a_network f))) q (path_lower 0 0 (a_network f) p c s i h)
 
 -- where a part with nothing frozen in scope gets at most so much higher, the whole does so too
-pub whole_rises : (r : ℕ) (f v : Network Expression) (p : List ℕ) (g s : Network Expression) (m : ℕ) → placed_at 0 0 (a_network f) p ≡ Some (placed m 0 (a_network g))
-    → replaced (a_network f) p (a_network s) ≡ Some (a_network v) → height s [] ≤ r + height g [] → height v [] ≤ r + height f []
-whole_rises r f v p g s m i q h = whole_lower r f v p (placed m 0 (a_network g)) (a_network s) i here q [] [] none_under refl
+pub whole_rises : (rise : ℕ) (f v : Network Expression) (p : List ℕ) (g s : Network Expression) (m : ℕ) → placed_at 0 0 (a_network f) p ≡ Some (placed m 0 (a_network g))
+    → replaced (a_network f) p (a_network s) ≡ Some (a_network v) → height s [] ≤ rise + height g [] → height v [] ≤ rise + height f []
+whole_rises rise f v p g s m i q h = whole_lower rise f v p (placed m 0 (a_network g)) (a_network s) i here q [] [] none_under refl
   where
-    here : (us ws : List ℕ) → Under r us ws → length ws ≡ 0 → height s us ≤ r + height g ws
+    here : (us ws : List ℕ) → Under rise us ws → length ws ≡ 0 → height s us ≤ rise + height g ws
     here us ws none_under l = h
     here us ws (one_under x xs) l = absurd (omega (arith, l))
 
 -- and where a part of an expression is another, the whole is as high
 pub whole_low : (f v : Network Expression) (p : List ℕ) (e s : Expression) (m n : ℕ) → placed_at 0 0 (a_network f) p ≡ Some (placed m n (a_leaf e))
     → replaced (a_network f) p (a_leaf s) ≡ Some (a_network v) → height v [] ≤ height f []
-whole_low f v p e s m n i q = whole_lower 0 f v p (placed m n (a_leaf e)) (a_leaf s) i tt q [] [] none_under refl
+whole_low f v p e s m n i q =
+    omega (arith, whole_lower 0 f v p (placed m n (a_leaf e)) (a_leaf s) i tt q [] [] none_under refl)

@@ -1,10 +1,11 @@
 -- The walk that lists steps: what is known on the way down, and the steps behind one another.
-use Rattle.std.proofs.Common.{◌≡◌, ◌⊎◌, inl, inr, ℕ, ◌+◌, ◌*◌, ◌≤◌, Bool, true, false, List, [], ◌∷◌, ◌++◌, drop, length, map, Option, Some, None, IfSome, option_map, Contains, refl, sym, ap, ◌∙◌, subst, arith, append_assoc}
+use Rattle.std.proofs.Common.{◌≡◌, ◌⊎◌, inl, inr, ℕ, ◌+◌, ◌-◌, ◌*◌, ◌/◌, ◌≤◌, Bool, true, false, List, [], ◌∷◌, ◌++◌, drop, length, Option, Some, None, IfSome, IfOk, Result, Ok, Err, option_map, Contains, refl, sym, ap, ◌∙◌, subst, arith, append_assoc}
 use Rattle.std.specs.Prelude.{MatchOption}
-use Rattle.std.specs.List.{All}
 use Rattle.std.proofs.lemmas.List.{append-nil, drop-append-le, length-append, map-append}
 use Rattle.std.proofs.lemmas.List.Elements.{All-nil, All-cons, All-append, All-contains, Contains-append_left, Contains-append_right, Contains-append_cases}
 use Rattle.std.proofs.lemmas.Option.{none-some, same_Some}
+use Rattle.std.proofs.lemmas.Nat.{mul-le}
+use Rattle.std.proofs.Math.Nat.{div-mul-le_self, mul_comm}
 use Rattle.sample_core.specs.TypeTree.{TypeTree}
 use Rattle.leaf_core.specs.Expression.{Expression}
 use Rattle.leaf_core.specs.Parts.{part}
@@ -12,30 +13,31 @@ use Rattle.net_tree.specs.Network.{Network}
 use Rattle.net_tree.specs.Weight.{weight}
 use Rattle.net_tree.specs.Height.{height}
 use Rattle.net_tree.specs.Place.{Tree, a_network, a_leaf, child}
-use Rattle.net_tree.specs.LawStep.{Step}
+use Rattle.net_tree.specs.LawStep.{Step, part_of}
+use Rattle.net_tree.specs.declared.law_step.Tree as C
 use Rattle.net_tree.specs.declared.law_step.Law.{Law}
 use Rattle.net_tree.specs.declared.law_step.Direction.TheVariants.{Forward}
 use Rattle.net_syntax.specs.Placed.{Placed, placed, placed_at, replaced}
-use Rattle.net_syntax.specs.Rewriting.{Rewrites}
 use Rattle.net_syntax.specs.Standing.{Standing, alone, TreeWithin}
 use Rattle.net_syntax.specs.StandingWalk as W
 use Rattle.net_meaning.specs.TypedNetwork.{TypedNetwork}
 use Rattle.net_meaning.specs.NetworkLimits.{WithinLimits, NetTypedWithin}
-use Rattle.net_types.specs.Answered.{NoRewriting}
 use Rattle.net_types.specs.KeptTypes.{both_there, type_kept}
 use Rattle.net_types.proofs.Holes.{Hole, hole, found_there}
 use Rattle.net_types.proofs.Rewritings.{rewritten, none_unkept}
 use Rattle.cert_check.specs.TreeAnswer.{TreeAnswer}
 use Rattle.cert_check.specs.Derives.{Next}
+use Rattle.cert_check.specs.StepAnswers.{IsTreeAnswer}
 use Rattle.cert_check.proofs.StandsNow.{next_there}
 use Rattle.net_opt.specs.Optimising.{forward_step}
 use Rattle.net_opt.specs.Order.{Before}
 use Rattle.net_opt.specs.Walk.{Reached}
 use Rattle.net_opt.proofs.Insides.{inside}
-use Rattle.net_opt.proofs.Walked.{found_inside, placed_here}
-use Rattle.net_view.specs.Listed.{InOrder, Lists, AddsPositions, ArePositions, IsInside}
-use Rattle.net_view.specs.Possible.{Possible, EarlierStep, earlier_position, IsFoundBy, IsPossible, ListsSteps, ArePossible, ArePossibleAt, MayBeTaken, changing}
+use Rattle.net_opt.proofs.Walked.{found_inside, placed_here, reached_inside}
+use Rattle.net_view.specs.Listed.{InOrder, Lists, AddsPositions, IsInside}
+use Rattle.net_view.specs.Possible.{Possible, EarlierStep, earlier_position, IsFoundBy, IsPossible, ListsSteps, ArePossible, ArePossibleAt, MayBeTaken, changing, possible_of}
 use Rattle.net_view.specs.Spots.{IsRooted, IsAround, MayStand, IsPut, GrowsLittle, HasRoom, AtPositions, AddsSteps, AddsStepsBelow, standing_below, root_below, depth_below}
+use Rattle.net_view.specs.declared.possible.PossibleStep.{PossibleStep}
 use Rattle.net_view.proofs.Listings.{order_mapped, lists_same, lists_joined}
 use Rattle.net_view.proofs.Paths.{IsUpTo, inside_at, none_below, order_behind, paths_begin, paths_more, paths_end, found_positions, no_positions}
 use Rattle.net_view.proofs.Stepping.{steps_in, no_positions_yet, steps_more, all_possible, untyped_by}
@@ -151,6 +153,14 @@ around_inside t p r k m n c d S R u v way a found stands own deep =
     go (a_network f) is root i j own deep = around_child t p r k m n f d S R u v c is way a root.0 root.1 i j own deep
     go (a_leaf e) is few i j own deep = around_part t p r k m n e d S R u v c is way a few i (same_Some S R j) own deep
 
+pub spot_inside : (t : TypedNetwork) (p r : List ℕ) (k m n : ℕ) (c d e : Placed) (S R : Standing) (u v : Tree Expression) → r ≡ p ++ k ∷ [] → Reached t p c → IsAround t p c S u n
+    → placed_at c.params c.olds c.tree (k ∷ []) ≡ Some d → standing_below S c.tree k ≡ Some R → e ≡ d → v ≡ root_below c.tree u d.tree
+    → m ≡ depth_below c.tree n (length r) → Reached t r e × IsAround t r e R v m
+spot_inside t p r k m n c d e S R u v way reached around found stands same own deep = (
+  subst (λ z. Reached t r z) (sym same) (subst (λ z. Reached t z d) (sym way) (reached_inside t p k c d reached found)),
+  subst (λ z. IsAround t r z R v m) (sym same) (around_inside t p r k m n c d S R u v way around found stands own deep),
+)
+
 pub stands_below : (t : TypedNetwork) (p : List ℕ) (k n : ℕ) (c d : Placed) (S : Standing) (u : Tree Expression) → IsAround t p c S u n
     → placed_at c.params c.olds c.tree (k ∷ []) ≡ Some d → standing_below S c.tree k ≡ None → ⊥
 stands_below t p k n c d S u a found none = go c.tree a.rooted (found_inside c d k found) none
@@ -159,6 +169,30 @@ stands_below t p k n c d S u a found none = go c.tree a.rooted (found_inside c d
     go (a_network f) root i j =
         let b : Below S f k d.tree = below S f k d.tree a.output (subst (λ z. TreeWithin S z a.output) root.0 a.typed) i in none-some b.place (sym j ∙ b.found)
     go (a_leaf e) root i j = none-some S (sym j)
+
+-- what the measures tell
+pub little : (t : TypedNetwork) (g h : Network Expression) (bw bh aw ah m times rise : ℕ) → WithinLimits t → bw ≡ weight g [] → bh ≡ height g [] → aw ≡ weight h []
+    → ah ≡ height h [] → t.weight ≤ m → times ≡ 1000000 / m → rise ≡ 256 - t.height → aw ≤ bw * times → ah ≤ bh + rise → GrowsLittle t g h
+little t g h bw bh aw ah m times rise w is_bw is_bh is_aw is_ah most is_times is_rise heavy high =
+    let all : times * m ≤ 1000000 = subst (λ z. z * m ≤ 1000000) (sym is_times) (div-mul-le_self 1000000 m) in
+    let some : times * t.weight ≤ times * m = mul-le times t.weight times m (omega arith) most in
+    let turned : bw * times ≡ times * weight g [] = mul_comm bw times ∙ ap (λ z. times * z) is_bw in
+    record {
+      times = times;
+      rise = rise;
+      light = omega (arith, some, all);
+      low = omega (arith, is_rise, w.its_height, w.fits.low);
+      heavier = omega (arith, is_aw, heavy, turned);
+      higher = omega (arith, is_ah, is_bh, high);
+    }
+
+-- no more numbers lead to the root than to the tree
+pub not_deeper : (t : TypedNetwork) (p : List ℕ) (c : Placed) (S : Standing) (u : Tree Expression) (n : ℕ) → IsAround t p c S u n → n ≤ length p
+not_deeper t p c S u n a = go c.tree a.rooted
+  where
+    go : (x : Tree Expression) → IsRooted p x u n → n ≤ length p
+    go (a_network f) root = omega (arith, root.1)
+    go (a_leaf e) few = few
 
 -- the limits leave the whole room
 pub room_whole : (t : TypedNetwork) (p : List ℕ) (c : Placed) (new : Tree Expression) (v : Network Expression) → Reached t p c → HasRoom t c.olds c.tree new
@@ -228,6 +262,23 @@ found_by t p law c new found r answer may is =
 pub none_by : (t : TypedNetwork) (p : List ℕ) (law : Law) (c : Placed) (new : Tree Expression) → Reached t p c → TreeAnswer c.olds law Forward c.tree None new
     → MayStand t p new false → IsFoundBy t p law None
 none_by t p law c new r answer may = untyped_by t p c.params c.olds c.tree new law r.stands answer may
+
+-- what the code answers
+pub ok_kept : {E : Type 0} (t : TypedNetwork) (p inner : List ℕ) (c : Placed) (S : Standing) (u : Tree Expression) (n : ℕ) (new : Tree Expression) (put : Bool) (r : Result Bool E)
+    → Reached t p c → IsAround t p c S u n → HasRoom t c.olds c.tree new → IsPut t p new put → put ≡ true → inner ≡ drop n p
+    → IfOk r (λ kept. kept ≡ type_kept S u inner new) → IfOk r (MayStand t p new)
+ok_kept t p inner c S u n new put (Ok kept) r a room is there way same = stands_kept t p inner c S u n new put kept r a room is there way same
+ok_kept t p inner c S u n new put (Err m) r a room is there way same = tt
+
+pub answers : (law : Law) (c : Placed) (new : C.Tree) (answer : Option C.Tree) → answer ≡ Some new → IsTreeAnswer c.olds law Forward c.tree None answer
+    → TreeAnswer c.olds law Forward c.tree None (part_of new)
+answers law c new answer e h = subst (IsTreeAnswer c.olds law Forward c.tree None) e h
+
+pub ok_found : {E : Type 0} (t : TypedNetwork) (p : List ℕ) (law : Law) (c : Placed) (new : Tree Expression) (r : Result (Option PossibleStep) E) → Reached t p c
+    → TreeAnswer c.olds law Forward c.tree None new → MayStand t p new true
+    → IfOk r (λ z. option_map possible_of z ≡ Some (changing (forward_step law p) c.tree new)) → IfOk r (λ z. IsFoundBy t p law (option_map possible_of z))
+ok_found t p law c new (Ok z) r answer may is = found_by t p law c new (option_map possible_of z) r answer may is
+ok_found t p law c new (Err m) r answer may is = tt
 
 -- each of one list comes before each of another
 order_across : {A : Type 0} (E : A → A → Type 0) (xs ys : List A) → InOrder E (xs ++ ys) → (x y : A) → Contains xs x → Contains ys y → E x y
@@ -332,3 +383,15 @@ steps_whole t p xs x = go (placed_at 0 0 (a_network t.net) p) refl x
     go None e none = all_possible t p [] xs (no_positions t p [] refl e) (no_positions_yet t xs none)
     go (Some d) e y =
         subst (ArePossible t p) (sym y.added) (all_possible t p y.positions y.steps (found_positions t p p d [] y.positions y.positions refl refl refl e y.there) y.listed)
+
+-- the same of what the code answers
+pub ok_further : {X E : Type 0} (items : X → List Possible) (found : Result X E) (t : TypedNetwork) (p r rest back : List ℕ) (k : ℕ) (c d : Placed) → rest ≡ k ∷ back → r ≡ p ++ k ∷ []
+    → placed_at c.params c.olds c.tree (k ∷ []) ≡ Some d → IfOk found (λ x. AddsStepsBelow t r d back (items x)) → IfOk found (λ x. AddsStepsBelow t p c rest (items x))
+ok_further items (Ok x) t p r rest back k c d split way at h = steps_further t p r rest back k c d (items x) split way at h
+ok_further items (Err m) t p r rest back k c d split way at h = tt
+
+pub ok_whole : {X E : Type 0} (items : X → List Possible) (found : Result X E) (t : TypedNetwork) (p rest : List ℕ) (c : Placed) → p ≡ [] → c ≡ placed 0 0 (a_network t.net)
+    → IfOk found (λ x. AddsStepsBelow t p c rest (items x)) → IfOk found (λ x. ArePossible t rest (items x))
+ok_whole items (Ok x) t p rest c way is h =
+    steps_whole t rest (items x) (subst (λ z. AddsStepsBelow t [] z rest (items x)) is (subst (λ z. AddsStepsBelow t z c rest (items x)) way h))
+ok_whole items (Err m) t p rest c way is h = tt

@@ -1,15 +1,12 @@
 -- Steps forward: their laws by number, at one position and at one position after the other.
-use Rattle.std.proofs.Common.{◌≡◌, ◌⊎◌, inl, inr, ℕ, ◌+◌, ◌<◌, ◌≤◌, List, [], ◌∷◌, ◌++◌, map, length, take, get_or, Option, Some, None, Result, Ok, Err, IfOk, OnOk, option_map, IsSome, Contains, refl, sym, ap, ◌∙◌, subst, arith}
+use Rattle.std.proofs.Common.{◌≡◌, ◌⊎◌, inl, inr, ℕ, ◌+◌, ◌≤◌, List, [], ◌∷◌, ◌++◌, map, Option, Some, None, option_map, IsSome, Contains, refl, sym, ap, ◌∙◌, subst, arith}
 use Rattle.std.proofs.lemmas.Bool.{cases_lt}
-use Rattle.std.proofs.lemmas.List.{map-append, take_more}
-use Rattle.std.proofs.lemmas.Option.{none-some, same_Some}
+use Rattle.std.proofs.lemmas.List.{map-append}
 use Rattle.std.proofs.lemmas.List.Elements.{All-nil, All-append, All-push, All-contains, Contains-append_left, Contains-push_cases, Contains-push}
 use Rattle.leaf_core.specs.Expression.{Expression}
 use Rattle.net_tree.specs.Place.{Tree, a_network, a_leaf}
 use Rattle.net_syntax.specs.Placed.{Placed, placed, placed_at}
-use Rattle.net_tree.specs.LawStep.{Step, part_of}
-use Rattle.net_tree.specs.declared.law_step.Tree as C
-use Rattle.sample_core.specs.declared.memory.Memory as Refusal
+use Rattle.net_tree.specs.LawStep.{Step}
 use Rattle.net_meaning.specs.TypedNetwork.{TypedNetwork}
 use Rattle.net_tree.specs.declared.law_step.Law.{Law}
 use Rattle.net_tree.specs.declared.law_step.Law.TheVariants as L
@@ -20,21 +17,17 @@ use Rattle.law_rules.specs.Answer as N
 use Rattle.law_rules.proofs.Numbers.{row-numbers}
 use Rattle.cert_check.specs.TreeAnswer.{TreeAnswer}
 use Rattle.net_syntax.specs.Rewriting.{Rewrites}
-use Rattle.cert_check.specs.Derives.{Next, standing_tree}
-use Rattle.cert_check.specs.CheckAnswer.{NowhereIn, Unmatched}
-use Rattle.cert_check.specs.StepAnswers.{StepFault, IsTreeAnswer}
-use Rattle.cert_check.specs.declared.answer.CheckFault.{CheckFault}
-use Rattle.cert_check.specs.declared.answer.CheckFault.TheVariants.{InputsDiffer, TooManySteps, NoPosition, NoMatch, IllTyped, EndsElsewhere, Memory}
-use Rattle.cert_check.proofs.StandsNow.{next_there}
+use Rattle.cert_check.specs.Derives.{Next}
 use Rattle.net_opt.proofs.Tried.{refused_net, refused_leaf}
 use Rattle.net_opt.specs.Order.{Before}
 use Rattle.net_opt.specs.Optimising.{forward_step, NoStepBy}
 use Rattle.net_text.specs.CertificatePrinting.{IsLaw}
 use Rattle.net_view.specs.Listed.{IsThere, IsAtOrBelow, InOrder, Lists, ArePositions}
-use Rattle.net_view.specs.Possible.{Possible, IsForward, IsFoundBy, IsTreeAfter, StandsAfter, changing, possible_of, MayBeTaken, law_rank, EarlierStep, earlier_position, earlier_law, IsPossible, ListsSteps, ArePossible, ArePossibleAt}
+use Rattle.net_view.specs.Possible.{Possible, IsFoundBy, possible_of, MayBeTaken, law_rank, EarlierStep, earlier_position, earlier_law, IsPossible, ListsSteps, ArePossible, ArePossibleAt}
+use Rattle.net_view.specs.Spots.{AtPositions}
 use Rattle.net_view.specs.declared.possible.PossibleStep.{PossibleStep}
 use Rattle.net_view.specs.declared.possible.TheConstants.{LAWS}
-use Rattle.net_view.proofs.Listings.{order_split, order_taken, lists_none, lists_one, lists_same, lists_joined}
+use Rattle.net_view.proofs.Listings.{order_split, lists_none, lists_one, lists_same, lists_joined}
 
 -- a law that answers something is one
 answer_law : (olds : ℕ) (law : Law) (tree new : Tree Expression) → TreeAnswer olds law Forward tree None new → IsLaw law
@@ -199,9 +192,6 @@ untyped_by t p m n (a_leaf e) (a_leaf r) (L.E j) there (E.forward_answer row) re
 untyped_by t p m n (a_leaf e) (a_leaf r) (L.L j) there a refused = elim a [ ]
 untyped_by t p m n (a_leaf e) (a_network r) law there a refused = absurd a
 
-nowhere_by : (t : TypedNetwork) (s : Step) → NowhereIn t s → (u : TypedNetwork) → Next t s u → ⊥
-nowhere_by t s h u x = none-some x.answered.place (sym h ∙ x.answered.found)
-
 pub found_more : (t : TypedNetwork) (p : List ℕ) (k : ℕ) (law : Law) (items now : List PossibleStep) (found : Option PossibleStep) (x : PossibleStep) → law_rank law ≡ k + 1
     → IsLaw law → IsFoundBy t p law (option_map possible_of found) → found ≡ Some x → now ≡ items ++ x ∷ [] → ListsSteps t (ByLaws t p k) (map possible_of items)
     → ListsSteps t (ByLaws t p (k + 1)) (map possible_of now)
@@ -216,11 +206,3 @@ pub found_no_more : (t : TypedNetwork) (p : List ℕ) (k : ℕ) (law : Law) (ite
 found_no_more t p k law items now None r is by never e h =
     subst (λ z. ListsSteps t (ByLaws t p (k + 1)) (map possible_of z)) (sym e) (law_passed t p k law (map possible_of items) r is by h)
 found_no_more t p k law items now (Some x) r is by never e h = absurd (never x refl)
-
--- nor by a law that has no answer there
-pub no_answer : (t : TypedNetwork) (law : Law) (p : List ℕ) (c : Placed) (answer : Option C.Tree) → placed_at 0 0 (a_network t.net) p ≡ Some c → answer ≡ None
-    → IsTreeAnswer c.olds law Forward c.tree None answer → NoStepBy t p law
-no_answer t law p c None there e h = λ u x.
-    h x.new
-    (subst (λ (d : Placed). TreeAnswer d.olds law Forward d.tree None x.new) (same_Some x.answered.place c (sym x.answered.found ∙ there)) x.answered.answered)
-no_answer t law p c (Some a) there e h = absurd (none-some a (sym e))

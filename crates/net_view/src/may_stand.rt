@@ -3,15 +3,14 @@
 ghost use Rattle.std.specs.Prelude.{◌≡◌, IfOk, IsTrue};
 ghost use Rattle.net_syntax.specs.{ChildParts.seen, ChildParts.seen_place, StandingWalk.standing_of};
 ghost use Rattle.net_tree.specs.{LawStep.part_of, NetworkView.tree_of};
+ghost use Rattle.net_meaning.specs.NetworkLimits.{WithinLimits};
 ghost use Rattle.net_opt.specs.Walk.{Reached};
 ghost use Rattle.net_view.specs.Spots.{GrowsLittle, HasRoom, IsAround, IsPut, MayStand};
 
 use crate::spot::Spot;
 use leaf_core::Expr;
 use net_syntax::{Place, Standing, TreeRef, TypedNet, replace};
-use net_tree::{
-    MOST_HEIGHT, MOST_SIZE, MOST_WEIGHT, Measures, Net, Position, Tree, measured,
-};
+use net_tree::{MOST_HEIGHT, MOST_SIZE, MOST_WEIGHT, Measures, Net, Position, Tree, measured};
 use net_types::{Rewritten, keeps_type_at, rewrite};
 use sample_core::Memory;
 use std::alloc::Global;
@@ -82,6 +81,7 @@ fn is_put(alloc: Global, net: &TypedNet, path: &[u32], new: &Tree) -> Result<boo
 /// Whether the limits leave the whole room for the tree at the place, by what it measures there and
 /// by what the whole measures. Where frozen networks are in scope, it isn't known.
 fn has_room(alloc: Global, net: &TypedNet, place: Place<'_>, new: &Tree) -> Result<bool, Memory>
+    requires { WithinLimits net.now }
     ensures { IfOk result (λ roomy. IsTrue roomy
         → HasRoom net.now place.entry.olds (seen place.entry.tree) (part_of new.now)) }
 {
@@ -102,6 +102,7 @@ fn grows_little(
     before: &Net<Expr>,
     after: &Net<Expr>,
 ) -> Result<bool, Memory>
+    requires { WithinLimits net.now }
     ensures { IfOk result (λ little. IsTrue little
         → GrowsLittle net.now (tree_of before.now) (tree_of after.now)) }
 {
@@ -117,6 +118,8 @@ fn grows_little(
     };
     let times = MOST_WEIGHT / net.weight().max(1);
     let rise = MOST_HEIGHT.saturating_sub(net.height());
-    Ok(after.weight <= before.weight.saturating_mul(times)
-        && after.height <= before.height.saturating_add(rise))
+    Ok(
+        after.weight <= before.weight.saturating_mul(times)
+            && after.height <= before.height.saturating_add(rise),
+    )
 }

@@ -93,7 +93,14 @@ fn steps_below(
         unreachable!()
     };
     path.push(*k)?;
-    let found = steps_below(alloc, net, &there, spot_below(spot, inner, path.len()), path, rest);
+    let found = steps_below(
+        alloc,
+        net,
+        &there,
+        spot_below(spot, inner, path.as_slice()),
+        path,
+        rest,
+    );
     drop(there);
     found
 }
@@ -123,7 +130,7 @@ fn add_steps(
             unreachable!()
         };
         path.push(k)?;
-        let inner = spot_below(spot, inner, path.len());
+        let inner = spot_below(spot, inner, path.as_slice());
         let added = add_steps(alloc, net, &there, inner, path, steps);
         drop(there);
         added?;

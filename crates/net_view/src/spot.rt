@@ -1,6 +1,6 @@
 // Where a walk over a network is, and what is known of the types there.
 
-ghost use Rattle.std.specs.Prelude.{◌≡◌, IfOk, option_map};
+ghost use Rattle.std.specs.Prelude.{◌≡◌, IfOk, length, option_map};
 ghost use Rattle.net_syntax.specs.{ChildParts.seen, ChildParts.seen_place, StandingWalk.standing_of};
 ghost use Rattle.net_view.specs.Spots.{depth_below, root_below, standing_below};
 
@@ -50,19 +50,19 @@ fn copy_of(alloc: Global, at: &Standing) -> Result<Standing, Memory>
     }
 }
 
-/// The place inside another one, at a path of this length.
-pub(crate) fn spot_below<'n>(spot: Spot<'n>, inner: Place<'n>, depth: usize) -> Spot<'n>
+/// The place inside another one, at the path.
+pub(crate) fn spot_below<'n>(spot: Spot<'n>, inner: Place<'n>, path: &[u32]) -> Spot<'n>
     ensures place { seen_place result.place ≡ seen_place inner.entry }
     ensures root { seen result.root
         ≡ root_below (seen spot.entry.place.tree) (seen spot.entry.root) (seen inner.entry.tree) }
     ensures depth { result.depth
-        ≡ depth_below (seen spot.entry.place.tree) spot.entry.depth depth }
+        ≡ depth_below (seen spot.entry.place.tree) spot.entry.depth (length path.now) }
 {
     match spot.place.tree {
         TreeRef::Net(_) => Spot {
             place: inner,
             root: inner.tree,
-            depth,
+            depth: path.len(),
         },
         TreeRef::Expr(_) => Spot {
             place: inner,
