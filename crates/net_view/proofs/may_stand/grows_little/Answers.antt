@@ -1,4 +1,4 @@
-use Rattle.std.proofs.Common.{◌≡◌, ◌/◌, ◌≤◌, leb-true, refl, arith}
+use Rattle.std.proofs.Common.{◌/◌, leb-true, refl, arith}
 use Rattle.net_tree.specs.NetworkView.{tree_of}
 use Rattle.net_types.proofs.Checks.{is_measured}
 use Rattle.net_view.proofs.Spots.{little}

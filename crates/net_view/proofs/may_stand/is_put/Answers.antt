@@ -1,4 +1,4 @@
-use Rattle.std.proofs.Common.{◌≡◌, ℕ, List, option_map, sym, ap, ◌∙◌}
+use Rattle.std.proofs.Common.{ℕ, List, option_map, sym, ap, ◌∙◌}
 use Rattle.net_tree.specs.LawStep.{part_of}
 use Rattle.net_tree.specs.NetworkView.{tree_of}
 use Rattle.net_tree.specs.Place.{a_network}
