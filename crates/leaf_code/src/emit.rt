@@ -1,6 +1,6 @@
 // Makes the code of an expression.
 
-ghost use Rattle.std.specs.Prelude.{◌≡◌, ◌++◌, IfOk, map, get_or};
+ghost use Rattle.std.specs.Prelude.{◌≡◌, IfOk, map, get_or};
 ghost use Rattle.sample_core.specs.TypeView.{type_of};
 ghost use Rattle.sample_core.specs.TypeTree.{unit_ty, pair_ty, event_ty, list_ty};
 ghost use Rattle.leaf_core.specs.Expression.{

@@ -5,7 +5,9 @@ ghost use Rattle.net_tree.specs.LawStep.{step_of};
 ghost use Rattle.cert_check.specs.Derives.{Next};
 ghost use Rattle.net_search.specs.Certifying.{LeadTo};
 
+use crate::counting::nodes_in;
 use crate::improving::{MOST_IMPROVING, improve_within};
+use crate::shortening::shortened;
 use crate::undoing::undo;
 use cert_check::{CheckFault, take_step};
 use expr_improve::Means;
@@ -19,27 +21,45 @@ use std::alloc::Global;
 /// How many nodes each of the searches visits.
 const MOST_WORK: u64 = 5_000_000;
 
+/// The same, where it looks at the places that differ before anything else.
+const MOST_AT_FIRST: u64 = 500_000;
+
+/// The same, where steps that lead nowhere are looked for.
+const MOST_SHORTENING: u64 = 10_000_000;
+
+/// The same, where the steps to a normal form are taken; each visits the whole, about.
+const MOST_TAKING: usize = 50_000_000;
+
+/// So many nodes of a normal form are counted.
+const MOST_COUNTED: usize = 1_000_000;
+
 /// So few steps are taken as they are found.
-const FEW: usize = 60;
+const FEW: usize = 10;
+
+/// So few are taken before it is looked for what costs less.
+const MANY: usize = 60;
 
 /// How the way to another network is looked for.
 #[derive(Clone, Copy, PartialEq, Eq)]
 enum Looking {
+    /// At the places where they differ, not for long.
+    AtFirst,
+    /// By what the optimiser makes of the source, or of both.
+    Optimised,
+    /// By what costs less than the source, or than both.
+    Improved,
     /// At the places where they differ.
     AtPlaces,
-    /// By what the optimiser makes of both.
-    Optimised,
-    /// By what costs less than both.
-    Improved,
     /// By their normal forms.
     Formed,
 }
 
 /// In this order.
-const WAYS: [Looking; 4] = [
-    Looking::AtPlaces,
+const WAYS: [Looking; 5] = [
+    Looking::AtFirst,
     Looking::Optimised,
     Looking::Improved,
+    Looking::AtPlaces,
     Looking::Formed,
 ];
 
@@ -55,25 +75,77 @@ pub(crate) fn shortest(
         (λ steps. LeadTo source.now target.now (map step_of steps.items))) }
 {
     let mut best: Option<Vec<LawStep>> = None;
+    // Whether the optimiser's steps lead from the source to the target.
+    let mut is_known = false;
     for way in WAYS {
-        let most = most_steps(&best, way);
+        let most = most_steps(&best, way, is_known);
         if most == 0 {
             break;
         }
-        let steps = steps_by(alloc, way, source, target, nodes)?;
-        if steps.len() < most && is_led(alloc, source, target, &steps)? {
-            best = Some(steps);
+        let (there, back) = steps_by(alloc, way, source, target, nodes)?;
+        let is_alone = back.is_empty();
+        let steps = through(alloc, target, there, &back)?;
+        let found = led(alloc, source, target, steps, nodes)?;
+        is_known = is_alone && way == Looking::Optimised && found.is_some();
+        if let Some(found) = found {
+            if found.len() < most {
+                best = Some(found);
+            }
         }
     }
     Ok(best)
 }
 
+/// The steps, where they lead from the source to the target; without those that lead nowhere, where
+/// the others do too.
+fn led(
+    alloc: Global,
+    source: &TypedNet,
+    target: &TypedNet,
+    steps: Vec<LawStep>,
+    nodes: &mut u64,
+) -> Result<Option<Vec<LawStep>>, Memory>
+    ensures { IfOk result (λ found. IfSome found
+        (λ steps. LeadTo source.now target.now (map step_of steps.items))) }
+{
+    if !is_led(alloc, source, target, &steps)? {
+        return Ok(None);
+    }
+    let shorter = shorter(alloc, source, &steps, nodes)?;
+    if shorter.len() < steps.len() && is_led(alloc, source, target, &shorter)? {
+        return Ok(Some(shorter));
+    }
+    Ok(Some(steps))
+}
+
+/// The steps without those that lead nowhere.
+fn shorter(
+    alloc: Global,
+    source: &TypedNet,
+    steps: &[LawStep],
+    nodes: &mut u64,
+) -> Result<Vec<LawStep>, Memory> {
+    let means = Means::new(alloc, MOST_SHORTENING)?;
+    let shorter = shortened(&means, source.net(), steps)?;
+    add_spent(nodes, MOST_SHORTENING, &means);
+    Ok(shorter)
+}
+
 /// Fewer steps than so many are better than the best ones found; none where the way isn't tried.
-fn most_steps(best: &Option<Vec<LawStep>>, way: Looking) -> usize {
+fn most_steps(best: &Option<Vec<LawStep>>, way: Looking, is_known: bool) -> usize {
     match best {
         None => usize::MAX,
-        Some(steps) if steps.len() <= FEW || way == Looking::Formed => 0,
+        Some(steps) if is_known || steps.len() <= enough_for(way) => 0,
         Some(steps) => steps.len(),
+    }
+}
+
+/// Where so few steps were found, the way isn't tried.
+fn enough_for(way: Looking) -> usize {
+    match way {
+        Looking::AtFirst | Looking::Optimised => FEW,
+        Looking::Improved => MANY,
+        Looking::AtPlaces | Looking::Formed => usize::MAX,
     }
 }
 
@@ -107,39 +179,34 @@ fn is_taken(alloc: Global, net: &mut TypedNet, step: &LawStep) -> Result<bool, M
     }
 }
 
-/// Steps that may lead from the source to the target.
+/// Steps from the source, and from the target, that may lead to one network.
 fn steps_by(
     alloc: Global,
     way: Looking,
     source: &TypedNet,
     target: &TypedNet,
     nodes: &mut u64,
-) -> Result<Vec<LawStep>, Memory> {
-    let (there, back) = match way {
-        Looking::AtPlaces => at_places(alloc, source, target, nodes)?,
-        Looking::Optimised => (optimised(alloc, source)?, optimised(alloc, target)?),
-        Looking::Improved => (
-            improved(alloc, source, nodes)?,
-            improved(alloc, target, nodes)?,
-        ),
-        Looking::Formed => (
-            steps_of(formed(alloc, source, nodes)?),
-            steps_of(formed(alloc, target, nodes)?),
-        ),
-    };
-    through(alloc, target, there, &back)
+) -> Result<(Vec<LawStep>, Vec<LawStep>), Memory> {
+    match way {
+        Looking::AtFirst => at_places(alloc, source, target, MOST_AT_FIRST, nodes),
+        Looking::Optimised => by_optimising(alloc, source, target),
+        Looking::Improved => by_improving(alloc, source, target, nodes),
+        Looking::AtPlaces => at_places(alloc, source, target, MOST_WORK, nodes),
+        Looking::Formed => at_forms(alloc, source, target, nodes),
+    }
 }
 
-/// The steps to where two networks are one, at the places where they differ.
+/// The steps to where two networks are one, at the places where they differ, by so much work.
 fn at_places(
     alloc: Global,
     source: &TypedNet,
     target: &TypedNet,
+    most: u64,
     nodes: &mut u64,
 ) -> Result<(Vec<LawStep>, Vec<LawStep>), Memory> {
-    let means = Means::new(alloc, MOST_WORK)?;
+    let means = Means::new(alloc, most)?;
     let ways = ways_between(&means, source.net(), target.net())?;
-    add_spent(nodes, MOST_WORK, &means);
+    add_spent(nodes, most, &means);
     match ways {
         Some(ways) => {
             let Ways { there, back } = ways;
@@ -147,6 +214,36 @@ fn at_places(
         }
         None => Ok((Vec::new(alloc), Vec::new(alloc))),
     }
+}
+
+/// The steps of the optimiser from the source; where they don't lead to the target, those from that
+/// too.
+fn by_optimising(
+    alloc: Global,
+    source: &TypedNet,
+    target: &TypedNet,
+) -> Result<(Vec<LawStep>, Vec<LawStep>), Memory> {
+    let there = optimised(alloc, source)?;
+    if is_led(alloc, source, target, &there)? {
+        return Ok((there, Vec::new(alloc)));
+    }
+    let back = optimised(alloc, target)?;
+    Ok((there, back))
+}
+
+/// The same of the steps to what costs less.
+fn by_improving(
+    alloc: Global,
+    source: &TypedNet,
+    target: &TypedNet,
+    nodes: &mut u64,
+) -> Result<(Vec<LawStep>, Vec<LawStep>), Memory> {
+    let there = improved(alloc, source, nodes)?;
+    if is_led(alloc, source, target, &there)? {
+        return Ok((there, Vec::new(alloc)));
+    }
+    let back = improved(alloc, target, nodes)?;
+    Ok((there, back))
 }
 
 /// The steps of the optimiser.
@@ -163,6 +260,29 @@ fn improved(alloc: Global, net: &TypedNet, nodes: &mut u64) -> Result<Vec<LawSte
     drop(last);
     add_spent(nodes, MOST_IMPROVING, &means);
     Ok(steps)
+}
+
+/// The steps to the normal forms of two networks, where these are one.
+fn at_forms(
+    alloc: Global,
+    source: &TypedNet,
+    target: &TypedNet,
+    nodes: &mut u64,
+) -> Result<(Vec<LawStep>, Vec<LawStep>), Memory> {
+    let there = formed(alloc, source, nodes)?;
+    let back = formed(alloc, target, nodes)?;
+    let is_one = same_net(there.net.get(), back.net.get());
+    if is_one && may_be_taken(alloc, &there)? && may_be_taken(alloc, &back)? {
+        Ok((steps_of(there), steps_of(back)))
+    } else {
+        Ok((Vec::new(alloc), Vec::new(alloc)))
+    }
+}
+
+/// Whether the steps to the normal form may be taken: not where they are many and it is large.
+pub(crate) fn may_be_taken(alloc: Global, formed: &Formed) -> Result<bool, Memory> {
+    let nodes = nodes_in(alloc, formed.net.get(), MOST_COUNTED)?;
+    Ok(nodes.saturating_mul(formed.steps.len()) <= MOST_TAKING)
 }
 
 /// The network's normal form, as far as the search comes.

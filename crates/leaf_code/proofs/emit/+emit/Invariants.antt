@@ -12,9 +12,9 @@ use Rattle.leaf_code.proofs.emit.+emit.Given as goal
 abbrev pub invariant-emit_elements-loop-e : goal.invariant-emit_elements-loop-e
 invariant-emit_elements-loop-e l =
     let rest : List Step × List ℕ = emit_all (map type_of l.around.params.now) (type_of l.around.input.now)
-        (expressions_of (map expression_of (drop l.e-index l.all))) l.x (steps_in l.steps.items) in
+    (expressions_of (map expression_of (drop l.e-index l.all))) l.x (steps_in l.steps.items) in
     let whole : List Step × List ℕ = emit_all (map type_of l.around.params.now) (type_of l.around.input.now)
-        (expressions_of (map expression_of l.all)) l.x (steps_in l.initial.steps.items) in
+    (expressions_of (map expression_of l.all)) l.x (steps_in l.initial.steps.items) in
     (rest.0 ≡ whole.0) × (l.registers.items ++ rest.1 ≡ l.initial.registers.items ++ whole.1)
 
 abbrev pub decreases-emit : goal.decreases-emit
