@@ -24,6 +24,9 @@ const MOST_WORK: u64 = 5_000_000;
 /// The same, where it looks at the places that differ before anything else.
 const MOST_AT_FIRST: u64 = 500_000;
 
+/// The same, where loops are made one.
+const MOST_LOOPING: u64 = 2_000_000;
+
 /// The same, where steps that lead nowhere are looked for.
 const MOST_SHORTENING: u64 = 10_000_000;
 
@@ -52,15 +55,18 @@ enum Looking {
     AtPlaces,
     /// By their normal forms.
     Formed,
+    /// At those places, with loops made one.
+    Looped,
 }
 
 /// In this order.
-const WAYS: [Looking; 5] = [
+const WAYS: [Looking; 6] = [
     Looking::AtFirst,
     Looking::Optimised,
     Looking::Improved,
     Looking::AtPlaces,
     Looking::Formed,
+    Looking::Looped,
 ];
 
 /// The fewest steps found that lead from the source to the target, where some were found. Not all is
@@ -145,7 +151,7 @@ fn enough_for(way: Looking) -> usize {
     match way {
         Looking::AtFirst | Looking::Optimised => FEW,
         Looking::Improved => MANY,
-        Looking::AtPlaces | Looking::Formed => usize::MAX,
+        Looking::AtPlaces | Looking::Formed | Looking::Looped => usize::MAX,
     }
 }
 
@@ -188,24 +194,27 @@ fn steps_by(
     nodes: &mut u64,
 ) -> Result<(Vec<LawStep>, Vec<LawStep>), Memory> {
     match way {
-        Looking::AtFirst => at_places(alloc, source, target, MOST_AT_FIRST, nodes),
+        Looking::AtFirst => at_places(alloc, source, target, MOST_AT_FIRST, false, nodes),
         Looking::Optimised => by_optimising(alloc, source, target),
         Looking::Improved => by_improving(alloc, source, target, nodes),
-        Looking::AtPlaces => at_places(alloc, source, target, MOST_WORK, nodes),
+        Looking::AtPlaces => at_places(alloc, source, target, MOST_WORK, false, nodes),
         Looking::Formed => at_forms(alloc, source, target, nodes),
+        Looking::Looped => at_places(alloc, source, target, MOST_LOOPING, true, nodes),
     }
 }
 
-/// The steps to where two networks are one, at the places where they differ, by so much work.
+/// The steps to where two networks are one, at the places where they differ, by so much work; with
+/// loops, also by loops made one.
 fn at_places(
     alloc: Global,
     source: &TypedNet,
     target: &TypedNet,
     most: u64,
+    with_loops: bool,
     nodes: &mut u64,
 ) -> Result<(Vec<LawStep>, Vec<LawStep>), Memory> {
     let means = Means::new(alloc, most)?;
-    let ways = ways_between(&means, source.net(), target.net())?;
+    let ways = ways_between(&means, source.net(), target.net(), with_loops)?;
     add_spent(nodes, most, &means);
     match ways {
         Some(ways) => {
