@@ -86,7 +86,7 @@ fn same_leaf_node(a: &Expr, b: &Expr) -> bool
 
 /// The number in the expression's node.
 #[tactic(auto, using(crate::proofs::Counting::element_count))]
-fn number_inside(expr: &Expr) -> u64
+pub(crate) fn number_inside(expr: &Expr) -> u64
     ensures { result ≡ number_inside (inside_of (expression_of expr.now)) }
 {
     match expr {

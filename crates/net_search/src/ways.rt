@@ -21,8 +21,8 @@ use std::alloc::Global;
 /// How many nodes each of the searches visits.
 const MOST_WORK: u64 = 5_000_000;
 
-/// The same, where it looks at the places that differ before anything else.
-const MOST_AT_FIRST: u64 = 500_000;
+/// The same, where loops are made one.
+const MOST_LOOPING: u64 = 2_000_000;
 
 /// The same, where steps that lead nowhere are looked for.
 const MOST_SHORTENING: u64 = 10_000_000;
@@ -33,34 +33,40 @@ const MOST_TAKING: usize = 50_000_000;
 /// So many nodes of a normal form are counted.
 const MOST_COUNTED: usize = 1_000_000;
 
-/// So few steps are taken as they are found.
+/// Where so few steps were found, it isn't looked at what the optimiser makes of both.
 const FEW: usize = 10;
 
-/// So few are taken before it is looked for what costs less.
+/// Where so few steps were found, it isn't looked for what costs less than both.
 const MANY: usize = 60;
 
 /// How the way to another network is looked for.
 #[derive(Clone, Copy, PartialEq, Eq)]
 enum Looking {
-    /// At the places where they differ, not for long.
-    AtFirst,
-    /// By what the optimiser makes of the source, or of both.
-    Optimised,
-    /// By what costs less than the source, or than both.
-    Improved,
+    /// By what the optimiser makes of the source.
+    Optimising,
+    /// By what costs less than the source.
+    Improving,
     /// At the places where they differ.
     AtPlaces,
+    /// By what the optimiser makes of both.
+    Optimised,
+    /// By what costs less than both.
+    Improved,
     /// By their normal forms.
     Formed,
+    /// At those places, with loops made one.
+    Looped,
 }
 
 /// In this order.
-const WAYS: [Looking; 5] = [
-    Looking::AtFirst,
+const WAYS: [Looking; 7] = [
+    Looking::Optimising,
+    Looking::Improving,
+    Looking::AtPlaces,
     Looking::Optimised,
     Looking::Improved,
-    Looking::AtPlaces,
     Looking::Formed,
+    Looking::Looped,
 ];
 
 /// The fewest steps found that lead from the source to the target, where some were found. Not all is
@@ -75,19 +81,13 @@ pub(crate) fn shortest(
         (λ steps. LeadTo source.now target.now (map step_of steps.items))) }
 {
     let mut best: Option<Vec<LawStep>> = None;
-    // Whether the optimiser's steps lead from the source to the target.
-    let mut is_known = false;
     for way in WAYS {
-        let most = most_steps(&best, way, is_known);
+        let most = most_steps(&best, way);
         if most == 0 {
             break;
         }
-        let (there, back) = steps_by(alloc, way, source, target, nodes)?;
-        let is_alone = back.is_empty();
-        let steps = through(alloc, target, there, &back)?;
-        let found = led(alloc, source, target, steps, nodes)?;
-        is_known = is_alone && way == Looking::Optimised && found.is_some();
-        if let Some(found) = found {
+        let steps = steps_by(alloc, way, source, target, nodes)?;
+        if let Some(found) = led(alloc, source, target, steps, nodes)? {
             if found.len() < most {
                 best = Some(found);
             }
@@ -132,10 +132,10 @@ fn shorter(
 }
 
 /// Fewer steps than so many are better than the best ones found; none where the way isn't tried.
-fn most_steps(best: &Option<Vec<LawStep>>, way: Looking, is_known: bool) -> usize {
+fn most_steps(best: &Option<Vec<LawStep>>, way: Looking) -> usize {
     match best {
         None => usize::MAX,
-        Some(steps) if is_known || steps.len() <= enough_for(way) => 0,
+        Some(steps) if steps.len() <= enough_for(way) => 0,
         Some(steps) => steps.len(),
     }
 }
@@ -143,9 +143,9 @@ fn most_steps(best: &Option<Vec<LawStep>>, way: Looking, is_known: bool) -> usiz
 /// Where so few steps were found, the way isn't tried.
 fn enough_for(way: Looking) -> usize {
     match way {
-        Looking::AtFirst | Looking::Optimised => FEW,
+        Looking::Optimised => FEW,
         Looking::Improved => MANY,
-        Looking::AtPlaces | Looking::Formed => usize::MAX,
+        _ => usize::MAX,
     }
 }
 
@@ -179,33 +179,41 @@ fn is_taken(alloc: Global, net: &mut TypedNet, step: &LawStep) -> Result<bool, M
     }
 }
 
-/// Steps from the source, and from the target, that may lead to one network.
+/// Steps that may lead from the source to the target.
 fn steps_by(
     alloc: Global,
     way: Looking,
     source: &TypedNet,
     target: &TypedNet,
     nodes: &mut u64,
-) -> Result<(Vec<LawStep>, Vec<LawStep>), Memory> {
-    match way {
-        Looking::AtFirst => at_places(alloc, source, target, MOST_AT_FIRST, nodes),
-        Looking::Optimised => by_optimising(alloc, source, target),
-        Looking::Improved => by_improving(alloc, source, target, nodes),
-        Looking::AtPlaces => at_places(alloc, source, target, MOST_WORK, nodes),
-        Looking::Formed => at_forms(alloc, source, target, nodes),
-    }
+) -> Result<Vec<LawStep>, Memory> {
+    let (there, back) = match way {
+        Looking::Optimising => (optimised_to(alloc, source, target)?, Vec::new(alloc)),
+        Looking::Improving => (improved_to(alloc, source, target, nodes)?, Vec::new(alloc)),
+        Looking::AtPlaces => at_places(alloc, source, target, false, nodes)?,
+        Looking::Optimised => (optimised(alloc, source)?, optimised(alloc, target)?),
+        Looking::Improved => (
+            improved(alloc, source, nodes)?,
+            improved(alloc, target, nodes)?,
+        ),
+        Looking::Formed => at_forms(alloc, source, target, nodes)?,
+        Looking::Looped => at_places(alloc, source, target, true, nodes)?,
+    };
+    through(alloc, target, there, &back)
 }
 
-/// The steps to where two networks are one, at the places where they differ, by so much work.
+/// The steps to where two networks are one, at the places where they differ; with loops, also by
+/// loops made one, and less work.
 fn at_places(
     alloc: Global,
     source: &TypedNet,
     target: &TypedNet,
-    most: u64,
+    with_loops: bool,
     nodes: &mut u64,
 ) -> Result<(Vec<LawStep>, Vec<LawStep>), Memory> {
+    let most = if with_loops { MOST_LOOPING } else { MOST_WORK };
     let means = Means::new(alloc, most)?;
-    let ways = ways_between(&means, source.net(), target.net())?;
+    let ways = ways_between(&means, source.net(), target.net(), with_loops)?;
     add_spent(nodes, most, &means);
     match ways {
         Some(ways) => {
@@ -216,34 +224,36 @@ fn at_places(
     }
 }
 
-/// The steps of the optimiser from the source; where they don't lead to the target, those from that
-/// too.
-fn by_optimising(
+/// The steps of the optimiser, where they lead to the target.
+fn optimised_to(
     alloc: Global,
     source: &TypedNet,
     target: &TypedNet,
-) -> Result<(Vec<LawStep>, Vec<LawStep>), Memory> {
-    let there = optimised(alloc, source)?;
-    if is_led(alloc, source, target, &there)? {
-        return Ok((there, Vec::new(alloc)));
-    }
-    let back = optimised(alloc, target)?;
-    Ok((there, back))
+) -> Result<Vec<LawStep>, Memory> {
+    let (last, steps) = optimise(alloc, source)?;
+    let is_led = same_net(&last, target.net());
+    drop(last);
+    Ok(if_led(alloc, is_led, steps))
 }
 
-/// The same of the steps to what costs less.
-fn by_improving(
+/// The steps to what costs less, where they lead to the target.
+fn improved_to(
     alloc: Global,
     source: &TypedNet,
     target: &TypedNet,
     nodes: &mut u64,
-) -> Result<(Vec<LawStep>, Vec<LawStep>), Memory> {
-    let there = improved(alloc, source, nodes)?;
-    if is_led(alloc, source, target, &there)? {
-        return Ok((there, Vec::new(alloc)));
-    }
-    let back = improved(alloc, target, nodes)?;
-    Ok((there, back))
+) -> Result<Vec<LawStep>, Memory> {
+    let means = Means::new(alloc, MOST_IMPROVING)?;
+    let (last, steps) = improve_within(&means, source)?;
+    add_spent(nodes, MOST_IMPROVING, &means);
+    let is_led = same_net(&last, target.net());
+    drop(last);
+    Ok(if_led(alloc, is_led, steps))
+}
+
+/// The steps, where they lead to the target; else none.
+fn if_led(alloc: Global, is_led: bool, steps: Vec<LawStep>) -> Vec<LawStep> {
+    if is_led { steps } else { Vec::new(alloc) }
 }
 
 /// The steps of the optimiser.
