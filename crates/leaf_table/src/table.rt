@@ -6,8 +6,8 @@ ghost use Rattle.sample_core.specs.{HasType.HasType, HasType.TypedParams, ValueV
 ghost use Rattle.leaf_core.specs.{ExpressionValue.value_of, KeyTree.KeyTree};
 ghost use Rattle.leaf_table.specs.declared.table.TheConstants.{MOST_ROWS};
 
-use crate::closure::StoredClosure;
 use crate::fault::TableFault;
+use crate::leaf::Leaf;
 use indexmap::IndexMap;
 use leaf_core::LeafKey;
 use sample_core::{Memory, Sample};
@@ -21,22 +21,22 @@ pub const MOST_ROWS: usize = 4_096;
 pub struct LeafId(pub usize);
 
 /// Stored closures by row and by key: at most 4,096 rows, no two with the same key. Contracts see
-/// a table as the list of its rows' keys and the list of its rows' closures.
+/// a table as the list of its rows' keys and the list of its rows' leaves.
 #[derive(Drop)]
 pub struct LeafTable {
     alloc: Global,
-    rows: IndexMap<LeafKey, StoredClosure>,
+    rows: IndexMap<LeafKey, Leaf>,
     ghost keyed: { ∥ All (λ e. e.1.key ≡ e.0) rows.entries ∥₁ },
     ghost within: { index_map_len rows ≤ MOST_ROWS },
 }
 
 impl LeafTable {
-    ghost use Rattle.leaf_table.specs.Rows.{closures_of, rows_of};
+    ghost use Rattle.leaf_table.specs.Rows.{leaves_of, rows_of};
 
     /// A table with no rows. It takes no memory.
     pub fn new(alloc: Global) -> LeafTable
         ensures rows { rows_of result ≡ [] }
-        ensures closures { closures_of result ≡ [] }
+        ensures leaves { leaves_of result ≡ [] }
     {
         LeafTable {
             alloc,
@@ -44,69 +44,65 @@ impl LeafTable {
         }
     }
 
-    /// Adds the closure as a new last row. Where its key has a row already, the closure that is there
+    /// Adds the leaf as a new last row. Where its key has a row already, the leaf that is there
     /// stays and this one is dropped. Answers the row of the key.
     ///
-    /// A refusal gives the closure back, and the table is as it was. `Full`: the key is new, and the
+    /// A refusal gives the leaf back, and the table is as it was. `Full`: the key is new, and the
     /// table has 4,096 rows. `Memory`: allocation failed.
-    pub fn add(&mut self, closure: StoredClosure) -> Result<LeafId, (StoredClosure, TableFault)>
-        ensures row { IfOk result (λ id. slice_get (rows_of self.new) id.0 ≡ Some closure.key) }
-        ensures known { Contains (rows_of self.old) closure.key
+    pub fn add(&mut self, leaf: Leaf) -> Result<LeafId, (Leaf, TableFault)>
+        ensures row { IfOk result (λ id. slice_get (rows_of self.new) id.0 ≡ Some leaf.key) }
+        ensures known { Contains (rows_of self.old) leaf.key
             → IsOk result × (rows_of self.new ≡ rows_of self.old) }
-        ensures grown { OnOk result ((Contains (rows_of self.old) closure.key → ⊥)
-            → rows_of self.new ≡ rows_of self.old ++ closure.key ∷ []) }
+        ensures grown { OnOk result ((Contains (rows_of self.old) leaf.key → ⊥)
+            → rows_of self.new ≡ rows_of self.old ++ leaf.key ∷ []) }
         ensures unchanged { OnErr result (rows_of self.new ≡ rows_of self.old) }
-        ensures kept { Contains (rows_of self.old) closure.key
-            → closures_of self.new ≡ closures_of self.old }
-        ensures stored { OnOk result ((Contains (rows_of self.old) closure.key → ⊥)
-            → closures_of self.new ≡ closures_of self.old ++ closure ∷ []) }
-        ensures no_other { OnErr result (closures_of self.new ≡ closures_of self.old) }
-        ensures returned { IfErr result (λ e. e.0 ≡ closure) }
+        ensures kept { Contains (rows_of self.old) leaf.key
+            → leaves_of self.new ≡ leaves_of self.old }
+        ensures stored { OnOk result ((Contains (rows_of self.old) leaf.key → ⊥)
+            → leaves_of self.new ≡ leaves_of self.old ++ leaf ∷ []) }
+        ensures no_other { OnErr result (leaves_of self.new ≡ leaves_of self.old) }
+        ensures returned { IfErr result (λ e. e.0 ≡ leaf) }
         ensures full { IfErr result (λ e. (e.1 ≡ TableFault.Full)
             ↔ (length (rows_of self.old) ≡ MOST_ROWS)) }
-        ensures refused { (Contains (rows_of self.old) closure.key → ⊥)
+        ensures refused { (Contains (rows_of self.old) leaf.key → ⊥)
             → length (rows_of self.old) ≡ MOST_ROWS → IsErr result }
     {
-        if let Some(id) = self.find(&closure.key) {
-            drop(closure);
+        if let Some(id) = self.find(&leaf.key) {
+            drop(leaf);
             return Ok(id);
         }
         if self.rows.len() >= MOST_ROWS {
-            return Err((closure, TableFault::Full));
+            return Err((leaf, TableFault::Full));
         }
-        match closure.key.try_copy(self.alloc) {
-            Ok(key) => self.push(key, closure),
-            Err(Memory) => Err((closure, TableFault::Memory)),
+        match leaf.key.try_copy(self.alloc) {
+            Ok(key) => self.push(key, leaf),
+            Err(Memory) => Err((leaf, TableFault::Memory)),
         }
     }
 
-    /// Adds the closure, whose key is new, as a new last row. A closure that is not taken, since
+    /// Adds the leaf, whose key is new, as a new last row. A leaf that is not taken, since
     /// memory ran out, comes back.
-    fn push(
-        &mut self,
-        key: LeafKey,
-        closure: StoredClosure,
-    ) -> Result<LeafId, (StoredClosure, TableFault)>
-        requires own { closure.key ≡ key }
+    fn push(&mut self, key: LeafKey, leaf: Leaf) -> Result<LeafId, (Leaf, TableFault)>
+        requires own { leaf.key ≡ key }
         requires fresh { Contains (rows_of self.old) key → ⊥ }
         requires room { length (rows_of self.old) < MOST_ROWS }
         ensures row { IfOk result (λ id. slice_get (rows_of self.new) id.0 ≡ Some key) }
         ensures grown { OnOk result (rows_of self.new ≡ rows_of self.old ++ key ∷ []) }
         ensures unchanged { OnErr result (rows_of self.new ≡ rows_of self.old) }
-        ensures stored { OnOk result (closures_of self.new ≡ closures_of self.old ++ closure ∷ []) }
-        ensures no_other { OnErr result (closures_of self.new ≡ closures_of self.old) }
-        ensures returned { IfErr result (λ e. (e.0 ≡ closure) × (e.1 ≡ TableFault.Memory)) }
+        ensures stored { OnOk result (leaves_of self.new ≡ leaves_of self.old ++ leaf ∷ []) }
+        ensures no_other { OnErr result (leaves_of self.new ≡ leaves_of self.old) }
+        ensures returned { IfErr result (λ e. (e.0 ≡ leaf) × (e.1 ≡ TableFault.Memory)) }
     {
         let row = self.rows.len();
-        match self.rows.insert(key, closure) {
+        match self.rows.insert(key, leaf) {
             Ok(replaced) => {
                 drop(replaced);
                 Ok(LeafId(row))
             }
             Err(failed) => {
-                let (key, closure) = failed.value;
+                let (key, leaf) = failed.value;
                 drop(key);
-                Err((closure, TableFault::Memory))
+                Err((leaf, TableFault::Memory))
             }
         }
     }
@@ -139,7 +135,7 @@ impl LeafTable {
             datum_of v ≡ value_of key.expr (map datum_of params.now) (datum_of x.now)) }
     {
         match self.rows.get_index(id.0) {
-            Some((_, closure)) => Ok(closure.call(params, x)?),
+            Some((_, leaf)) => Ok(leaf.call(params, x)?),
             None => unreachable!(),
         }
     }

@@ -81,7 +81,7 @@ fn same_leaf_node(a: &Expr, b: &Expr) -> bool
     tag(a) == tag(b)
         && number_inside(a) == number_inside(b)
         && literal_inside(a) == literal_inside(b)
-        && same_types(type_inside(a), type_inside(b))
+        && same_told(type_inside(a), type_inside(b))
 }
 
 /// The number in the expression's node.
@@ -118,7 +118,7 @@ fn type_inside(expr: &Expr) -> Option<&Ty>
 }
 
 /// Whether both are one type, or neither is there.
-fn same_types(a: Option<&Ty>, b: Option<&Ty>) -> bool
+fn same_told(a: Option<&Ty>, b: Option<&Ty>) -> bool
     ensures { IsTrue result
         ↔ (option_map (λ t. type_of t.now) a.entry ≡ option_map (λ t. type_of t.now) b.entry) }
 {

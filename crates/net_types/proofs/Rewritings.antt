@@ -58,9 +58,9 @@ both_true false b e = absurd (cc)
 both : {a b : Bool} → a ≡ true → b ≡ true → (a && b) ≡ true
 both {b = b} d e = ap (λ c. c && b) d ∙ e
 
-same_types : (o : Option TypeTree) (B : TypeTree) → same_type (Some B) o ≡ true → o ≡ Some B
-same_types None B e = absurd (cc)
-same_types (Some C) B e = ap Some (sym (same_tree-true B C e))
+same_told : (o : Option TypeTree) (B : TypeTree) → same_type (Some B) o ≡ true → o ≡ Some B
+same_told None B e = absurd (cc)
+same_told (Some C) B e = ap Some (sym (same_tree-true B C e))
 
 same_is : {o q : Option TypeTree} {B : TypeTree} → o ≡ Some B → q ≡ Some B → same_type o q ≡ true
 same_is {o = o} {q = q} {B = B} d e = ap (λ z. same_type z q) d ∙ (ap (same_type (Some B)) e ∙ same_tree-refl B)
@@ -108,7 +108,7 @@ leaf_alike R e v s p B d q i =
     from_parts fits same c =
         let old : TypedThere R.params R.input e p c.0 = there_typed d.checked.given d.checked.fits p c.0 c.1 in
         let told : part_type_at R.params R.input v p ≡ Some old.output =
-        same_types (part_type_at R.params R.input v p) old.output (ap (λ z. same_type z (part_type_at R.params R.input v p)) (sym old.found) ∙ same) in
+        same_told (part_type_at R.params R.input v p) old.output (ap (λ z. same_type z (part_type_at R.params R.input v p)) (sym old.found) ∙ same) in
         let whole : TypedWithin v R.params R.input B = put_there p e s v old.output d.checked q old.found told in
         let now : (part_at v p ≡ Some s) × InputAt R.params R.input v p old.input = kept_there e p s v q old.gets in
         let new : TypedThere R.params R.input v p s = there_typed whole.given whole.fits p s now.0 in
@@ -137,7 +137,7 @@ alike R (a_leaf e) p (a_leaf s) w B d q i = go (with_part_at e p s) refl q i
     go (Some v) j r k = let a = leaf_alike R e v s p B d j k in (a.0, subst (λ z. TreeWithin R z B) (same_Some (a_leaf v) w r) a.1)
 alike R (a_leaf e) p (a_network s) w B d q i = absurd (none-some w q)
 alike R (a_network f) [] (a_network s) w B d q i =
-    let found : checked_output R s ≡ Some B = same_types (checked_output R s) B (ap (λ z. same_type z (checked_output R s)) (sym (output_found d)) ∙ i) in
+    let found : checked_output R s ≡ Some B = same_told (checked_output R s) B (ap (λ z. same_type z (checked_output R s)) (sym (output_found d)) ∙ i) in
     let typed : NetTypedWithin R.params R.olds s R.input B = output_told R s B found in (
       record { there = a_network f; place = R; stands = at_network; output = B; before = forget d; now = forget typed },
       subst (λ z. TreeWithin R z B) (same_Some (a_network s) w q) typed,

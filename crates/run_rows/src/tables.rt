@@ -7,7 +7,7 @@ ghost use Rattle.leaf_table.specs.{Computes.Computes, Rows.rows_of};
 use crate::found::{Probe, all_are_found};
 use crate::runs::{Trial, network, trial_told};
 use leaf_expr::LeafKey;
-use leaf_table::{LeafId, LeafTable, Run, StoredClosure, TableFault, run_general};
+use leaf_table::{Leaf, LeafId, LeafTable, Run, TableFault, run_general};
 use net_syntax::{LeafNeed, TypedNet, leaves};
 use row_texts::texts::{answer_told, parted, say, say_at, value_in};
 use sample_core::{Memory, Sample};
@@ -102,7 +102,7 @@ fn add(alloc: Global, table: &mut LeafTable, need: &LeafNeed, run: Run, out: &mu
         return say(out, "memory");
     };
     match need.output.try_copy(alloc) {
-        Ok(output) => answer(need, table.add(StoredClosure::new(key, output, run)), out),
+        Ok(output) => answer(need, table.add(Leaf::new(key, output, run)), out),
         Err(Memory) => {
             drop(key);
             say(out, "memory")
@@ -110,13 +110,13 @@ fn add(alloc: Global, table: &mut LeafTable, need: &LeafNeed, run: Run, out: &mu
     }
 }
 
-/// Says the row, or why there is none, and whether the closure that comes back is the need's.
-fn answer(need: &LeafNeed, added: Result<LeafId, (StoredClosure, TableFault)>, out: &mut String) {
+/// Says the row, or why there is none, and whether the leaf that comes back is the need's.
+fn answer(need: &LeafNeed, added: Result<LeafId, (Leaf, TableFault)>, out: &mut String) {
     match added {
         Ok(id) => say_at(out, "row", id.0),
-        Err((closure, fault)) => {
-            let own = closure.key == need.key;
-            drop(closure);
+        Err((leaf, fault)) => {
+            let own = leaf.key == need.key;
+            drop(leaf);
             refusal(fault, own, out)
         }
     }
@@ -124,8 +124,8 @@ fn answer(need: &LeafNeed, added: Result<LeafId, (StoredClosure, TableFault)>, o
 
 fn refusal(fault: TableFault, own: bool, out: &mut String) {
     match (fault, own) {
-        (TableFault::Full, true) => say(out, "full, and its closure comes back"),
-        (TableFault::Full, false) => say(out, "full, and another closure comes back"),
+        (TableFault::Full, true) => say(out, "full, and its leaf comes back"),
+        (TableFault::Full, false) => say(out, "full, and another leaf comes back"),
         (TableFault::Memory, _) => say(out, "memory"),
     }
 }
@@ -171,10 +171,10 @@ static FILLED: &str = "
 ";
 
 /// One more expression, and what a table answers to it that has a row for each of the others: where
-/// the key is new the closure comes back.
+/// the key is new the leaf comes back.
 static ADDED: &str = "
 § One expression more, for a table that is full.
-(arr (add x 4096)) => full, and its closure comes back
+(arr (add x 4096)) => full, and its leaf comes back
 (arr (add x 0)) => row 0
 ";
 

@@ -6,13 +6,13 @@
 
 ghost use Rattle.std.specs.Prelude.{◌≡◌, [], ◌∷◌, ◌++◌, Contains, IfErr, IfSome, Ok, OnErr, OnOk, length, map};
 ghost use Rattle.sample_core.specs.ValueView.{datum_of};
-ghost use Rattle.leaf_table.specs.{Computes.Computes, Rows.closures_of, Rows.rows_of};
+ghost use Rattle.leaf_table.specs.{Computes.Computes, Rows.leaves_of, Rows.rows_of};
 ghost use Rattle.leaf_table.specs.declared.table.TheConstants.{MOST_ROWS};
 ghost use Rattle.yampa_run.specs.Preparation.{RefusesTable};
 
 use crate::preparation::Refusal;
 pub use leaf_core::{Shape, shape_of};
-use leaf_table::{LeafTable, Run, StoredClosure};
+use leaf_table::{Leaf, LeafTable, Run};
 pub use leaf_table::{
     TableFault, run_affine, run_again, run_below, run_constant, run_identity, run_left, run_right,
     run_swap, run_wrap,
@@ -53,11 +53,11 @@ pub fn add_row(
         → rows_of table.new ≡ rows_of table.old ++ need.now.key ∷ []) }
     ensures unchanged { OnErr result (rows_of table.new ≡ rows_of table.old) }
     ensures kept { Contains (rows_of table.old) need.now.key
-        → closures_of table.new ≡ closures_of table.old }
+        → leaves_of table.new ≡ leaves_of table.old }
     ensures stored { OnOk result ((Contains (rows_of table.old) need.now.key → ⊥)
-        → (closure : _) × (closures_of table.new ≡ closures_of table.old ++ closure ∷ [])
-        × (closure.key ≡ need.now.key) × (closure.output ≡ need.now.output)) }
-    ensures no_other { OnErr result (closures_of table.new ≡ closures_of table.old) }
+        → (leaf : _) × (leaves_of table.new ≡ leaves_of table.old ++ leaf ∷ [])
+        × (leaf.key ≡ need.now.key) × (leaf.output ≡ need.now.output)) }
+    ensures no_other { OnErr result (leaves_of table.new ≡ leaves_of table.old) }
     ensures full { IfErr result (λ fault. fault ≡ TableFault.Full
         → (length (rows_of table.old) ≡ MOST_ROWS)
         × (Contains (rows_of table.old) need.now.key → ⊥)) }
@@ -68,10 +68,10 @@ pub fn add_row(
         return Err(TableFault::Memory);
     };
     match need.output.try_copy(alloc) {
-        Ok(output) => match table.add(StoredClosure::new(key, output, run)) {
+        Ok(output) => match table.add(Leaf::new(key, output, run)) {
             Ok(_) => Ok(()),
-            Err((closure, fault)) => {
-                drop(closure);
+            Err((leaf, fault)) => {
+                drop(leaf);
                 Err(fault)
             }
         },

@@ -15,7 +15,7 @@ pub type Run = Box<dyn Fn(&[Sample], &Sample) -> Result<Sample, AllocError>>;
 
 /// A closure that computes the expression of its key at arguments of the key's types.
 #[derive(Drop)]
-pub struct StoredClosure {
+pub struct Leaf {
     /// The expression, and the types that it is used at.
     pub key: LeafKey,
     /// The type of the expression's values.
@@ -27,11 +27,11 @@ pub struct StoredClosure {
     ghost typed: { ∥ ExpressionTyped key.expr key.params key.input (type_of output) ∥₁ },
 }
 
-impl StoredClosure {
-    /// The closure under a key. The expression must be of the output's type, the closure
+impl Leaf {
+    /// The closure as the leaf of a key. The expression must be of the output's type, the closure
     /// callable at all arguments, and what it answers at arguments of the key's types the
     /// expression's value.
-    pub fn new(key: LeafKey, output: Ty, run: Run) -> StoredClosure
+    pub fn new(key: LeafKey, output: Ty, run: Run) -> Leaf
         requires typed { ∥ ExpressionTyped key.expr key.params key.input (type_of output) ∥₁ }
         requires callable { Run.IsAlwaysCallable run }
         requires computes { (ps : _) (x : _) (v : _) → Run.post run ps x (Ok v)
@@ -39,7 +39,7 @@ impl StoredClosure {
         ensures key { result.key ≡ key }
         ensures output { result.output ≡ output }
     {
-        StoredClosure { key, output, run }
+        Leaf { key, output, run }
     }
 
     /// What the closure answers. At arguments of the key's types it is the value of the key's
