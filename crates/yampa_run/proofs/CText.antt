@@ -6,7 +6,7 @@ use Rattle.command_line.specs.CommandLine.{DerivationNames, PrintingWords}
 use Rattle.yampa_run.specs.Compiled.{IsForm, PrintsC, PrintsNamed, asks_most}
 use Rattle.yampa_run.specs.Preparation.{HasNoC, IsChecked, IsNetworkOf, IsNotCheckedC, IsNotCompiled, KnownFiles, RefusesWith, TellsC, TellsCheckedC, TellsForm, checked_without_c, state_too_large, without_c}
 use Rattle.yampa_run.specs.RefusalLines.{too_large_words}
-use Rattle.yampa_run.specs.declared.compile.Form.{Form}
+use Rattle.yampa_run.specs.declared.compiled.Form.{Form}
 use Rattle.yampa_run.specs.declared.preparation.Refusal.{Refusal}
 
 pub tells_form : (words : PrintingWords) (form : Form) → IsForm words form → TellsForm words

@@ -10,7 +10,7 @@ use Rattle.code_text.specs.declared.file.Printed.{Printed}
 use Rattle.code_text.specs.declared.file.Printed.TheVariants as P
 use Rattle.command_line.specs.CommandLine.{PrintingWords}
 use Rattle.yampa_run.specs.Words.{TellsMost, TellsName}
-use Rattle.yampa_run.specs.declared.compile.Form.{Form}
+use Rattle.yampa_run.specs.declared.compiled.Form.{Form}
 
 -- what is printed, by the words: the declarations alone, all but the `main`, or all
 abbrev pub printed_by : PrintingWords → Printed

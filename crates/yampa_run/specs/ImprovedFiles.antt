@@ -5,7 +5,7 @@ use Rattle.command_line.specs.CommandLine.{DerivationNames}
 use Rattle.command_line.specs.declared.command.Wanted.TheVariants as W
 use Rattle.yampa_run.specs.AppliedFiles.{FitsFile, HoldApplied}
 use Rattle.yampa_run.specs.Preparation.{IsDerivedIn, KnownFiles, Tells}
-use Rattle.yampa_run.specs.declared.report.Report.TheVariants as S
+use Rattle.yampa_run.specs.declared.telling.Telling.TheVariants as S
 
 -- three files: that of a source, what the command printed of it, and what `apply` printed of both
 pub record HoldImproved (told : KnownFiles) (names : DerivationNames) : Type 0 where

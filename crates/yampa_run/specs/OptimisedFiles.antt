@@ -16,7 +16,7 @@ use Rattle.net_text.specs.Printing.{Writable, file_spelling, network_sexpr}
 use Rattle.command_line.specs.CommandLine.{DerivationNames}
 use Rattle.command_line.specs.declared.command.Wanted.TheVariants as W
 use Rattle.yampa_run.specs.Preparation.{IsDerivedIn, IsTold, KnownFiles, Tells}
-use Rattle.yampa_run.specs.declared.report.Report.TheVariants as S
+use Rattle.yampa_run.specs.declared.telling.Telling.TheVariants as S
 
 -- a network with inputs of type A, the positions of the steps that lead to it, and both printed
 -- texts are within the limits of files

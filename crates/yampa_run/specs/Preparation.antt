@@ -45,8 +45,8 @@ use Rattle.yampa_run.specs.Compiled.{PrintsC, asks_most}
 use Rattle.yampa_run.specs.Words.{TellsFirst, TellsMost, TellsName, TellsPlace, is_name, most_in, number_in}
 use Rattle.yampa_run.specs.declared.refused.Role.{Role}
 use Rattle.yampa_run.specs.declared.refused.Role.TheVariants as R
-use Rattle.yampa_run.specs.declared.report.Report.{Report}
-use Rattle.yampa_run.specs.declared.report.Report.TheVariants as S
+use Rattle.yampa_run.specs.declared.telling.Telling.{Telling}
+use Rattle.yampa_run.specs.declared.telling.Telling.TheVariants as S
 use Rattle.yampa_run.specs.declared.preparation.Job.{Job}
 use Rattle.yampa_run.specs.declared.preparation.Job.TheVariants as J
 use Rattle.yampa_run.specs.declared.preparation.Refusal.{Refusal}
@@ -201,17 +201,17 @@ pub record PrintsMade (Made : TypedNetwork → Network Expression → List Step 
   pub printed : text ≡ wanted_text wanted source.input net steps
 
 -- the text is what is to be told of the network
-abbrev pub TellsOf : Report → TypedNetwork → List ℕ → Type 0
+abbrev pub TellsOf : Telling → TypedNetwork → List ℕ → Type 0
 TellsOf S.Types net text = text ≡ types_lines net
 TellsOf S.Outline net text = OutlineText net text
 TellsOf (S.Optimised wanted) net text = PrintsMade Optimised net wanted text
 TellsOf (S.Improved wanted) net text = PrintsMade Improved net wanted text
 
 -- the text is what is to be told of the typed network of a file, where its bytes are told
-pub record Tells (report : Report) (told : Option (List ℕ)) (text : List ℕ) : Type 0 where
+pub record Tells (telling : Telling) (told : Option (List ℕ)) (text : List ℕ) : Type 0 where
   pub net : TypedNetwork
   pub network : IsNetworkOf told net
-  pub tells : TellsOf report net text
+  pub tells : TellsOf telling net text
 
 -- the line of the command `check`
 abbrev pub accepted_line : ℕ → List ℕ

@@ -13,21 +13,21 @@
 //! First `specs/Output` and `Headline`, then `src/stream_run.rt`, `src/preparation.rt`.
 #![tactic(auto)]
 
-mod apply;
+mod applied;
 mod certificate;
-mod certify;
-mod compile;
+mod certified;
+mod compiled;
 mod fault;
 mod files;
 pub mod fill;
 mod laws;
 mod network_run;
+mod possible;
 mod preparation;
 mod printed;
 mod refused;
-mod report;
-mod steps;
 mod stream_run;
+mod telling;
 mod words;
 
 pub use fault::{RunFault, RunReport};

@@ -5,14 +5,14 @@ ghost use Rattle.command_line.specs.CommandLine.{ReadsWords, request_view};
 ghost use Rattle.yampa_run.specs.RefusalLines.{job_status, refusal_line, refusal_status};
 ghost use Rattle.yampa_run.specs.Preparation.{Fails, HasNoNetwork, IsRequested, IsNetworkIn, IsNetworkOf, IsRefusal, Meets, RefusesText, RefusesTypes, KnownFiles};
 
-use crate::apply::applied;
+use crate::applied::applied;
 use crate::certificate::{accepted, derived};
-use crate::certify::certified;
-use crate::compile::{compiled, compiled_checked};
+use crate::certified::certified;
+use crate::compiled::{compiled, compiled_checked};
 use crate::files::{Files, read_file};
+use crate::possible::possible;
 use crate::refused::{Role, text_line, type_line};
-use crate::report::{Report, reported};
-use crate::steps::possible;
+use crate::telling::{Telling, told};
 use command_line::{Reply, Request, parse};
 use net_syntax::TypedNet;
 use net_text::{NetTextFault, read_net};
@@ -108,7 +108,7 @@ fn job_of<F: Files>(alloc: Global, request: Request<'_>, files: &F) -> Result<Jo
     ensures refused { IfErr result (Fails (F.told files.now) (request_view request.entry)) }
 {
     match request {
-        Request::Types { net } => match reported(alloc, Report::Types, net, files) {
+        Request::Types { net } => match told(alloc, Telling::Types, net, files) {
             Ok(text) => Ok(Job::Print(text)),
             Err(refusal) => Err(refusal),
         },
@@ -116,7 +116,7 @@ fn job_of<F: Files>(alloc: Global, request: Request<'_>, files: &F) -> Result<Jo
             Ok(net) => Ok(Job::Run(net)),
             Err(refusal) => Err(refusal),
         },
-        Request::Outline { net } => match reported(alloc, Report::Outline, net, files) {
+        Request::Outline { net } => match told(alloc, Telling::Outline, net, files) {
             Ok(text) => Ok(Job::Print(text)),
             Err(refusal) => Err(refusal),
         },
@@ -124,18 +124,18 @@ fn job_of<F: Files>(alloc: Global, request: Request<'_>, files: &F) -> Result<Jo
             Ok(text) => Ok(Job::Print(text)),
             Err(refusal) => Err(refusal),
         },
-        Request::Optimise { net, wanted } => match reported(
+        Request::Optimise { net, wanted } => match told(
             alloc,
-            Report::Optimised(wanted),
+            Telling::Optimised(wanted),
             net,
             files,
         ) {
             Ok(text) => Ok(Job::Print(text)),
             Err(refusal) => Err(refusal),
         },
-        Request::Improve { net, wanted } => match reported(
+        Request::Improve { net, wanted } => match told(
             alloc,
-            Report::Improved(wanted),
+            Telling::Improved(wanted),
             net,
             files,
         ) {

@@ -1,4 +1,4 @@
-use Rattle.yampa_run.proofs.compile.c_text.Goals as goal
+use Rattle.yampa_run.proofs.compiled.c_text.Goals as goal
 
 pub returns-in_ok-text-in-Ok-clause-text : goal.returns-in_ok-text-in-Ok-clause-text
 returns-in_ok-text-in-Ok-clause-text c =

@@ -2,7 +2,7 @@ use Rattle.std.specs.Prelude.{string_bytes}
 use Rattle.command_line.specs.CommandLine.{printing_view}
 use Rattle.yampa_run.specs.Preparation.{without_network}
 use Rattle.yampa_run.proofs.CText.{not_compiled, tells_c, tells_form}
-use Rattle.yampa_run.proofs.compile.compiled.Goals as goal
+use Rattle.yampa_run.proofs.compiled.compiled.Goals as goal
 
 pub returns-in-Ok-load-clause-text : goal.returns-in-Ok-load-clause-text
 returns-in-Ok-load-clause-text g c =

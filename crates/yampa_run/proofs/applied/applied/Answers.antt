@@ -5,7 +5,7 @@ use Rattle.net_tree.specs.declared.law_step.LawStep.{LawStep}
 use Rattle.net_view.specs.Trace.{first_steps}
 use Rattle.yampa_run.specs.Preparation.{without_source, without_steps}
 use Rattle.yampa_run.proofs.Networks.{not_taken}
-use Rattle.yampa_run.proofs.apply.applied.Goals as goal
+use Rattle.yampa_run.proofs.applied.applied.Goals as goal
 
 pub returns-in-Err-load-clause-refused : goal.returns-in-Err-load-clause-refused
 returns-in-Err-load-clause-refused g c = without_source c.in-Ok.first c.in-Ok.ensures.first c.in-Err-load.ensures.refused

@@ -1,6 +1,6 @@
 use Rattle.yampa_run.specs.Preparation.{no_such_target}
 use Rattle.yampa_run.proofs.Networks.{not_certified}
-use Rattle.yampa_run.proofs.certify.certified.Goals as goal
+use Rattle.yampa_run.proofs.certified.certified.Goals as goal
 
 pub returns-in-Err-load-clause-refused : goal.returns-in-Err-load-clause-refused
 returns-in-Err-load-clause-refused g c = no_such_target c.in-Ok.source c.in-Ok.ensures.network c.in-Err-load.ensures.refused

@@ -1,6 +1,6 @@
 use Rattle.command_line.specs.CommandLine.{printing_view}
 use Rattle.yampa_run.proofs.CText.{too_large_is}
-use Rattle.yampa_run.proofs.compile.no_program.Goals as goal
+use Rattle.yampa_run.proofs.compiled.no_program.Goals as goal
 
 pub returns-in-State : goal.returns-in-State
 returns-in-State c =

@@ -2,7 +2,7 @@ use Rattle.std.specs.Prelude.{string_bytes}
 use Rattle.command_line.specs.CommandLine.{derivation_view, printing_view}
 use Rattle.yampa_run.specs.Preparation.{without_derivation}
 use Rattle.yampa_run.proofs.CText.{not_checked_c, tells_checked_c, tells_form}
-use Rattle.yampa_run.proofs.compile.compiled_checked.Goals as goal
+use Rattle.yampa_run.proofs.compiled.compiled_checked.Goals as goal
 
 pub returns-in-Ok-derived-clause-text : goal.returns-in-Ok-derived-clause-text
 returns-in-Ok-derived-clause-text g c =

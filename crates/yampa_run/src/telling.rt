@@ -1,4 +1,4 @@
-// What is printed of the network of a file.
+// What is told of the network of a file.
 
 ghost use Rattle.std.specs.Prelude.{◌≡◌, ◌++◌, IfErr, IfOk, OnOk, map, string_bytes};
 ghost use Rattle.sample_core.specs.TypeView.{type_of};
@@ -21,9 +21,9 @@ use net_view::outline_text;
 use sample_core::{Memory, Ty, push_type};
 use std::alloc::Global;
 
-/// What is to be printed of a network.
+/// What is to be told of a network.
 #[derive(Clone, Copy)]
-pub(crate) enum Report {
+pub(crate) enum Telling {
     /// Its types, its weight and its height.
     Types,
     /// A line on each of its parts.
@@ -34,20 +34,20 @@ pub(crate) enum Report {
     Improved(Wanted),
 }
 
-/// What is to be printed of the network of the file of that name.
-pub(crate) fn reported<F: Files>(
+/// What is to be told of the network of the file of that name.
+pub(crate) fn told<F: Files>(
     alloc: Global,
-    report: Report,
+    telling: Telling,
     name: &str,
     files: &F,
 ) -> Result<String, Refusal>
     ensures text { IfOk result
-        (λ text. Tells report (F.told files.now name.now) (string_bytes text)) }
+        (λ text. Tells telling (F.told files.now name.now) (string_bytes text)) }
     ensures refused { IfErr result (HasNoNetwork Role.Network (F.told files.now name.now)) }
 {
     match load(alloc, Role::Network, name, files) {
         Ok(net) => {
-            let text = text_of(alloc, report, &net);
+            let text = text_of(alloc, telling, &net);
             drop(net);
             Ok(text?)
         }
@@ -55,15 +55,15 @@ pub(crate) fn reported<F: Files>(
     }
 }
 
-/// What is to be printed of the network.
-fn text_of(alloc: Global, report: Report, net: &TypedNet) -> Result<String, Memory>
-    ensures { IfOk result (λ text. TellsOf report net.now (string_bytes text)) }
+/// What is to be told of the network.
+fn text_of(alloc: Global, telling: Telling, net: &TypedNet) -> Result<String, Memory>
+    ensures { IfOk result (λ text. TellsOf telling net.now (string_bytes text)) }
 {
-    match report {
-        Report::Types => types(alloc, net),
-        Report::Outline => outline_text(alloc, net),
-        Report::Optimised(wanted) => printed(alloc, wanted, net.input(), optimise(alloc, net)?),
-        Report::Improved(wanted) => printed(alloc, wanted, net.input(), improve(alloc, net)?),
+    match telling {
+        Telling::Types => types(alloc, net),
+        Telling::Outline => outline_text(alloc, net),
+        Telling::Optimised(wanted) => printed(alloc, wanted, net.input(), optimise(alloc, net)?),
+        Telling::Improved(wanted) => printed(alloc, wanted, net.input(), improve(alloc, net)?),
     }
 }
 

@@ -2,7 +2,7 @@ use Rattle.std.proofs.Common.{subst}
 use Rattle.net_search.specs.Certifying.{CertifyAnswer}
 use Rattle.net_search.specs.declared.certifying.Certified.TheVariants as V
 use Rattle.yampa_run.specs.Preparation.{at_position, gave_up, over_limits}
-use Rattle.yampa_run.proofs.certify.certified_of.Goals as goal
+use Rattle.yampa_run.proofs.certified.certified_of.Goals as goal
 
 pub returns-in-Differ-clause-told : goal.returns-in-Differ-clause-told
 returns-in-Differ-clause-told c =

@@ -1,7 +1,7 @@
 use Rattle.std.proofs.Common.{map, rules}
 use Rattle.net_tree.specs.LawStep.{step_of}
 use Rattle.yampa_run.proofs.Networks.{short_of_memory}
-use Rattle.yampa_run.proofs.apply.shown.Goals as goal
+use Rattle.yampa_run.proofs.applied.shown.Goals as goal
 
 pub returns-in_err-job-in-Ok-clause-refused : goal.returns-in_err-job-in-Ok-clause-refused
 returns-in_err-job-in-Ok-clause-refused c =

@@ -1,7 +1,7 @@
 use Rattle.std.proofs.Common.{option_map}
 use Rattle.yampa_run.specs.Preparation.{no_network}
 use Rattle.yampa_run.proofs.Networks.{nothing_there}
-use Rattle.yampa_run.proofs.steps.possible.Goals as goal
+use Rattle.yampa_run.proofs.possible.possible.Goals as goal
 
 pub returns-in-Ok-load-clause-refused : goal.returns-in-Ok-load-clause-refused
 returns-in-Ok-load-clause-refused g c =
