@@ -1,5 +1,6 @@
 """Makes C of networks and programs of C, runs them, and compares what they tell."""
 import os
+import re
 import select
 import shutil
 import subprocess
@@ -63,11 +64,11 @@ class Bench:
         return self.ran([self.compiler, "compile", *words])
 
     def source(self, name, *words):
-        """The file of the C that `compile` prints."""
+        """The file of the C that `compile` prints, and of a line that holds its state to the bytes that are told of it."""
         told = self.compile(*words)
         if told.status or told.error or not told.output:
             raise Differs(f"compile {' '.join(map(str, words))} tells {told}")
-        return self.file(name, told.output)
+        return self.file(name, told.output + (b"" if "--header" in words else holding(told.output)))
 
     def built(self, name, sources, by=None, *words):
         """A program of these sources, by a command of COMPILERS or another one."""
@@ -86,6 +87,14 @@ class Bench:
             raise Differs(f"{built.name} on the file `stream` tells\n      {told}\n   run\n      {wanted}")
         self.tally[f"streams of status {wanted.status}"] += 1
         self.tally["lines"] += wanted.output.count(b"\n")
+
+
+def holding(text):
+    """A line that no compiler takes unless the state has at most the bytes that are told at the top, and an eighth of them: one byte
+    counts as eight at most."""
+    told = re.search(rb"The state has at most (\d+) bytes", text)[1]
+    state = re.search(rb"struct (\w+_state) \{", text)[1]
+    return b"typedef char %b_told[(sizeof(struct %b) <= %b && sizeof(struct %b) >= %b / 8) ? 1 : -1];\n" % (state, state, told, state, told)
 
 
 def is_here(compiler):

@@ -1,8 +1,10 @@
-"""Programs that compiled networks are part of: several networks and instances, in C and C++, and the boiler's plant."""
+"""Programs that compiled networks are part of: several networks and instances, in C and C++, and the boiler's plant; and large
+networks."""
 import re
 from pathlib import Path
 
 from compiling.making import COMPILERS, STRICT, Differs, is_here
+from searching.families import families
 
 TOP = Path(__file__).resolve().parents[2]
 BOILER = TOP / "examples/boiler"
@@ -110,4 +112,14 @@ def plant(bench):
         raise Differs("run tells something else of what the plant's sensors tell")
 
 
-CASES = [instances, in_one_file, objects, plant]
+def large(bench):
+    """Networks as large as files may hold are compiled, with 8 MiB of stack."""
+    for name, text in families().items():
+        bench.file("large", text)
+        done = bench.ran(["sh", "-c", f"ulimit -s 8192; exec {bench.compiler} compile large > large.c"])
+        if done.status or done.error:
+            raise Differs(f"compile of {name} tells {done}")
+        bench.tally["large networks"] += 1
+
+
+CASES = [instances, in_one_file, objects, plant, large]

@@ -1,9 +1,9 @@
 -- What is tested of each holds of all.
-use Rattle.std.proofs.Common.{◌≡◌, ◌≤◌, ◌<◌, ◌+◌, ℕ, zero, suc, true, false, IsTrue, List, [], ◌∷◌, ◌++◌, length, map, take, drop, get_or, Option, Some, None, refl, sym, ap, ◌∙◌, subst, arith, below_more}
+use Rattle.std.proofs.Common.{◌≡◌, ◌≤◌, ◌<◌, ◌+◌, ℕ, zero, suc, true, false, List, [], ◌∷◌, ◌++◌, length, map, take, drop, get_or, Some, refl, sym, ap, ◌∙◌, subst, arith, below_more}
 use Rattle.std.specs.List.{slice_get}
 use Rattle.std.proofs.lemmas.List.{map-append}
 use Rattle.std.proofs.lemmas.Option.{slice_get-get_or, slice_get_read}
-use Rattle.sample_core.specs.TypeTree.{TypeTree, unit_ty, bool_ty, int_ty, pair_ty, event_ty, list_ty}
+use Rattle.sample_core.specs.TypeTree.{TypeTree, list_ty}
 use Rattle.sample_core.specs.TypeView.{type_of}
 use Rattle.sample_core.specs.declared.ty.Ty.{Ty}
 use Rattle.leaf_core.specs.TypeLimits.{same_tree}
@@ -17,7 +17,7 @@ use Rattle.code_fits.specs.declared.types.Types.{Types}
 use Rattle.code_fits.specs.declared.types.TypeRow.{TypeRow}
 use Rattle.code_fits.specs.declared.layout.Layout as N
 use Rattle.code_fits.specs.Layouts.{Layout}
-use Rattle.code_fits.specs.Rules.{Goes, AllGo, none_go, one_goes, FunctionFits, AllBelow, CodeFits}
+use Rattle.code_fits.specs.Rules.{Goes, AllGo, one_goes, FunctionFits, AllBelow, CodeFits}
 use Rattle.code_fits.specs.Tables.{beside, bound_of, elements_in, layout_of, row_tree, tree_at, FitsOver, TableHolds}
 
 some-is : {X : Type 0} (x y : X) → Some x ≡ Some y → x ≡ y

@@ -1,14 +1,10 @@
 -- A program outputs its network's stream, and all that stands fits.
 use Rattle.std.proofs.Common.{◌≡◌, ◌-◌, ℕ, false, List, [], ◌∷◌, length, map, Some, refl, sym, ap, ◌∙◌, subst}
 use Rattle.std.specs.List.{slice_get}
-use Rattle.sample_core.specs.TypeTree.{TypeTree}
-use Rattle.leaf_core.specs.Expression.{Expression}
-use Rattle.net_tree.specs.Network.{Network}
 use Rattle.net_tree.specs.NetworkView.{tree}
-use Rattle.net_meaning.specs.SignalFunction.{TimedList}
 use Rattle.net_meaning.specs.TypedNetwork.{NetTyped, stream_of}
 use Rattle.net_code.specs.declared.statement.Function.{Function}
-use Rattle.net_code.specs.Running.{Code, latest, run_code}
+use Rattle.net_code.specs.Running.{latest, run_code}
 use Rattle.net_code.specs.CodeView.{code_in}
 use Rattle.net_code.specs.CodeLaw.{leaf_in}
 use Rattle.net_code.proofs.Streams.{leaf_code_law}

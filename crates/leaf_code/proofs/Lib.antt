@@ -1,5 +1,4 @@
 -- That the code of an expression computes its value, a file a line.
-pub mod Sizes
 pub mod Values
 pub mod Fitting
 pub mod Types

@@ -1,6 +1,6 @@
 // Makes the code of an expression.
 
-ghost use Rattle.std.specs.Prelude.{◌≡◌, ◌++◌, IfOk, map, get_or};
+ghost use Rattle.std.specs.Prelude.{◌≡◌, IfOk, map, get_or};
 ghost use Rattle.sample_core.specs.TypeView.{type_of};
 ghost use Rattle.sample_core.specs.TypeTree.{unit_ty, pair_ty, event_ty, list_ty};
 ghost use Rattle.leaf_core.specs.Expression.{
@@ -578,7 +578,7 @@ fn emit_list(
 
 /// Adds the code of elements, and their registers to others.
 #[cycle(emit)]
-#[tactic(auto, using(crate::proofs::Sizes::some_node))]
+#[tactic(auto, using(std::proofs::lemmas::Grind::common_steps, leaf_core::proofs::Places::element_smaller))]
 fn emit_elements(
     around: Around<'_>,
     all: &[Expr],
@@ -591,14 +591,11 @@ fn emit_elements(
         (expressions_of (map expression_of all.now)) x (steps_in steps.old.items))
         (steps_in steps.new.items) registers.old.items registers.new.items) }
 {
-    match all.split_first() {
-        Some((e, others)) => {
-            let k = emit(around, e, x, steps)?;
-            registers.push(k)?;
-            emit_elements(around, others, x, registers, steps)
-        }
-        None => Ok(()),
+    for e in all {
+        let k = emit(around, e, x, steps)?;
+        registers.push(k)?;
     }
+    Ok(())
 }
 
 /// Adds an element of a list.

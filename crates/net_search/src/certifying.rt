@@ -7,7 +7,7 @@ ghost use Rattle.net_search.specs.ReadBack.{IsReadBack};
 
 use crate::draft::Draft;
 use crate::reading_back::is_within;
-use crate::ways::{formed, shortest, steps_of};
+use crate::ways::{formed, may_be_taken, shortest, steps_of};
 use net_certify::{Difference, first_difference};
 use net_syntax::TypedNet;
 use net_text::{print_cert, printing_laws};
@@ -112,7 +112,7 @@ fn form_of(alloc: Global, net: &TypedNet, nodes: &mut u64) -> Result<Option<Type
     ensures { IfOk result (λ form. IfSome form (Reaches net.now)) }
 {
     let formed = formed(alloc, net, nodes)?;
-    if !formed.is_done {
+    if !formed.is_done || !may_be_taken(alloc, &formed)? {
         drop(formed);
         return Ok(None);
     }

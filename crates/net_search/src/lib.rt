@@ -19,10 +19,12 @@
 #![tactic(auto)]
 
 mod certifying;
+mod counting;
 mod draft;
 mod improving;
 mod laws;
 mod reading_back;
+mod shortening;
 mod undoing;
 mod ways;
 

@@ -87,7 +87,7 @@ fn same_given(given: &Option<Tree>, other: &Option<Tree>) -> bool
 }
 
 /// Whether the trees are the same.
-fn same_tree(tree: &Tree, other: &Tree) -> bool
+pub(crate) fn same_tree(tree: &Tree, other: &Tree) -> bool
     ensures { IsTrue result ↔ (part_of tree.now ≡ part_of other.now) }
 {
     match (tree, other) {

@@ -5,7 +5,9 @@ ghost use Rattle.net_tree.specs.LawStep.{step_of};
 ghost use Rattle.cert_check.specs.Derives.{Next};
 ghost use Rattle.net_search.specs.Certifying.{LeadTo};
 
+use crate::counting::nodes_in;
 use crate::improving::{MOST_IMPROVING, improve_within};
+use crate::shortening::shortened;
 use crate::undoing::undo;
 use cert_check::{CheckFault, take_step};
 use expr_improve::Means;
@@ -19,12 +21,28 @@ use std::alloc::Global;
 /// How many nodes each of the searches visits.
 const MOST_WORK: u64 = 5_000_000;
 
-/// So few steps are taken as they are found.
-const FEW: usize = 60;
+/// The same, where steps that lead nowhere are looked for.
+const MOST_SHORTENING: u64 = 10_000_000;
+
+/// The same, where the steps to a normal form are taken; each visits the whole, about.
+const MOST_TAKING: usize = 50_000_000;
+
+/// So many nodes of a normal form are counted.
+const MOST_COUNTED: usize = 1_000_000;
+
+/// Where so few steps were found, it isn't looked at what the optimiser makes of both.
+const FEW: usize = 10;
+
+/// Where so few steps were found, it isn't looked for what costs less than both.
+const MANY: usize = 60;
 
 /// How the way to another network is looked for.
 #[derive(Clone, Copy, PartialEq, Eq)]
 enum Looking {
+    /// By what the optimiser makes of the source.
+    Optimising,
+    /// By what costs less than the source.
+    Improving,
     /// At the places where they differ.
     AtPlaces,
     /// By what the optimiser makes of both.
@@ -36,7 +54,9 @@ enum Looking {
 }
 
 /// In this order.
-const WAYS: [Looking; 4] = [
+const WAYS: [Looking; 6] = [
+    Looking::Optimising,
+    Looking::Improving,
     Looking::AtPlaces,
     Looking::Optimised,
     Looking::Improved,
@@ -61,19 +81,65 @@ pub(crate) fn shortest(
             break;
         }
         let steps = steps_by(alloc, way, source, target, nodes)?;
-        if steps.len() < most && is_led(alloc, source, target, &steps)? {
-            best = Some(steps);
+        if let Some(found) = led(alloc, source, target, steps, nodes)? {
+            if found.len() < most {
+                best = Some(found);
+            }
         }
     }
     Ok(best)
+}
+
+/// The steps, where they lead from the source to the target; without those that lead nowhere, where
+/// the others do too.
+fn led(
+    alloc: Global,
+    source: &TypedNet,
+    target: &TypedNet,
+    steps: Vec<LawStep>,
+    nodes: &mut u64,
+) -> Result<Option<Vec<LawStep>>, Memory>
+    ensures { IfOk result (λ found. IfSome found
+        (λ steps. LeadTo source.now target.now (map step_of steps.items))) }
+{
+    if !is_led(alloc, source, target, &steps)? {
+        return Ok(None);
+    }
+    let shorter = shorter(alloc, source, &steps, nodes)?;
+    if shorter.len() < steps.len() && is_led(alloc, source, target, &shorter)? {
+        return Ok(Some(shorter));
+    }
+    Ok(Some(steps))
+}
+
+/// The steps without those that lead nowhere.
+fn shorter(
+    alloc: Global,
+    source: &TypedNet,
+    steps: &[LawStep],
+    nodes: &mut u64,
+) -> Result<Vec<LawStep>, Memory> {
+    let means = Means::new(alloc, MOST_SHORTENING)?;
+    let shorter = shortened(&means, source.net(), steps)?;
+    add_spent(nodes, MOST_SHORTENING, &means);
+    Ok(shorter)
 }
 
 /// Fewer steps than so many are better than the best ones found; none where the way isn't tried.
 fn most_steps(best: &Option<Vec<LawStep>>, way: Looking) -> usize {
     match best {
         None => usize::MAX,
-        Some(steps) if steps.len() <= FEW || way == Looking::Formed => 0,
+        Some(steps) if steps.len() <= enough_for(way) => 0,
         Some(steps) => steps.len(),
+    }
+}
+
+/// Where so few steps were found, the way isn't tried.
+fn enough_for(way: Looking) -> usize {
+    match way {
+        Looking::Optimised => FEW,
+        Looking::Improved => MANY,
+        _ => usize::MAX,
     }
 }
 
@@ -116,16 +182,15 @@ fn steps_by(
     nodes: &mut u64,
 ) -> Result<Vec<LawStep>, Memory> {
     let (there, back) = match way {
+        Looking::Optimising => (optimised_to(alloc, source, target)?, Vec::new(alloc)),
+        Looking::Improving => (improved_to(alloc, source, target, nodes)?, Vec::new(alloc)),
         Looking::AtPlaces => at_places(alloc, source, target, nodes)?,
         Looking::Optimised => (optimised(alloc, source)?, optimised(alloc, target)?),
         Looking::Improved => (
             improved(alloc, source, nodes)?,
             improved(alloc, target, nodes)?,
         ),
-        Looking::Formed => (
-            steps_of(formed(alloc, source, nodes)?),
-            steps_of(formed(alloc, target, nodes)?),
-        ),
+        Looking::Formed => at_forms(alloc, source, target, nodes)?,
     };
     through(alloc, target, there, &back)
 }
@@ -149,6 +214,38 @@ fn at_places(
     }
 }
 
+/// The steps of the optimiser, where they lead to the target.
+fn optimised_to(
+    alloc: Global,
+    source: &TypedNet,
+    target: &TypedNet,
+) -> Result<Vec<LawStep>, Memory> {
+    let (last, steps) = optimise(alloc, source)?;
+    let is_led = same_net(&last, target.net());
+    drop(last);
+    Ok(if_led(alloc, is_led, steps))
+}
+
+/// The steps to what costs less, where they lead to the target.
+fn improved_to(
+    alloc: Global,
+    source: &TypedNet,
+    target: &TypedNet,
+    nodes: &mut u64,
+) -> Result<Vec<LawStep>, Memory> {
+    let means = Means::new(alloc, MOST_IMPROVING)?;
+    let (last, steps) = improve_within(&means, source)?;
+    add_spent(nodes, MOST_IMPROVING, &means);
+    let is_led = same_net(&last, target.net());
+    drop(last);
+    Ok(if_led(alloc, is_led, steps))
+}
+
+/// The steps, where they lead to the target; else none.
+fn if_led(alloc: Global, is_led: bool, steps: Vec<LawStep>) -> Vec<LawStep> {
+    if is_led { steps } else { Vec::new(alloc) }
+}
+
 /// The steps of the optimiser.
 fn optimised(alloc: Global, net: &TypedNet) -> Result<Vec<LawStep>, Memory> {
     let (last, steps) = optimise(alloc, net)?;
@@ -163,6 +260,29 @@ fn improved(alloc: Global, net: &TypedNet, nodes: &mut u64) -> Result<Vec<LawSte
     drop(last);
     add_spent(nodes, MOST_IMPROVING, &means);
     Ok(steps)
+}
+
+/// The steps to the normal forms of two networks, where these are one.
+fn at_forms(
+    alloc: Global,
+    source: &TypedNet,
+    target: &TypedNet,
+    nodes: &mut u64,
+) -> Result<(Vec<LawStep>, Vec<LawStep>), Memory> {
+    let there = formed(alloc, source, nodes)?;
+    let back = formed(alloc, target, nodes)?;
+    let is_one = same_net(there.net.get(), back.net.get());
+    if is_one && may_be_taken(alloc, &there)? && may_be_taken(alloc, &back)? {
+        Ok((steps_of(there), steps_of(back)))
+    } else {
+        Ok((Vec::new(alloc), Vec::new(alloc)))
+    }
+}
+
+/// Whether the steps to the normal form may be taken: not where they are many and it is large.
+pub(crate) fn may_be_taken(alloc: Global, formed: &Formed) -> Result<bool, Memory> {
+    let nodes = nodes_in(alloc, formed.net.get(), MOST_COUNTED)?;
+    Ok(nodes.saturating_mul(formed.steps.len()) <= MOST_TAKING)
 }
 
 /// The network's normal form, as far as the search comes.

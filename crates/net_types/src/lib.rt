@@ -24,4 +24,4 @@ mod walk;
 pub use check::check_types;
 pub use fault::TypeFault;
 pub use laws::typing_laws;
-pub use rewriting::{Rewritten, rewrite};
+pub use rewriting::{Rewritten, keeps_type_at, rewrite};

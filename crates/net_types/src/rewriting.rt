@@ -6,7 +6,7 @@ ghost use Rattle.leaf_core.specs.{ExpressionView.expression_of, TypeLimits.same_
 ghost use Rattle.net_tree.specs.NetworkView.{tree_of};
 ghost use Rattle.net_tree.specs.{LawStep.part_of, Place.a_leaf, Place.a_network};
 ghost use Rattle.net_meaning.specs.{NetworkLimits.WithinLimits};
-ghost use Rattle.net_syntax.specs.{Placed.replaced, Rewriting.Rewrites, Standing.alone, StandingWalk.standing_of};
+ghost use Rattle.net_syntax.specs.{ChildParts.seen, Placed.replaced, Rewriting.Rewrites, Standing.alone, StandingWalk.standing_of};
 ghost use Rattle.net_types.specs.Answered.{AnswersRewritten, NoRewriting};
 ghost use Rattle.net_types.specs.KeptTypes.{checked_output, kept_in_leaf, same_type, type_kept};
 
@@ -67,6 +67,25 @@ pub fn rewrite(
         }
         Ok(None) => Ok(Rewritten::IllTyped),
         Err(refused) => Err(refused),
+    }
+}
+
+/// Whether the other tree has, at the path in a tree that stands there, the type of what stands at
+/// the path; an expression that it becomes a part of must be within the limits too. `Memory` if
+/// allocation fails.
+pub fn keeps_type_at(
+    alloc: Global,
+    at: &Standing,
+    tree: TreeRef<'_>,
+    path: &[u32],
+    other: &Tree,
+) -> Result<bool, Memory>
+    ensures { IfOk result (λ kept. kept
+        ≡ type_kept (standing_of at.now) (seen tree.entry) path.now (part_of other.now)) }
+{
+    match tree {
+        TreeRef::Net(net) => type_kept(alloc, at, net, path, other),
+        TreeRef::Expr(expr) => kept_inside(alloc, at, expr, path, other),
     }
 }
 

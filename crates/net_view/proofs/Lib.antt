@@ -1,6 +1,9 @@
 pub mod Listings
 pub mod Paths
 pub mod Stepping
+pub mod Heavier
+pub mod Higher
+pub mod Spots
 pub mod Outlines
 pub mod TextParts
 pub mod Traces

@@ -1,7 +1,7 @@
 -- Lists of all that is so, in order: joined, moved along a function, said otherwise.
-use Rattle.std.proofs.Common.{◌≡◌, ◌⊎◌, inl, inr, ℕ, zero, suc, List, [], ◌∷◌, ◌++◌, map, take, Contains, refl, subst, arith}
+use Rattle.std.proofs.Common.{◌≡◌, ◌⊎◌, inl, inr, List, [], ◌∷◌, ◌++◌, map, Contains, refl, subst, arith}
 use Rattle.std.specs.List.{All}
-use Rattle.std.proofs.lemmas.List.Elements.{All-nil, All-cons, All-head, All-tail, All-append, All-weaker, All-map, All-take, All-contains, Contains-append_left, Contains-append_right, Contains-append_cases, Contains-push}
+use Rattle.std.proofs.lemmas.List.Elements.{All-nil, All-cons, All-head, All-tail, All-append, All-weaker, All-map, All-contains, Contains-append_left, Contains-append_right, Contains-append_cases, Contains-push}
 use Rattle.net_view.specs.Listed.{InOrder, Lists}
 
 -- what is in a list
@@ -44,11 +44,6 @@ order_split E (w ∷ xs) y zs h x c = go (order_split E xs y zs h.1 x) (Contains
     go later (inl d) = All-contains (λ z. E z y) (w ∷ []) x (All-cons (λ z. E z y) w [] (All-contains (E w) (xs ++ y ∷ zs) y h.0
         (Contains-append_right xs (y ∷ zs) y (contains_head y zs))) (All-nil (λ z. E z y))) d
     go later (inr d) = later d
-
-pub order_taken : {A : Type 0} (E : A → A → Type 0) (n : ℕ) (xs : List A) → InOrder E xs → InOrder E (take n xs)
-order_taken E zero xs h = tt
-order_taken E (suc n) [] h = tt
-order_taken E (suc n) (x ∷ xs) h = (All-take (E x) n xs h.0, order_taken E n xs h.1)
 
 -- nothing is listed where nothing is so
 pub lists_none : {A : Type 0} (E : A → A → Type 0) (So : A → Type 0) → ((x : A) → So x → ⊥) → Lists E So []

@@ -1,20 +1,17 @@
 -- The walk that lists positions: what a tree has inside, at the numbers below one, and at all.
 use Rattle.std.proofs.Common.{◌≡◌, ◌⊎◌, inl, inr, ℕ, ◌+◌, ◌<◌, List, [], ◌∷◌, ◌++◌, map, Option, Some, None, option_map, IsSome, refl, sym, ap, ◌∙◌, subst, arith, append_assoc, true≢false}
 use Rattle.std.specs.Prelude.{option_and_then}
-use Rattle.std.proofs.lemmas.Option.{none-some, same_Some}
+use Rattle.std.proofs.lemmas.Option.{none-some}
 use Rattle.std.proofs.lemmas.List.{append-nil, map-append}
 use Rattle.std.proofs.lemmas.Bool.{cases_lt}
 use Rattle.leaf_core.specs.Expression.{Expression}
 use Rattle.leaf_core.specs.Parts.{part, part_at}
-use Rattle.net_tree.specs.Network.{Network}
 use Rattle.net_tree.specs.Place.{◌>>=◌, Tree, a_network, a_leaf, child}
 use Rattle.net_syntax.specs.Placed.{Placed, placed, placed_at, bound_in}
 use Rattle.net_meaning.specs.TypedNetwork.{TypedNetwork}
-use Rattle.net_meaning.specs.NetworkLimits.{WithinLimits}
 use Rattle.net_opt.specs.Order.{Before, on_the_way, before_at, before_below}
-use Rattle.net_opt.specs.Walk.{Reached}
-use Rattle.net_opt.proofs.Walked.{placed_below, placed_here, none_inside, nothing_behind, reached_root, reached_inside}
-use Rattle.net_view.specs.Listed.{IsThere, IsAtOrBelow, ArePositions, IsInside, AddsPositions, IsReached}
+use Rattle.net_opt.proofs.Walked.{placed_below, placed_here, none_inside, nothing_behind}
+use Rattle.net_view.specs.Listed.{IsThere, IsAtOrBelow, ArePositions, IsInside, AddsPositions}
 use Rattle.net_view.proofs.Listings.{lists_none, lists_one, lists_same, lists_joined, lists_mapped}
 
 -- something is there or not
@@ -136,59 +133,14 @@ none_onward : (p q : List ℕ) (m n : ℕ) → ((u : Tree Expression) → placed
 none_onward p q m n below None h = refl
 none_onward p q m n below (Some u) h = below u h
 
-none_below : (p q : List ℕ) (m n : ℕ) (u : Tree Expression) → placed_at m n u p ≡ None → placed_at m n u (p ++ q) ≡ None
+pub none_below : (p q : List ℕ) (m n : ℕ) (u : Tree Expression) → placed_at m n u p ≡ None → placed_at m n u (p ++ q) ≡ None
 none_below p q m n (a_leaf e) h = ap (option_map (λ x. placed m n (a_leaf x))) (no_part_below p q e (no_leaf m n (part_at e p) h))
 none_below [] q m n (a_network f) h = absurd (none-some (placed m n (a_network f)) (sym h))
 none_below (k ∷ p) q m n (a_network f) h =
     none_onward p q (m + (bound_in f k).params) (n + (bound_in f k).olds) (none_below p q (m + (bound_in f k).params) (n + (bound_in f k).olds)) (child f k) h
 
--- a tree inside one that was reached
-record Split (m n k : ℕ) (u : Tree Expression) (q : List ℕ) (d : Placed) : Type 0 where
-  between : Placed
-  first : placed_at m n u (k ∷ []) ≡ Some between
-  then : placed_at between.params between.olds between.tree q ≡ Some d
-
-split_network : (m n k : ℕ) (f : Network Expression) (q : List ℕ) (d : Placed) (o : Option (Tree Expression)) → child f k ≡ o
-    → (o >>= (λ u. placed_at (m + (bound_in f k).params) (n + (bound_in f k).olds) u q)) ≡ Some d → Split m n k (a_network f) q d
-split_network m n k f q d None e h = absurd (none-some d h)
-split_network m n k f q d (Some u) e h =
-    let i = m + (bound_in f k).params in
-    let j = n + (bound_in f k).olds in
-    record {
-      between = placed i j u;
-      first = ap (λ o. o >>= (λ v. placed_at i j v [])) e ∙ placed_here i j u;
-      then = h;
-    }
-
-split_leaf : (m n k : ℕ) (e : Expression) (q : List ℕ) (d : Placed) (o : Option Expression) → part e k ≡ o
-    → option_map (λ x. placed m n (a_leaf x)) (option_and_then (λ y. part_at y q) o) ≡ Some d → Split m n k (a_leaf e) q d
-split_leaf m n k e q d None i h = absurd (none-some d h)
-split_leaf m n k e q d (Some x) i h = record {
-  between = placed m n (a_leaf x);
-  first = ap (λ o. option_map (λ z. placed m n (a_leaf z)) (option_and_then (λ y. part_at y []) o)) i;
-  then = h;
-}
-
-split : (m n k : ℕ) (u : Tree Expression) (q : List ℕ) (d : Placed) → placed_at m n u (k ∷ q) ≡ Some d → Split m n k u q d
-split m n k (a_network f) q d h = split_network m n k f q d (child f k) refl h
-split m n k (a_leaf e) q d h = split_leaf m n k e q d (part e k) refl h
-
-reached_further : (t : TypedNetwork) (p q : List ℕ) (c d : Placed) → Reached t p c → placed_at c.params c.olds c.tree q ≡ Some d → Reached t (p ++ q) d
-reached_further t p [] c d r h =
-    subst (λ x. Reached t x d) (sym (append-nil p)) (subst (Reached t p) (same_Some c d (sym (placed_here c.params c.olds c.tree) ∙ h)) r)
-reached_further t p (k ∷ q) c d r h =
-    let s = split c.params c.olds k c.tree q d h in
-    subst (λ x. Reached t x d) (append_assoc p (k ∷ []) q) (reached_further t (p ++ k ∷ []) q s.between d (reached_inside t p k c s.between r s.first) s.then)
-
--- the walk goes on inside what it has reached
-pub reached_onward : (p q : List ℕ) (k : ℕ) (c d : Placed) → q ≡ p ++ k ∷ [] → IsReached p c → placed_at c.params c.olds c.tree (k ∷ []) ≡ Some d → IsReached q d
-reached_onward p q k c d e r h = (r.0, subst (λ x. Reached r.0 x d) (sym e) (reached_inside r.0 p k c d r.1 h))
-
-pub reached_at : (t : TypedNetwork) (p : List ℕ) (c : Placed) → WithinLimits t → placed_at 0 0 (a_network t.net) p ≡ Some c → Reached t p c
-reached_at t p c w h = reached_further t [] p (placed 0 0 (a_network t.net)) c (reached_root t w) h
-
 -- the positions of the whole, from those below one
-order_behind : (p a b : List ℕ) → Before a b → Before (p ++ a) (p ++ b)
+pub order_behind : (p a b : List ℕ) → Before a b → Before (p ++ a) (p ++ b)
 order_behind [] a b h = h
 order_behind (k ∷ p) a b h = before_below (order_behind p a b h)
 

@@ -1,15 +1,12 @@
 -- Steps forward: their laws by number, at one position and at one position after the other.
-use Rattle.std.proofs.Common.{◌≡◌, ◌⊎◌, inl, inr, ℕ, ◌+◌, ◌<◌, ◌≤◌, List, [], ◌∷◌, ◌++◌, map, length, take, get_or, Option, Some, None, Result, Ok, Err, IfOk, OnOk, option_map, IsSome, Contains, refl, sym, ap, ◌∙◌, subst, arith}
+use Rattle.std.proofs.Common.{◌≡◌, ◌⊎◌, inl, inr, ℕ, ◌+◌, ◌≤◌, List, [], ◌∷◌, ◌++◌, map, Option, Some, None, option_map, IsSome, Contains, refl, sym, ap, ◌∙◌, subst, arith}
 use Rattle.std.proofs.lemmas.Bool.{cases_lt}
-use Rattle.std.proofs.lemmas.List.{map-append, take_more}
-use Rattle.std.proofs.lemmas.Option.{none-some, same_Some}
+use Rattle.std.proofs.lemmas.List.{map-append}
 use Rattle.std.proofs.lemmas.List.Elements.{All-nil, All-append, All-push, All-contains, Contains-append_left, Contains-push_cases, Contains-push}
 use Rattle.leaf_core.specs.Expression.{Expression}
 use Rattle.net_tree.specs.Place.{Tree, a_network, a_leaf}
 use Rattle.net_syntax.specs.Placed.{Placed, placed, placed_at}
-use Rattle.net_tree.specs.LawStep.{Step, part_of}
-use Rattle.net_tree.specs.declared.law_step.Tree as C
-use Rattle.sample_core.specs.declared.memory.Memory as Refusal
+use Rattle.net_tree.specs.LawStep.{Step}
 use Rattle.net_meaning.specs.TypedNetwork.{TypedNetwork}
 use Rattle.net_tree.specs.declared.law_step.Law.{Law}
 use Rattle.net_tree.specs.declared.law_step.Law.TheVariants as L
@@ -20,21 +17,17 @@ use Rattle.law_rules.specs.Answer as N
 use Rattle.law_rules.proofs.Numbers.{row-numbers}
 use Rattle.cert_check.specs.TreeAnswer.{TreeAnswer}
 use Rattle.net_syntax.specs.Rewriting.{Rewrites}
-use Rattle.cert_check.specs.Derives.{Next, standing_tree}
-use Rattle.cert_check.specs.CheckAnswer.{NowhereIn, Unmatched}
-use Rattle.cert_check.specs.StepAnswers.{StepFault, IsTreeAnswer}
-use Rattle.cert_check.specs.declared.answer.CheckFault.{CheckFault}
-use Rattle.cert_check.specs.declared.answer.CheckFault.TheVariants.{InputsDiffer, TooManySteps, NoPosition, NoMatch, IllTyped, EndsElsewhere, Memory}
-use Rattle.cert_check.proofs.StandsNow.{next_there}
+use Rattle.cert_check.specs.Derives.{Next}
 use Rattle.net_opt.proofs.Tried.{refused_net, refused_leaf}
 use Rattle.net_opt.specs.Order.{Before}
 use Rattle.net_opt.specs.Optimising.{forward_step, NoStepBy}
 use Rattle.net_text.specs.CertificatePrinting.{IsLaw}
 use Rattle.net_view.specs.Listed.{IsThere, IsAtOrBelow, InOrder, Lists, ArePositions}
-use Rattle.net_view.specs.Possible.{Possible, IsForward, IsFoundBy, IsTreeAfter, StandsAfter, changing, possible_of, MayBeTaken, law_rank, EarlierStep, earlier_position, earlier_law, IsPossible, ListsSteps, ArePossible, ArePossibleAt}
+use Rattle.net_view.specs.Possible.{Possible, IsFoundBy, possible_of, MayBeTaken, law_rank, EarlierStep, earlier_position, earlier_law, IsPossible, ListsSteps, ArePossible, ArePossibleAt}
+use Rattle.net_view.specs.Spots.{AtPositions}
 use Rattle.net_view.specs.declared.possible.PossibleStep.{PossibleStep}
 use Rattle.net_view.specs.declared.possible.TheConstants.{LAWS}
-use Rattle.net_view.proofs.Listings.{order_split, order_taken, lists_none, lists_one, lists_same, lists_joined}
+use Rattle.net_view.proofs.Listings.{order_split, lists_none, lists_one, lists_same, lists_joined}
 
 -- a law that answers something is one
 answer_law : (olds : ℕ) (law : Law) (tree new : Tree Expression) → TreeAnswer olds law Forward tree None new → IsLaw law
@@ -78,7 +71,7 @@ one_law (L.L n) (L.E m) h k e = absurd (omega (arith, h.0, k.1, e))
 abbrev pub ByLaws : TypedNetwork → List ℕ → ℕ → Step → Type 0
 ByLaws t p k s = (MayBeTaken t s × (p ≡ s.position)) × (law_rank s.law ≤ k)
 
-abbrev steps_in : List Possible → List Step
+abbrev pub steps_in : List Possible → List Step
 steps_in xs = map (λ x. x.step) xs
 
 pub no_laws : (t : TypedNetwork) (p : List ℕ) (xs : List Possible) → xs ≡ [] → ListsSteps t (ByLaws t p 0) xs
@@ -148,10 +141,6 @@ all_laws t p xs h = record {
   each = h.each;
 }
 
--- a step at one of these positions that may be taken
-abbrev pub AtPositions : TypedNetwork → List (List ℕ) → Step → Type 0
-AtPositions t ps s = MayBeTaken t s × Contains ps s.position
-
 pub no_positions_yet : (t : TypedNetwork) (xs : List Possible) → xs ≡ [] → ListsSteps t (AtPositions t []) xs
 no_positions_yet t xs e = subst (ListsSteps t (AtPositions t [])) (sym e) (record {
   all = lists_none EarlierStep (AtPositions t []) (λ s b. let l = b.1.1 in omega arith);
@@ -168,7 +157,7 @@ at_more : (t : TypedNetwork) (ps : List (List ℕ)) (p : List ℕ) (s : Step) �
 at_more t ps p s may (inl c) = inl (may, c)
 at_more t ps p s may (inr e) = inr (may, e)
 
-steps_more : (t : TypedNetwork) (ps : List (List ℕ)) (p : List ℕ) (xs ys : List Possible) → InOrder Before (ps ++ p ∷ []) → ListsSteps t (AtPositions t ps) xs
+pub steps_more : (t : TypedNetwork) (ps : List (List ℕ)) (p : List ℕ) (xs ys : List Possible) → InOrder Before (ps ++ p ∷ []) → ListsSteps t (AtPositions t ps) xs
     → ArePossibleAt t p ys → ListsSteps t (AtPositions t (ps ++ p ∷ [])) (xs ++ ys)
 steps_more t ps p xs ys order h k = record {
   all = subst (Lists EarlierStep (AtPositions t (ps ++ p ∷ []))) (sym (map-append (λ (z : Possible). z.step) xs ys))
@@ -178,13 +167,6 @@ steps_more t ps p xs ys order h k = record {
       (λ s z a b. earlier_position (subst (Before s.position) b.1 (order_split Before ps p [] order s.position a.1))) (steps_in xs) (steps_in ys) h.all k.all));
   each = All-append (IsPossible t) xs ys h.each k.each;
 }
-
-pub position_more : (t : TypedNetwork) (p : List ℕ) (ps : List (List ℕ)) (i : ℕ) (q : List ℕ) (xs ys : List Possible) → ArePositions t p ps → i < length ps
-    → q ≡ get_or ps i q → ListsSteps t (AtPositions t (take i ps)) xs → ArePossibleAt t q ys → ListsSteps t (AtPositions t (take (i + 1) ps)) (xs ++ ys)
-position_more t p ps i q xs ys all lt is h k =
-    let e : take (i + 1) ps ≡ take i ps ++ q ∷ [] = take_more ps i q lt ∙ ap (λ (z : List ℕ). take i ps ++ z ∷ []) (sym is) in
-    subst (λ z. ListsSteps t (AtPositions t z) (xs ++ ys)) (sym e)
-    (steps_more t (take i ps) q xs ys (subst (InOrder Before) e (order_taken Before (i + 1) ps all.in_order)) h k)
 
 -- what a step is taken at is there
 there_at : (t : TypedNetwork) (s : Step) → MayBeTaken t s → IsThere t s.position
@@ -199,7 +181,7 @@ all_possible t p ps xs all h = record {
 }
 
 -- what a check refuses doesn't lead on
-untyped_by : (t : TypedNetwork) (p : List ℕ) (m n : ℕ) (u new : Tree Expression) (law : Law) → placed_at 0 0 (a_network t.net) p ≡ Some (placed m n u)
+pub untyped_by : (t : TypedNetwork) (p : List ℕ) (m n : ℕ) (u new : Tree Expression) (law : Law) → placed_at 0 0 (a_network t.net) p ≡ Some (placed m n u)
     → TreeAnswer n law Forward u None new → ((v : TypedNetwork) → Rewrites t p new v → ⊥) → NoStepBy t p law
 untyped_by t p m n (a_network f) (a_network r) (L.L j) there (N.forward_answer row) refused =
     refused_net t p n j f r (record { params = m; there = there }) row refused
@@ -209,56 +191,6 @@ untyped_by t p m n (a_leaf e) (a_leaf r) (L.E j) there (E.forward_answer row) re
     refused_leaf t p j e r (n, record { params = m; there = there }) row refused
 untyped_by t p m n (a_leaf e) (a_leaf r) (L.L j) there a refused = elim a [ ]
 untyped_by t p m n (a_leaf e) (a_network r) law there a refused = absurd a
-
-nowhere_by : (t : TypedNetwork) (s : Step) → NowhereIn t s → (u : TypedNetwork) → Next t s u → ⊥
-nowhere_by t s h u x = none-some x.answered.place (sym h ∙ x.answered.found)
-
-unmatched_by : (t : TypedNetwork) (s : Step) → Unmatched t s → (u : TypedNetwork) → Next t s u → ⊥
-unmatched_by t s h u x =
-    h.no_answer x.new
-    (subst (λ (c : Placed). TreeAnswer c.olds s.law s.direction c.tree s.given x.new) (same_Some x.answered.place h.place (sym x.answered.found ∙ h.found)) x.answered.answered)
-
-refused_by : (t : TypedNetwork) (law : Law) (p : List ℕ) (n : ℕ) (fault : CheckFault) → (fault ≡ Memory → ⊥) → StepFault t (forward_step law p) n fault
-    → NoStepBy t p law
-refused_by t law p n (NoPosition k) other h = nowhere_by t (forward_step law p) h.1
-refused_by t law p n (NoMatch k) other h = unmatched_by t (forward_step law p) h.1
-refused_by t law p n (IllTyped k) other h =
-    let a = h.1.answered in
-    untyped_by t p a.place.params a.place.olds a.place.tree h.1.new law a.found a.answered h.1.refused
-refused_by t law p n Memory other h = absurd (other refl)
-refused_by t law p n InputsDiffer other h = absurd h
-refused_by t law p n TooManySteps other h = absurd h
-refused_by t law p n EndsElsewhere other h = absurd h
-
-step_forward : (s : Step) → IsForward s → s ≡ forward_step s.law s.position
-step_forward s h = λ i. record { law = s.law; direction = h.0 i; position = s.position; given = h.1 i }
-
-pub no_tree_after : (t : TypedNetwork) (s : Step) (n : ℕ) (fault : CheckFault) → IsForward s → (fault ≡ Memory → ⊥) → StepFault t s n fault → IsTreeAfter t s None
-no_tree_after t s n fault forward other h =
-    let e : s ≡ forward_step s.law s.position = step_forward s forward in
-    λ u x. refused_by t s.law s.position n fault other (subst (λ z. StepFault t z n fault) e h) u (subst (λ z. Next t z u) e x)
-
--- what stands at the position of a step that was taken
-pub tree_after : (t u : TypedNetwork) (s : Step) (found : Option (Tree Expression)) → Next t s u → found ≡ standing_tree u s.position → IsTreeAfter t s found
-tree_after t u s None x e = absurd (none-some x.new (e ∙ next_there t u s x))
-tree_after t u s (Some tree) x e = record { to = u; next = x; stands = sym e }
-
--- the same of what the code answers
-pub ok_after : (t u v : TypedNetwork) (s : Step) (r : Result (Option C.Tree) Refusal.Memory) → v ≡ t → Next v s u → IfOk r (λ found. option_map part_of found ≡ standing_tree u s.position)
-    → IfOk r (λ found. IsTreeAfter t s (option_map part_of found))
-ok_after t u v s (Ok found) same x e = tree_after t u s (option_map part_of found) (subst (λ z. Next z s u) same x) e
-ok_after t u v s (Err m) same x e = tt
-
-pub none_after : (t u v : TypedNetwork) (s : Step) (fault : CheckFault) (r : Result (Option C.Tree) Refusal.Memory) → v ≡ t → IsForward s
-    → StepFault v s 1 fault × (u ≡ v) → OnOk r (fault ≡ Memory → ⊥) → IfOk r (λ found. found ≡ None) → IfOk r (λ found. IsTreeAfter t s (option_map part_of found))
-none_after t u v s fault (Ok found) same forward h other e =
-    subst (λ (o : Option C.Tree). IsTreeAfter t s (option_map part_of o)) (sym e) (no_tree_after t s 1 fault forward other (subst (λ z. StepFault z s 1 fault) same h.0))
-none_after t u v s fault (Err m) same forward h other e = tt
-
-pub none_by : (t : TypedNetwork) (law : Law) (p q : List ℕ) (found : Option C.Tree) → q ≡ p → found ≡ None → IsTreeAfter t (forward_step law q) (option_map part_of found)
-    → NoStepBy t p law
-none_by t law p q found at none h =
-    subst (λ z. NoStepBy t z law) at (subst (λ o. IsTreeAfter t (forward_step law q) (option_map part_of o)) none h)
 
 pub found_more : (t : TypedNetwork) (p : List ℕ) (k : ℕ) (law : Law) (items now : List PossibleStep) (found : Option PossibleStep) (x : PossibleStep) → law_rank law ≡ k + 1
     → IsLaw law → IsFoundBy t p law (option_map possible_of found) → found ≡ Some x → now ≡ items ++ x ∷ [] → ListsSteps t (ByLaws t p k) (map possible_of items)
@@ -274,46 +206,3 @@ pub found_no_more : (t : TypedNetwork) (p : List ℕ) (k : ℕ) (law : Law) (ite
 found_no_more t p k law items now None r is by never e h =
     subst (λ z. ListsSteps t (ByLaws t p (k + 1)) (map possible_of z)) (sym e) (law_passed t p k law (map possible_of items) r is by h)
 found_no_more t p k law items now (Some x) r is by never e h = absurd (never x refl)
-
-pub positions_more : (t : TypedNetwork) (p : List ℕ) (ps : List (List ℕ)) (i : ℕ) (q : List ℕ) (items more now : List PossibleStep) → ArePositions t p ps → i < length ps
-    → q ≡ get_or ps i q → now ≡ items ++ more → ListsSteps t (AtPositions t (take i ps)) (map possible_of items) → ArePossibleAt t q (map possible_of more)
-    → ListsSteps t (AtPositions t (take (i + 1) ps)) (map possible_of now)
-positions_more t p ps i q items more now all lt is e h k =
-    subst (ListsSteps t (AtPositions t (take (i + 1) ps))) (sym (ap (map possible_of) e ∙ map-append possible_of items more))
-    (position_more t p ps i q (map possible_of items) (map possible_of more) all lt is h k)
-
--- at a position that isn't there no step may be taken
-pub not_there : {X Y : Type 0} (f : X → Y) (o : Option X) (q : Option Y) → ((x : X) → o ≡ Some x → ⊥) → option_map f o ≡ q → q ≡ None
-not_there f None q never e = sym e
-not_there f (Some x) q never e = absurd (never x refl)
-
-pub none_there : (t : TypedNetwork) (p : List ℕ) (xs : List Possible) → placed_at 0 0 (a_network t.net) p ≡ None → xs ≡ [] → ArePossibleAt t p xs
-none_there t p xs h e = subst (ArePossibleAt t p) (sym e) (record {
-  all = lists_none EarlierStep (λ s. MayBeTaken t s × (p ≡ s.position))
-      (λ s b. nowhere_by t s (subst (λ z. placed_at 0 0 (a_network t.net) z ≡ None) b.1 h) b.0.to b.0.next);
-  each = All-nil (IsPossible t);
-})
-
--- nor by a law that has no answer there
-pub no_answer : (t : TypedNetwork) (law : Law) (p : List ℕ) (c : Placed) (answer : Option C.Tree) → placed_at 0 0 (a_network t.net) p ≡ Some c → answer ≡ None
-    → IsTreeAnswer c.olds law Forward c.tree None answer → NoStepBy t p law
-no_answer t law p c None there e h = λ u x.
-    h x.new
-    (subst (λ (d : Placed). TreeAnswer d.olds law Forward d.tree None x.new) (same_Some x.answered.place c (sym x.answered.found ∙ there)) x.answered.answered)
-no_answer t law p c (Some a) there e h = absurd (none-some a (sym e))
-
--- a step that leads on, with what it changes
-pub some_by : (t : TypedNetwork) (law : Law) (p q : List ℕ) (c : Placed) (found : Option C.Tree) (after : C.Tree) (r : Result (Option PossibleStep) Refusal.Memory)
-    → q ≡ p → found ≡ Some after → placed_at 0 0 (a_network t.net) p ≡ Some c → IsTreeAfter t (forward_step law q) (option_map part_of found)
-    → IfOk r (λ z. option_map possible_of z ≡ Some (changing (forward_step law q) c.tree (part_of after)))
-    → IfOk r (λ z. IsFoundBy t p law (option_map possible_of z))
-some_by t law p q c found after (Ok z) at some there h e =
-    let led : StandsAfter t (forward_step law q) (part_of after) = subst (λ o. IsTreeAfter t (forward_step law q) (option_map part_of o)) some h in
-    let here : StandsAfter t (forward_step law p) (part_of after) = subst (λ y. StandsAfter t (forward_step law y) (part_of after)) at led in
-    let is : option_map possible_of z ≡ Some (changing (forward_step law p) c.tree (part_of after)) =
-    subst (λ y. option_map possible_of z ≡ Some (changing (forward_step law y) c.tree (part_of after))) at e in
-    subst (IsFoundBy t p law) (sym is) (
-      record { to = here.to; changes = record { next = here.next; before = ap (option_map (λ (d : Placed). d.tree)) there; after = here.stands } },
-      refl,
-    )
-some_by t law p q c found after (Err m) at some there h e = tt

@@ -3,6 +3,7 @@ pub mod Listed
 pub mod Rows
 pub mod Walked
 pub mod Possible
+pub mod Spots
 pub mod Texts
 pub mod Applied
 pub mod Trace

@@ -5,7 +5,6 @@ use Rattle.net_syntax.specs.Placed.{Placed, placed_at}
 use Rattle.net_meaning.specs.TypedNetwork.{TypedNetwork}
 use Rattle.cert_check.specs.Derives.{standing_tree}
 use Rattle.net_opt.specs.Order.{Before}
-use Rattle.net_opt.specs.Walk.{Reached}
 
 -- something stands at the position of the network
 abbrev pub IsThere : TypedNetwork → List ℕ → Type 0
@@ -41,7 +40,3 @@ pub record AddsPositions (p : List ℕ) (So : List ℕ → Type 0) (before now :
     pub paths : List (List ℕ)
     pub added : now ≡ before ++ map (λ q. p ++ q) paths
     pub listed : Lists Before So paths
-
--- a place that a walk over some typed network has come to
-abbrev pub IsReached : List ℕ → Placed → Type 0
-IsReached p c = (t : TypedNetwork) × Reached t p c

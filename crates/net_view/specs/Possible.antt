@@ -9,7 +9,7 @@ use Rattle.net_tree.specs.declared.law_step.Law.{Law}
 use Rattle.net_tree.specs.declared.law_step.Law.TheVariants as L
 use Rattle.net_tree.specs.declared.law_step.Direction.TheVariants.{Forward}
 use Rattle.expr_laws.specs.declared.table.TheConstants.{LAST_LAW}
-use Rattle.cert_check.specs.Derives.{Next, standing_tree}
+use Rattle.cert_check.specs.Derives.{Next}
 use Rattle.net_opt.specs.Optimising.{NoStepBy, forward_step}
 use Rattle.net_opt.specs.Order.{Before}
 use Rattle.net_view.specs.Listed.{IsAtOrBelow, Lists}
@@ -50,21 +50,6 @@ pub data EarlierStep (s r : Step) : Type 0 where
 pub record IsPossible (t : TypedNetwork) (x : Possible) : Type 0 where
   pub to : TypedNetwork
   pub changes : Changes t x.step x.change to
-
--- the step leads on, and the tree stands at its position then
-pub record StandsAfter (t : TypedNetwork) (s : Step) (tree : Tree Expression) : Type 0 where
-  pub to : TypedNetwork
-  pub next : Next t s to
-  pub stands : standing_tree to s.position ≡ Some tree
-
--- the step is forward, with no tree given
-abbrev pub IsForward : Step → Type 0
-IsForward s = (s.direction ≡ Forward) × (s.given ≡ None)
-
--- the tree is what stands there once the step is taken; none where the step doesn't lead on
-abbrev pub IsTreeAfter : TypedNetwork → Step → Option (Tree Expression) → Type 0
-IsTreeAfter t s None = (u : TypedNetwork) → Next t s u → ⊥
-IsTreeAfter t s (Some tree) = StandsAfter t s tree
 
 -- the step forward by the law at p, where it leads on
 abbrev pub IsFoundBy : TypedNetwork → List ℕ → Law → Option Possible → Type 0

@@ -9,16 +9,18 @@
 //! is the file of the network that steps lead to (`PrintsApplied`), and `trace_steps` tells what each
 //! of them changes, and why one was refused (`IsTrace`).
 //!
-//! First `specs/Listed`, then `src/positions.rt`, which finds the positions.
+//! First `specs/Listed`, then `src/rows.rt`, whose walk comes to each position.
 #![tactic(auto)]
 
 mod applied;
 mod cut;
 mod forms;
 mod inner;
+mod may_stand;
 mod positions;
 mod possible;
 mod rows;
+mod spot;
 mod texts;
 mod told;
 mod trace;

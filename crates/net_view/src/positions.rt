@@ -1,13 +1,13 @@
-// The positions of a network, in preorder, and what stands at one.
+// What stands at a position.
 
-ghost use Rattle.std.specs.Prelude.{◌≡◌, ◌↔◌, IfOk, IsTrue, OnOk, option_map};
-ghost use Rattle.net_syntax.specs.ChildParts.{seen, seen_place};
+ghost use Rattle.std.specs.Prelude.{◌≡◌, ◌↔◌, IfOk, IsTrue, option_map};
+ghost use Rattle.net_syntax.specs.ChildParts.{seen};
 ghost use Rattle.net_tree.specs.LawStep.{part_of};
 ghost use Rattle.cert_check.specs.Derives.{standing_tree};
-ghost use Rattle.net_view.specs.Listed.{AddsPositions, ArePositions, IsInside, IsReached, IsThere};
+ghost use Rattle.net_view.specs.Listed.{IsThere};
 
 use cert_check::place_in;
-use net_syntax::{Place, TreeRef, TypedNet, place_below};
+use net_syntax::{TreeRef, TypedNet};
 use net_tree::{Position, Tree};
 use sample_core::Memory;
 use std::alloc::Global;
@@ -42,47 +42,4 @@ pub(crate) fn copied(alloc: Global, tree: TreeRef) -> Result<Tree, Memory>
         TreeRef::Net(net) => Ok(Tree::Net(net.try_copy(alloc)?)),
         TreeRef::Expr(expr) => Ok(Tree::Expr(expr.try_copy(alloc)?)),
     }
-}
-
-/// The positions at or below one, in preorder; none if it isn't there. `Memory` if allocation
-/// fails.
-pub(crate) fn positions_within(
-    alloc: Global,
-    net: &TypedNet,
-    position: &Position,
-) -> Result<Vec<Position>, Memory>
-    ensures { IfOk result (λ found. ArePositions net.now position.now found.items) }
-{
-    let mut found = Vec::new(alloc);
-    if let Some(place) = place_in(net, position) {
-        // The network is within the limits.
-        let _net = net.net();
-        let mut path = position.path().to_vec(alloc)?;
-        add_positions(alloc, place, &mut path, &mut found)?;
-    }
-    Ok(found)
-}
-
-/// Adds the positions at the path, where this stands, and below it.
-fn add_positions(
-    alloc: Global,
-    place: Place<'_>,
-    path: &mut Vec<u32>,
-    found: &mut Vec<Position>,
-) -> Result<(), Memory>
-    requires { IsReached path.old.items (seen_place place) }
-    ensures path { OnOk result (path.new.items ≡ path.old.items) }
-    ensures added { OnOk result (AddsPositions path.old.items (IsInside (seen_place place.entry))
-        found.old.items found.new.items) }
-{
-    let here = Position::of_node(alloc, path.as_slice())?;
-    found.push(here)?;
-    let mut k = 0;
-    while let Some(inner) = place_below(place, &[k]) {
-        path.push(k)?;
-        add_positions(alloc, inner, path, found)?;
-        path.pop();
-        k += 1;
-    }
-    Ok(())
 }

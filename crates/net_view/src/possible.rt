@@ -1,18 +1,23 @@
 // The steps that may be taken forward.
 
-ghost use Rattle.std.specs.Prelude.{◌≡◌, ◌≢◌, ◌+◌, ◌<◌, IfOk, OnOk, None, Some, map, option_map};
-ghost use Rattle.net_syntax.specs.{ChildParts.seen, ChildParts.seen_place, Placed.placed_at};
+ghost use Rattle.std.specs.Prelude.{◌≡◌, ◌+◌, ◌<◌, ◌≤◌, [], IfOk, IsTrue, None, OnOk, Some, length, map, option_map};
+ghost use Rattle.net_syntax.specs.{ChildParts.seen, ChildParts.seen_place, Placed.placed_at, StandingWalk.standing_of};
 ghost use Rattle.net_tree.specs.LawStep.{part_of, step_of};
 ghost use Rattle.net_tree.specs.Place.{a_network};
-ghost use Rattle.cert_check.specs.declared.answer.CheckFault.TheVariants as F;
+ghost use Rattle.net_opt.specs.Optimising.{forward_step};
+ghost use Rattle.net_opt.specs.Walk.{Reached};
 ghost use Rattle.net_text.specs.CertificatePrinting.{IsLaw};
 ghost use Rattle.net_view.specs.declared.possible.TheConstants.{LAWS};
-ghost use Rattle.net_view.specs.Possible.{ArePossible, ArePossibleAt, IsForward, IsFoundBy, IsTreeAfter, changing, law_rank, possible_of};
+ghost use Rattle.net_view.specs.Listed.{IsInside};
+ghost use Rattle.net_view.specs.Possible.{ArePossible, ArePossibleAt, IsFoundBy, changing, law_rank, possible_of};
+ghost use Rattle.net_view.specs.Spots.{AddsSteps, AddsStepsBelow, IsAround};
 
-use crate::positions::{copied, positions_within, tree_at};
+use crate::may_stand::may_stand;
+use crate::positions::copied;
+use crate::spot::{Spot, spot_below, standing_below};
 use crate::trace::Change;
-use cert_check::{CheckFault, answer_at, place_in, take_step};
-use net_syntax::{Place, TypedNet};
+use cert_check::answer_at;
+use net_syntax::{Place, Standing, TreeRef, TypedNet, place_below};
 use net_tree::{Direction, Law, LawStep, Position, Tree};
 use sample_core::Memory;
 use std::alloc::Global;
@@ -32,6 +37,10 @@ pub struct PossibleStep {
 /// The steps forward at or below the position that a check would accept, by the positions in
 /// preorder and at each by the laws' numbers; none where the position isn't there. `Memory` if
 /// allocation fails.
+///
+/// Types are found on the way down. Where a step's law fits, the part that it changes is typed and
+/// measured, and of the whole only what the limits leave is asked; the whole is measured only where
+/// that isn't enough, or frozen networks are in scope.
 pub fn possible_steps(
     alloc: Global,
     net: &TypedNet,
@@ -39,26 +48,115 @@ pub fn possible_steps(
 ) -> Result<Vec<PossibleStep>, Memory>
     ensures { IfOk result (λ steps. ArePossible net.now position.now (map possible_of steps.items)) }
 {
-    let positions = positions_within(alloc, net, position)?;
-    let mut steps = Vec::new(alloc);
-    for inner in &positions {
-        let mut more = steps_at(alloc, net, inner)?;
-        steps.append(&mut more)?;
-    }
-    Ok(steps)
+    let tree = TreeRef::Net(net.net());
+    let whole = Spot {
+        place: Place {
+            tree,
+            params: 0,
+            olds: 0,
+        },
+        root: tree,
+        depth: 0,
+    };
+    let at = Standing::alone(alloc, net.input())?;
+    let mut path = Vec::new(alloc);
+    let found = steps_below(alloc, net, &at, whole, &mut path, position.path());
+    drop(at);
+    found
 }
 
-/// Those at the position itself.
-fn steps_at(alloc: Global, net: &TypedNet, position: &Position) -> Result<Vec<PossibleStep>, Memory>
-    ensures { IfOk result
-        (λ steps. ArePossibleAt net.now position.now (map possible_of steps.items)) }
+/// The steps at or below what stands at the rest of the path, from this place on, which the path
+/// leads to.
+fn steps_below(
+    alloc: Global,
+    net: &TypedNet,
+    at: &Standing,
+    spot: Spot<'_>,
+    path: &mut Vec<u32>,
+    rest: &[u32],
+) -> Result<Vec<PossibleStep>, Memory>
+    requires reached { Reached net.now path.old.items (seen_place spot.place) }
+    requires around { IsAround net.now path.old.items (seen_place spot.place) (standing_of at.now)
+        (seen spot.root) spot.depth }
+    ensures { IfOk result (λ steps. AddsStepsBelow net.now path.old.items
+        (seen_place spot.entry.place) rest.now (map possible_of steps.items)) }
 {
-    let mut steps = Vec::new(alloc);
-    let Some(place) = place_in(net, position) else {
+    let Some((k, rest)) = rest.split_first() else {
+        let mut steps = Vec::new(alloc);
+        add_steps(alloc, net, at, spot, path, &mut steps)?;
         return Ok(steps);
     };
+    let Some(inner) = place_below(spot.place, &[*k]) else {
+        return Ok(Vec::new(alloc));
+    };
+    let Some(there) = standing_below(alloc, at, spot.place.tree, *k)? else {
+        unreachable!()
+    };
+    path.push(*k)?;
+    let found = steps_below(
+        alloc,
+        net,
+        &there,
+        spot_below(spot, inner, path.as_slice()),
+        path,
+        rest,
+    );
+    drop(there);
+    found
+}
+
+/// Adds the steps at the path, where this place is, and below it.
+fn add_steps(
+    alloc: Global,
+    net: &TypedNet,
+    at: &Standing,
+    spot: Spot<'_>,
+    path: &mut Vec<u32>,
+    steps: &mut Vec<PossibleStep>,
+) -> Result<(), Memory>
+    requires reached { Reached net.now path.old.items (seen_place spot.place) }
+    requires around { IsAround net.now path.old.items (seen_place spot.place) (standing_of at.now)
+        (seen spot.root) spot.depth }
+    ensures path { OnOk result (path.new.items ≡ path.old.items) }
+    ensures added { OnOk result (AddsSteps net.now path.old.items
+        (IsInside (seen_place spot.entry.place)) (map possible_of steps.old.items)
+        (map possible_of steps.new.items)) }
+{
+    let mut here = steps_at(alloc, net, at, spot, path.as_slice())?;
+    steps.append(&mut here)?;
+    let mut k = 0;
+    while let Some(inner) = place_below(spot.place, &[k]) {
+        let Some(there) = standing_below(alloc, at, spot.place.tree, k)? else {
+            unreachable!()
+        };
+        path.push(k)?;
+        let inner = spot_below(spot, inner, path.as_slice());
+        let added = add_steps(alloc, net, &there, inner, path, steps);
+        drop(there);
+        added?;
+        path.pop();
+        k += 1;
+    }
+    Ok(())
+}
+
+/// The steps at the path itself.
+fn steps_at(
+    alloc: Global,
+    net: &TypedNet,
+    at: &Standing,
+    spot: Spot<'_>,
+    path: &[u32],
+) -> Result<Vec<PossibleStep>, Memory>
+    requires reached { Reached net.now path.now (seen_place spot.place) }
+    requires around { IsAround net.now path.now (seen_place spot.place) (standing_of at.now)
+        (seen spot.root) spot.depth }
+    ensures { IfOk result
+        (λ steps. ArePossibleAt net.now path.now (map possible_of steps.items)) }
+{
+    let mut steps = Vec::new(alloc);
     for k in 0..LAWS {
-        if let Some(step) = step_at(alloc, net, position, place, law_number(k))? {
+        if let Some(step) = step_at(alloc, net, at, spot, path, law_number(k))? {
             steps.push(step)?;
         }
     }
@@ -78,104 +176,70 @@ fn law_number(k: u8) -> Law
     }
 }
 
-/// The step by the law at the position, if a check would accept it. The law is tried at the place
-/// there first.
+/// The step by the law at the path, if a check would accept it.
 fn step_at(
     alloc: Global,
     net: &TypedNet,
-    position: &Position,
-    place: Place<'_>,
+    at: &Standing,
+    spot: Spot<'_>,
+    path: &[u32],
     law: Law,
 ) -> Result<Option<PossibleStep>, Memory>
-    requires { placed_at 0 0 (a_network net.now.net) position.now ≡ Some (seen_place place) }
-    ensures { IfOk result (λ found. IsFoundBy net.now position.now law
-        (option_map possible_of found)) }
+    requires reached { Reached net.now path.now (seen_place spot.place) }
+    requires around { IsAround net.now path.now (seen_place spot.place) (standing_of at.now)
+        (seen spot.root) spot.depth }
+    ensures { IfOk result (λ found. IsFoundBy net.now path.now law (option_map possible_of found)) }
 {
-    match answer_at(alloc, law, Direction::Forward, place, None)? {
-        Some(answer) => {
-            drop(answer);
-            step_by(alloc, net, position, place, law)
-        }
-        None => Ok(None),
-    }
-}
-
-/// The same, by a check.
-fn step_by(
-    alloc: Global,
-    net: &TypedNet,
-    position: &Position,
-    place: Place<'_>,
-    law: Law,
-) -> Result<Option<PossibleStep>, Memory>
-    requires { placed_at 0 0 (a_network net.now.net) position.now ≡ Some (seen_place place) }
-    ensures { IfOk result (λ found. IsFoundBy net.now position.now law
-        (option_map possible_of found)) }
-{
-    let step = LawStep {
-        law,
-        direction: Direction::Forward,
-        position: position.try_copy(alloc)?,
-        given: None,
+    let Some(new) = answer_at(alloc, law, Direction::Forward, spot.place, None)? else {
+        return Ok(None);
     };
-    match tree_after(alloc, net, &step) {
-        Ok(Some(after)) => with_change(alloc, step, place, after),
-        Ok(None) => {
-            drop(step);
+    match may_stand(alloc, net, at, spot, path, &new) {
+        Ok(true) => with_change(alloc, law, path, spot.place.tree, new),
+        Ok(false) => {
+            drop(new);
             Ok(None)
         }
         Err(refused) => {
-            drop(step);
+            drop(new);
             Err(refused)
         }
     }
 }
 
-/// The step, with what stands at the place and what stands there then.
+/// The step by the law, with what stands at the path and what stands there then.
 fn with_change(
     alloc: Global,
-    step: LawStep,
-    place: Place<'_>,
+    law: Law,
+    path: &[u32],
+    tree: TreeRef<'_>,
     after: Tree,
 ) -> Result<Option<PossibleStep>, Memory>
     ensures { IfOk result (λ found. option_map possible_of found
-        ≡ Some (changing (step_of step) (seen place.entry.tree) (part_of after))) }
+        ≡ Some (changing (forward_step law path.now) (seen tree.entry) (part_of after))) }
 {
-    match copied(alloc, place.tree) {
-        Ok(before) => Ok(Some(PossibleStep {
-            step,
+    match before_it(alloc, path, tree) {
+        Ok((position, before)) => Ok(Some(PossibleStep {
+            step: LawStep {
+                law,
+                direction: Direction::Forward,
+                position,
+                given: None,
+            },
             change: Change { before, after },
         })),
         Err(refused) => {
-            drop(step);
             drop(after);
             Err(refused)
         }
     }
 }
 
-/// What stands at the step's position once it is taken; `None` if a check would refuse it.
-fn tree_after(alloc: Global, net: &TypedNet, step: &LawStep) -> Result<Option<Tree>, Memory>
-    requires { IsForward (step_of step.now) }
-    ensures { IfOk result (λ found. IsTreeAfter net.now (step_of step.now)
-        (option_map part_of found)) }
+/// The position of the path, and a copy of what stands there.
+fn before_it(alloc: Global, path: &[u32], tree: TreeRef<'_>) -> Result<(Position, Tree), Memory>
+    ensures { IfOk result
+        (λ found. (found.0 ≡ path.now) × (part_of found.1 ≡ seen tree.entry)) }
 {
-    let mut reached = net.try_copy(alloc)?;
-    let found = match take_step(alloc, &mut reached, step, 1) {
-        Ok(()) => tree_at(alloc, &reached, &step.position),
-        Err(fault) => no_tree(fault),
-    };
-    drop(reached);
-    found
-}
-
-/// Nothing, where the fault isn't want of memory.
-fn no_tree(fault: CheckFault) -> Result<Option<Tree>, Memory>
-    ensures none { OnOk result (fault ≢ F.Memory) }
-    ensures found { IfOk result (λ found. found ≡ None) }
-{
-    match fault {
-        CheckFault::Memory => Err(Memory),
-        _ => Ok(None),
-    }
+    let position = Position::of_node(alloc, path)?;
+    let before = copied(alloc, tree)?;
+    Ok((position, before))
 }

@@ -1,6 +1,6 @@
 use Rattle.std.proofs.Common.{[], drop, map, take}
 use Rattle.code_fits.specs.Rules.{CodeFits}
-use Rattle.code_fits.specs.Tables.{LayoutsFit, TableHolds, bound_of, layout_of}
+use Rattle.code_fits.specs.Tables.{TableHolds, bound_of, layout_of}
 use Rattle.code_fits.proofs.fitting.test_layouts.Given as goal
 
 -- where those to come fit, all do

@@ -1,4 +1,3 @@
-use Rattle.std.proofs.Common.{arith}
 use Rattle.code_fits.proofs.RuleTests.{collection-ok}
 use Rattle.code_fits.proofs.rules.collection.Goals as goal
 

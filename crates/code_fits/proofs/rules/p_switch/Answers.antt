@@ -1,4 +1,3 @@
-use Rattle.std.proofs.Common.{arith}
 use Rattle.code_fits.proofs.RuleTests.{p_switch-ok}
 use Rattle.code_fits.proofs.rules.p_switch.Goals as goal
 

@@ -1,5 +1,4 @@
 use Rattle.code_text.proofs.function.push_input_leaf.Goals as goal
-use Rattle.std.proofs.Common.{subst, ap, ◌∙◌}
 
 pub returns : goal.returns
 returns c = cc (c.in_ok-push_leaf_at.ensures, c.ty-input.ensures)

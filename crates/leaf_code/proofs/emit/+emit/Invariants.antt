@@ -1,8 +1,21 @@
-use Rattle.std.proofs.Common.{◌+◌, ◌*◌, map}
-use Rattle.leaf_core.specs.Expression.{nodes_in}
+use Rattle.std.proofs.Common.{◌≡◌, ◌+◌, ◌*◌, ◌++◌, List, ℕ, drop, map}
+use Rattle.sample_core.specs.TypeView.{type_of}
+use Rattle.leaf_core.specs.Expression.{nodes_in, expressions_of}
 use Rattle.leaf_core.specs.ExpressionView.{expression_of}
 use Rattle.leaf_core.proofs.Sizes.{expr_nodes, exprs_nodes}
+use Rattle.leaf_code.specs.Running.{Step}
+use Rattle.leaf_code.specs.CodeOf.{emit_all}
+use Rattle.leaf_code.specs.CodeView.{steps_in}
 use Rattle.leaf_code.proofs.emit.+emit.Given as goal
+
+-- the elements to come add the rest of the steps and of the registers
+abbrev pub invariant-emit_elements-loop-e : goal.invariant-emit_elements-loop-e
+invariant-emit_elements-loop-e l =
+    let rest : List Step × List ℕ = emit_all (map type_of l.around.params.now) (type_of l.around.input.now)
+    (expressions_of (map expression_of (drop l.e-index l.all))) l.x (steps_in l.steps.items) in
+    let whole : List Step × List ℕ = emit_all (map type_of l.around.params.now) (type_of l.around.input.now)
+    (expressions_of (map expression_of l.all)) l.x (steps_in l.initial.steps.items) in
+    (rest.0 ≡ whole.0) × (l.registers.items ++ rest.1 ≡ l.initial.registers.items ++ whole.1)
 
 abbrev pub decreases-emit : goal.decreases-emit
 decreases-emit l = 8 * expr_nodes l.e.now + 1

@@ -5,4 +5,4 @@ use Rattle.net_view.proofs.possible.steps_at.Given as goal
 
 -- the steps by the laws so far
 abbrev pub invariant-loop-k : goal.invariant-loop-k
-invariant-loop-k l = ListsSteps l.fn.net (ByLaws l.fn.net l.fn.position l.k) (map possible_of l.steps.items)
+invariant-loop-k l = ListsSteps l.fn.net (ByLaws l.fn.net l.fn.path l.k) (map possible_of l.steps.items)
