@@ -42,8 +42,30 @@ def networks():
     yield "a list of 70,001", list_with("(then x (neg x))"), list_with("(neg x)"), TOO_LONG
     yield "lists of 1,500 inputs, one negated", inputs, tripled(1200, 1500), ("(at 0 1200)",)
     yield "doubled 12 times and 16 times as much", doubled, arr("(mul x 16)"), APART
+    yield from looped()
     for name, net in hostile().items():
         yield f"{name}, and time", net, "time", APART
+
+
+def looped():
+    """Loops and cells, and what they are as one loop, or in another order."""
+    swapped, summed = "(arr (pair (snd x) (fst x)))", "(loopPre 0 (arr (pair (add (snd x) (fst x)) (add (snd x) (fst x)))))"
+    both, added = "(arr (pair x x))", "(arr (add (fst x) (snd x)))"
+    controller = to_the_right([both, "(first (arr (mul x 3)))", f"(second {summed})", added])
+    controlling = "(loopPre 0 (arr (pair (add (mul (fst x) 3) (add (snd x) (fst x))) (add (snd x) (fst x)))))"
+    inner = "(loopPre 1 (arr (pair (pair (add (fst (fst x)) (snd x)) (add (snd (fst x)) 1)) (snd (fst x)))))"
+    one = "(loopPre (pair 1 0) (arr (pair (add (fst x) (fst (snd x))) (pair (snd (snd x)) (add (snd (snd x)) 1)))))"
+    yield "nested loops, and one", f"(loopPre 0 {inner})", one, 120
+    yield "a controller, and one loop", controller, controlling, 240
+    yield "the same in a switch", *[f"(switch (>>> {net} {arr('(pair x (if (less 9 x) (event x) (none Int)))')}) integral)" for net in (controller, controlling)], 240
+    kept, summing = [f"(loopPre 0 {swapped})", "(iPre 0)"], [summed, "(>>> (iPre 0) integral)"]
+    yield "two cells, added in either order", *[to_the_right([both, f"(first {f})", f"(second {g})", added]) for f, g in ((kept[1], summed), (summed, kept[0]))], 750
+    yield "two that differ", *[to_the_right([both, f"(first {kept[1]})", f"(second {net})", added]) for net in summing], APART
+    for count in 4, 10:
+        numbers = range(count)
+        stages = [stage for k in numbers for stage in (f"(iPre {k})", arr(f"(add x {k})"))]
+        loops = [f"(loopPre {k} (arr (pair (add (snd x) {k}) (fst x))))" for k in numbers]
+        yield f"a chain of {count} cells, and of loops", to_the_right(stages), to_the_left(loops), 250 * count
 
 
 def hostile():

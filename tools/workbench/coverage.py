@@ -2,146 +2,17 @@
 from __future__ import annotations
 
 import sys
-from collections import Counter
-from dataclasses import dataclass, replace
-from typing import Any
+from typing import TYPE_CHECKING
 
-from model.texts import read_stream
-from model.trees import children, head, is_network, preorder
-from model.typed import check_types
-from workbench.ending import REFUSED, UNREADABLE, Refused, Words, missing, stream_bytes
-from workbench.origin import Place, Program, read_source
-from workbench.program import answered, call
+from workbench.ending import REFUSED, Words
+from workbench.origin import Place, read_source
+from workbench.program import answered
 
-try:
-    from workbench.proving.expressions import STRICT, value
-    from workbench.proving.machines import Environment, Machine
-    from workbench.proving.switching import machine_of
-    from workbench.proving.terms import Terms
-    from workbench.proving.values import UNIT, Tree, encoded
-except ImportError as error:
-    raise missing("python3-z3", error) from None
+if TYPE_CHECKING:
+    from workbench.counting import Position, Run
 
-Position = tuple
 # Of a longer line the columns are told, and nothing is underlined.
 WIDEST = 200
-
-
-# ---- counting
-
-
-class Counts:
-    """How often each part was run, by its position."""
-
-    def __init__(self, terms: Terms):
-        self.terms, self.of = terms, Counter[Position]()
-
-    def value(self, tree: Any, params: tuple, x: Tree, here: Position) -> Tree:
-        """The value of an expression, whose parts are counted where they are computed."""
-        self.of[here] += 1
-        word, parts = head(tree), children(tree)
-
-        def part(number: int, given: Tree = x) -> Tree:
-            return self.value(parts[number], params, given, (*here, number))
-
-        if word in STRICT:
-            return STRICT[word](self.terms, *[part(number) for number in range(len(parts))])
-        match word:
-            case "then":
-                return part(1, part(0))
-            case "if":
-                return part(1 if part(0) else 2)
-            case "on":
-                happening = part(0)
-                return part(2, ("pair", x, happening[2])) if happening[1] else part(1)
-            case "list":
-                return ("list", len(parts), tuple(part(number) for number in range(len(parts))))
-        return value(self.terms, tree, params, x)
-
-
-@dataclass(frozen=True)
-class Counting(Environment):
-    """An environment in which what is computed for a network is counted at its position; for none, as its constants are, it isn't."""
-
-    counts: Counts | None = None
-    places: dict[int, Position] | None = None
-
-    def value(self, tree: Any, x: Tree = UNIT) -> Tree:
-        if self.counts is None or self.places is None:
-            return value(self.terms, tree, self.params, x)
-        return self.counts.value(tree, self.params, x, self.places[id(tree)])
-
-
-def count_in(machine: Machine, counts: Counts) -> None:
-    """From now on each step of the network, and of those in it, is counted."""
-    advance, first_cells, position = machine.advance, machine.first_cells, machine.position
-    places = {id(child): (*position, number) for number, child in reversed([*enumerate(children(machine.tree))])}
-    # The environment that it got last, and the same with the places of its own expressions: mostly it is the same again.
-    got = own = None
-
-    def counted(state: Tree, d: Any, a: Tree, env: Counting) -> tuple:
-        nonlocal got, own
-        counts.of[position] += 1
-        if env is not got:
-            got, own = env, replace(env, places=places)
-        return advance(state, d, a, own)
-
-    machine.advance = counted  # type: ignore[method-assign]
-    machine.first_cells = lambda env: first_cells(replace(env, places=None))  # type: ignore[method-assign]
-    for part in machine.parts:
-        count_in(part, counts)
-
-
-class Run:
-    """A network that counts its parts on one recording after the other."""
-
-    def __init__(self, program: Program):
-        self.program, self.tree = program, program.file.tree
-        terms = Terms()
-        self.counts, self.terms = Counts(terms), terms
-        self.given = program.file.input
-        self.machine = machine_of(check_types(self.given, self.tree))
-        count_in(self.machine, self.counts)
-        self.env = Counting(terms, counts=self.counts)
-
-    def hear(self, recording: str) -> str:
-        """Counts a recording's samples; what is wrong with it, or nothing."""
-        stream = stream_bytes(recording)
-        told = call(["run", self.program.path()], stream)
-        if told.status not in (0, REFUSED):
-            raise Refused(f"{recording}: {told.fault()}", UNREADABLE)
-        state, answers = self.machine.start(self.env), told.output.count(b"\n")
-        for step, sample in read_stream(stream, self.given)[0][:answers]:
-            self.terms.steps = 0
-            _, state = self.machine.step(state, step, encoded(sample, self.given), self.env)
-        return f"{recording}: {told.fault()}" if told.status else ""
-
-    def totals(self) -> dict[Position, int]:
-        """How often each part was run; a constant as often as its network."""
-        found: dict[Position, int] = {}
-        self.add_totals(self.tree, (), 0, True, found)
-        return found
-
-    def add_totals(self, tree: Any, position: Position, above: int, is_run: bool, found: dict[Position, int]) -> None:
-        found[position] = count = self.counts.of[position] if is_run else above
-        word, inside = head(tree), not is_network(tree)
-        for number, child in enumerate(children(tree)):
-            runs = is_run if inside else is_network(child) or word in ("arr", "pSwitch", "rpSwitchB") or (word == "accumBy" and number == 0)
-            self.add_totals(child, (*position, number), count, runs, found)
-
-
-def counts_of(program: Program, recordings: list[str]) -> dict[Position, int]:
-    """How often the recordings run each network, by its position."""
-    run = Run(program)
-    for recording in recordings:
-        fault = run.hear(recording)
-        if fault:
-            raise Refused(fault)
-    totals = run.totals()
-    return {position: totals[position] for position, tree in preorder(run.tree) if is_network(tree)}
-
-
-# ---- what is told
 
 
 def reached(run: Run) -> dict[tuple, tuple[Place, int]]:
@@ -197,6 +68,8 @@ def main() -> None:
     words.add_argument("recordings", metavar="FILE", nargs="+", help="timed streams; - is standard input")
     words.add_argument("--all", action="store_true", help="status 1 if a part was never run")
     given = words.parse_args()
+    from workbench.counting import Run  # behind the words, so that help needs no library
+
     program = read_source(given.net)
     answered(["types", program.path()])
     run = Run(program)

@@ -162,7 +162,7 @@ def picture_of(whole: Network, diagram: Diagram, position: Position, width: floa
 
 def run_counts(whole: Network, recordings: list) -> dict:
     """How often recordings run each network."""
-    from workbench.coverage import counts_of
+    from workbench.counting import counts_of
 
     return counts_of(whole.program, recordings)
 

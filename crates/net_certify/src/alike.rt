@@ -118,7 +118,7 @@ fn same_leaf_node(a: &Expr, b: &Expr) -> bool
 }
 
 /// The number of the expression's form.
-fn leaf_form(expr: &Expr) -> u8
+pub(crate) fn leaf_form(expr: &Expr) -> u8
     ensures { result ≡ tag_of (expression_of expr.now) }
 {
     match expr {
@@ -153,7 +153,7 @@ fn leaf_form(expr: &Expr) -> u8
 
 /// The number in the expression's node.
 #[tactic(auto, using(crate::proofs::Counting::element_count))]
-fn number_inside(expr: &Expr) -> u64
+pub(crate) fn number_inside(expr: &Expr) -> u64
     ensures { result ≡ number_inside (inside_of (expression_of expr.now)) }
 {
     match expr {

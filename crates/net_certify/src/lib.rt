@@ -1,6 +1,6 @@
 //! Ways from two networks to a third, by steps of laws: they are only proposed.
 //!
-//!     let ways = ways_between(&means, &first, &second)?;
+//!     let ways = ways_between(&means, &first, &second, with_loops)?;
 //!     let formed = normal_form(&means, &net, 0)?;
 //!     let difference = first_difference(alloc, &first, &second)?;
 //!
@@ -9,7 +9,7 @@
 //! last (`src/places.rt`). Nothing is proved but that the search is safe and ends; it visits at most so
 //! many nodes (`Means`). Who takes the steps checks each again (`net_search`).
 //!
-//! First `src/places.rt`, then `src/forming.rt` and `src/table.rt`.
+//! First `src/places.rt`, then `src/forming.rt` and `src/table.rt`, then `src/one_loop.rt`.
 #![tactic(auto)]
 
 mod alike;
@@ -17,7 +17,9 @@ mod arr_forms;
 mod difference;
 mod forming;
 mod loop_forms;
+mod loop_states;
 mod meeting;
+mod one_loop;
 mod places;
 mod segments;
 mod shaping;

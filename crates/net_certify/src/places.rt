@@ -3,6 +3,7 @@
 use crate::alike::{MOST_CHILDREN, inner_at, same_node, same_tree};
 use crate::forming::{Formed, normal_form};
 use crate::meeting::{Trail, cut_at_meeting};
+use crate::one_loop::looped_alike;
 use crate::segments::{Segment, aligned, filled, stages};
 use crate::shaping::{gather_all, shaped};
 use expr_improve::{Means, joined};
@@ -22,16 +23,19 @@ pub struct Ways {
 }
 
 /// Steps from each of two networks to a third, where the search finds some. What both have at one
-/// place is left alone, and of what differs as little as serves is brought to a normal form. They
-/// are only proposed: types aren't looked at. `Memory` if allocation fails.
+/// place is left alone, and of what differs as little as serves is brought to a normal form, or, with
+/// loops, to loops round one `arr`. They are only proposed: types aren't looked at. `Memory` if
+/// allocation fails.
 pub fn ways_between(
     means: &Means,
     first: &Net<Expr>,
     second: &Net<Expr>,
+    with_loops: bool,
 ) -> Result<Option<Ways>, Memory> {
     let mut pair = Pair {
         first: sketch_of(means, first)?,
         second: sketch_of(means, second)?,
+        with_loops,
     };
     match pair.join(&[], MOST_DEPTH, MOST_EFFORT) {
         Ok(()) => Ok(Some(pair.into_ways())),
@@ -57,6 +61,8 @@ fn sketch_of(means: &Means, net: &Net<Expr>) -> Result<Sketch, Memory> {
 struct Pair {
     first: Sketch,
     second: Sketch,
+    /// Whether loops are made one, in place of trying steps.
+    with_loops: bool,
 }
 
 /// Where two networks were on the way to one.
@@ -71,7 +77,7 @@ struct Mark {
 impl Pair {
     /// The steps of both.
     fn into_ways(self) -> Ways {
-        let Pair { first, second } = self;
+        let Pair { first, second, .. } = self;
         let Sketch { steps: there, .. } = first;
         let Sketch { steps: back, .. } = second;
         Ways { there, back }
@@ -115,9 +121,11 @@ impl Pair {
         if effort < MOST_EFFORT {
             return self.join_somehow(path, depth - 1, effort);
         }
-        match self.join_somehow(path, depth - 1, effort - 1) {
-            Err(NoMove::Unfit) => {}
-            other => return other,
+        if !self.with_loops {
+            match self.join_somehow(path, depth - 1, effort - 1) {
+                Err(NoMove::Unfit) => {}
+                other => return other,
+            }
         }
         match self.join_all(path, depth - 1, effort) {
             Err(NoMove::Unfit) => self.join_forms(path),
@@ -297,29 +305,51 @@ impl Pair {
         filled(alloc, &segments)
     }
 
-    /// Brings what both have at the path to its normal form, where that is one.
+    /// Brings what both have at the path to its normal form, where that is one; or makes loops one.
     fn join_forms(&mut self, path: &[u32]) -> Result<(), NoMove> {
         let (a, b) = self.at(path)?;
         let is_net = matches!(a.tree, TreeRef::Net(_));
-        let (mut there, end) = formed(&self.first.means, a)?;
-        let (mut back, other) = formed(&self.first.means, b)?;
-        if !same_net(end.get(), other.get()) {
-            return Err(NoMove::Unfit);
-        }
+        let means = &self.first.means;
+        let (mut there, mut back) = match formed_alike(means, a, b) {
+            Err(NoMove::Unfit) if self.with_loops && is_net => {
+                looped_alike(means, trail_at(means, a)?, trail_at(means, b)?)?
+            }
+            other => other?,
+        };
         cut_at_meeting(&self.first.means, &mut there, &mut back)?;
         take_below(&mut self.first, path, is_net, there)?;
         take_below(&mut self.second, path, is_net, back)
     }
 }
 
-/// The way of what stands at a place to its normal form, and that; of an expression as that of an
-/// `arr`.
-fn formed(means: &Means, spot: Spot<'_>) -> Result<(Trail, NetChild<Expr>), NoMove> {
+/// The ways of what stands at two places to one normal form.
+fn formed_alike(means: &Means, a: Spot<'_>, b: Spot<'_>) -> Result<(Trail, Trail), NoMove> {
+    let (there, end) = formed(means, a)?;
+    let (back, other) = formed(means, b)?;
+    if same_net(end.get(), other.get()) {
+        Ok((there, back))
+    } else {
+        Err(NoMove::Unfit)
+    }
+}
+
+/// What stands at a place, with no step yet; an expression as that of an `arr`.
+fn trail_at(means: &Means, spot: Spot<'_>) -> Result<Trail, NoMove> {
     let start = match spot.tree {
         TreeRef::Net(net) => copied(means.alloc, net)?,
         TreeRef::Expr(expr) => NetChild::new(means.alloc, Net::Arr(expr.try_copy(means.alloc)?))?,
     };
-    let olds = spot.olds;
+    Ok(Trail {
+        start,
+        olds: spot.olds,
+        steps: Vec::new(means.alloc),
+    })
+}
+
+/// The way of what stands at a place to its normal form, and that; of an expression as that of an
+/// `arr`.
+fn formed(means: &Means, spot: Spot<'_>) -> Result<(Trail, NetChild<Expr>), NoMove> {
+    let Trail { start, olds, .. } = trail_at(means, spot)?;
     let Formed { net, steps, .. } = normal_form(means, start.get(), olds)?;
     Ok((Trail { start, olds, steps }, net))
 }

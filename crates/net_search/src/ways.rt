@@ -21,6 +21,9 @@ use std::alloc::Global;
 /// How many nodes each of the searches visits.
 const MOST_WORK: u64 = 5_000_000;
 
+/// The same, where loops are made one.
+const MOST_LOOPING: u64 = 2_000_000;
+
 /// The same, where steps that lead nowhere are looked for.
 const MOST_SHORTENING: u64 = 10_000_000;
 
@@ -51,16 +54,19 @@ enum Looking {
     Improved,
     /// By their normal forms.
     Formed,
+    /// At those places, with loops made one.
+    Looped,
 }
 
 /// In this order.
-const WAYS: [Looking; 6] = [
+const WAYS: [Looking; 7] = [
     Looking::Optimising,
     Looking::Improving,
     Looking::AtPlaces,
     Looking::Optimised,
     Looking::Improved,
     Looking::Formed,
+    Looking::Looped,
 ];
 
 /// The fewest steps found that lead from the source to the target, where some were found. Not all is
@@ -184,27 +190,31 @@ fn steps_by(
     let (there, back) = match way {
         Looking::Optimising => (optimised_to(alloc, source, target)?, Vec::new(alloc)),
         Looking::Improving => (improved_to(alloc, source, target, nodes)?, Vec::new(alloc)),
-        Looking::AtPlaces => at_places(alloc, source, target, nodes)?,
+        Looking::AtPlaces => at_places(alloc, source, target, false, nodes)?,
         Looking::Optimised => (optimised(alloc, source)?, optimised(alloc, target)?),
         Looking::Improved => (
             improved(alloc, source, nodes)?,
             improved(alloc, target, nodes)?,
         ),
         Looking::Formed => at_forms(alloc, source, target, nodes)?,
+        Looking::Looped => at_places(alloc, source, target, true, nodes)?,
     };
     through(alloc, target, there, &back)
 }
 
-/// The steps to where two networks are one, at the places where they differ.
+/// The steps to where two networks are one, at the places where they differ; with loops, also by
+/// loops made one, and less work.
 fn at_places(
     alloc: Global,
     source: &TypedNet,
     target: &TypedNet,
+    with_loops: bool,
     nodes: &mut u64,
 ) -> Result<(Vec<LawStep>, Vec<LawStep>), Memory> {
-    let means = Means::new(alloc, MOST_WORK)?;
-    let ways = ways_between(&means, source.net(), target.net())?;
-    add_spent(nodes, MOST_WORK, &means);
+    let most = if with_loops { MOST_LOOPING } else { MOST_WORK };
+    let means = Means::new(alloc, most)?;
+    let ways = ways_between(&means, source.net(), target.net(), with_loops)?;
+    add_spent(nodes, most, &means);
     match ways {
         Some(ways) => {
             let Ways { there, back } = ways;
