@@ -1,11 +1,11 @@
-"""Lists the functions of Rattle that are too large: with over six parameters, over sixty lines, or a second loop."""
+"""Lists the functions of Rattle that are too large: with over six parameters, over sixty lines, or a third loop."""
 import re
 import sys
 from pathlib import Path
 from typing import Iterator, NamedTuple
 
 CRATES = Path(__file__).resolve().parents[2] / "crates"
-MOST_PARAMETERS, MOST_LINES, MOST_LOOPS = 6, 60, 1
+MOST_PARAMETERS, MOST_LINES, MOST_LOOPS = 6, 60, 2
 SKIPPED = r'//[^\n]*|b?"(?:\\.|[^"\\])*"|b?\'(?:\\[^\']+|[^\'\\])\''
 HEAD = re.compile(r"\bfn\s+(\w+)\s*(?:<[^(]*>)?\s*\(")
 CLAUSE = re.compile(r"(?:requires|ensures)\b[^{;]*")
