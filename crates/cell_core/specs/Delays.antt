@@ -5,6 +5,7 @@ use Rattle.cell_core.specs.Cell.{Cell, queue, due, enqueue}
 use Rattle.cell_core.specs.Queue.{times_behind, place, place_within, fronted, IsFront}
 use Rattle.cell_core.specs.Earlier.{back_of}
 use Rattle.cell_core.specs.declared.behind.Behind.{Behind}
+use Rattle.cell_core.specs.declared.behind.Passed.{Passed}
 use Rattle.cell_core.specs.declared.front.Front.{Front}
 
 -- those in front, the newest first
@@ -18,15 +19,15 @@ queue_of f age at back =
 
 -- where in front what is out stands
 abbrev pub out_in : Front → Behind → ℕ
-out_in f n = place_within (length f.entries) n.at
+out_in f n = place_within (length f.entries) n.passed.at
 
 -- the cell that these are
 abbrev pub delay_of : Front → Behind → Cell
-delay_of f n = queue_of f n.age (out_in f n) (back_of n)
+delay_of f n = queue_of f n.passed.age (out_in f n) (back_of n)
 
--- what is behind after a further sample, at that age of the front and place of what is out
-abbrev pub Follows : Behind → ℕ → ℕ → ℕ × Datum → Behind → Type 0
-Follows b age at e c = (back_of c ≡ e ∷ back_of b) × (c.age ≡ age) × (c.at ≡ at)
+-- what is behind after a further sample, where those in front have passed so far
+abbrev pub Follows : Behind → Passed → ℕ × Datum → Behind → Type 0
+Follows b p e c = (back_of c ≡ e ∷ back_of b) × (c.passed ≡ p)
 
 -- the queue and the answer with this front, its age, the place of what is out, and these behind
 abbrev pub IsJoined : Front → ℕ → ℕ → List (ℕ × Datum) → Cell × Datum → Type 0

@@ -14,16 +14,29 @@ use std::rc::Rc;
 const BLOCK: usize = 8;
 
 /// What a `delay` keeps behind: its newest samples, the oldest first, each with its step since the
-/// one before it, the blocks of those before them, unless they are in front, and how those in
-/// front stand.
+/// one before it, the blocks of those before them, unless they are in front, and how far those in
+/// front have passed.
 #[derive(Drop)]
 pub struct Behind {
     pub(crate) recent: Entries,
     pub(crate) earlier: Earlier,
-    // The time since the front was made.
+    pub(crate) passed: Passed,
+}
+
+/// How far those in front have passed: the time since the front was made, and where in it the
+/// value stands that is out. Those before it wait.
+#[derive(Clone, Copy)]
+pub(crate) struct Passed {
     pub(crate) age: u64,
-    // Where in front the value stands that is out; those before it wait.
     pub(crate) at: usize,
+}
+
+/// A sample that comes into a queue: what is behind so far, the time since then, and the sample.
+#[derive(Clone, Copy)]
+pub(crate) struct Arrival<'a> {
+    pub(crate) behind: &'a Behind,
+    pub(crate) dt: u64,
+    pub(crate) sample: &'a Sample,
 }
 
 /// A block of samples, the oldest first, each with its step since the one before it, and the
@@ -157,27 +170,24 @@ impl Behind {
         Behind {
             recent: Entries::none(alloc),
             earlier: Earlier::new(),
-            age: 0,
-            at: 0,
+            passed: Passed { age: 0, at: 0 },
         }
     }
 
-    /// Becomes what was behind and the sample, dt after it, at that age of the front, where what is
-    /// out stands at that place. `Memory` if allocation fails.
+    /// Becomes what was behind and the sample, where those in front have passed so far. `Memory`
+    /// if allocation fails.
     #[inline(always)]
     pub(crate) fn follow(
         &mut self,
         alloc: Global,
-        before: &Behind,
-        age: u64,
-        at: usize,
-        dt: u64,
-        sample: &Sample,
+        arrival: Arrival<'_>,
+        passed: Passed,
     ) -> Result<(), Memory>
-        ensures { OnOk result (Follows before.now age at (dt, datum_of sample.now) self.new) }
+        ensures { OnOk result (Follows arrival.entry.behind.now passed
+            (arrival.entry.dt, datum_of arrival.entry.sample.now) self.new) }
     {
-        self.age = age;
-        self.at = at;
+        self.passed = passed;
+        let before = arrival.behind;
         let recent = before.recent.as_slice();
         if recent.len() < BLOCK {
             let earlier = before.earlier.try_copy()?;
@@ -186,7 +196,7 @@ impl Behind {
         } else {
             self.begin_block(alloc, &before.earlier, recent)?;
         }
-        self.recent.push(alloc, dt, sample)
+        self.recent.push(alloc, arrival.dt, arrival.sample)
     }
 
     /// No newest samples yet: these come into a block, of copies, behind the earlier ones. `Memory`
@@ -200,8 +210,7 @@ impl Behind {
     ) -> Result<(), Memory>
         ensures recent { OnOk result (self.new.recent ≡ []) }
         ensures earlier { OnOk result (self.new.earlier ≡ entries_of samples.now ∷ earlier.now) }
-        ensures age { self.new.age ≡ self.old.age }
-        ensures at { self.new.at ≡ self.old.at }
+        ensures passed { self.new.passed ≡ self.old.passed }
     {
         let earlier = earlier.and(alloc, samples)?;
         drop(std::mem::replace(&mut self.earlier, earlier));

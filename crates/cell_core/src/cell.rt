@@ -6,7 +6,7 @@ ghost use Rattle.cell_core.specs.CellView.{cell_of, outcome_of};
 ghost use Rattle.cell_core.specs.Cell.{cell_step, accumulating, previous as keeping};
 ghost use Rattle.cell_core.specs.Start.{IsWithin, cell_start};
 
-use crate::behind::Behind;
+use crate::behind::{Arrival, Behind};
 use crate::form::Form;
 use crate::front::Front;
 use crate::recurring::Recurring;
@@ -102,7 +102,10 @@ impl Cell {
     {
         match self {
             Cell::IPre(before) => step::i_pre(alloc, before, sample, place, out),
-            Cell::Delay(front, behind) => queue::step(front, behind, alloc, dt, sample, place, out),
+            Cell::Delay(front, behind) => {
+                let arrival = Arrival { behind, dt, sample };
+                queue::step(alloc, front, arrival, place, out)
+            }
             Cell::Hold(kept) => step::hold(alloc, kept, sample, place, out),
             Cell::AccumBy(accumulator) => step::accum_by(alloc, accumulator, sample, place, out),
             Cell::After(left, value) => step::after(*left, value, dt, place, out),

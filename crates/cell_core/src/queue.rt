@@ -7,7 +7,7 @@ ghost use Rattle.cell_core.specs.Delays.{delay_of, queue_of, Follows, IsJoined, 
 ghost use Rattle.cell_core.specs.{Earlier.back_of, Entries.entries_of, Queue.IsRenewed, Queue.Gathers};
 ghost use Rattle.cell_core.specs.Start.{cell_start};
 
-use crate::behind::Behind;
+use crate::behind::{Arrival, Behind, Passed};
 use crate::cell::{Cell, answered};
 use crate::entry::{Entries, Entry};
 use crate::form::Form;
@@ -36,64 +36,67 @@ pub(crate) fn start(
     }
     let mut cell = Cell::Time(0);
     let mut answer = Sample::Int(0);
-    let done = renewed(alloc, q, 0, entries, sample, &mut cell, &mut answer);
+    let done = renewed(
+        alloc,
+        Front { q, entries },
+        0,
+        sample,
+        &mut cell,
+        &mut answer,
+    );
     answered(done, cell, answer)
 }
 
-/// The queue after dt more, with the sample in it, in that place, and its answer in the other: the
-/// latest value that is due, or what was out. It takes memory for a block of samples, and for a
-/// front of those that wait behind when all in front has passed.
+/// The queue with the sample in it, in that place, and its answer in the other: the latest value
+/// that is due, or what was out. It takes memory for a block of samples, and for a front of those
+/// that wait behind when all in front has passed.
 #[inline(never)]
 pub(crate) fn step(
-    front: &Rc<Front>,
-    behind: &Behind,
     alloc: Global,
-    dt: u64,
-    sample: &Sample,
+    front: &Rc<Front>,
+    arrival: Arrival<'_>,
     place: &mut Cell,
     out: &mut Sample,
 ) -> Result<(), Memory>
     ensures { OnOk result (outcome_of (place.new, out.new)
-        ≡ cell_step (delay_of front.now.value behind.now) (dt, datum_of sample.now)) }
+        ≡ cell_step (delay_of front.now.value arrival.entry.behind.now)
+        (arrival.entry.dt, datum_of arrival.entry.sample.now)) }
 {
     let ahead: &Front = front;
-    let from = ahead.within(behind.at);
-    let at = ahead.passed(from, behind.age, dt);
+    let before = arrival.behind.passed;
+    let from = ahead.within(before.at);
+    let at = ahead.passed(from, before.age, arrival.dt);
     if at == 0 {
-        return turned(ahead, behind, alloc, dt, sample, place, out);
+        return turned(alloc, ahead, arrival, place, out);
     }
+    let age = before.age + arrival.dt;
     let front = front.clone()?;
-    joined(
-        alloc,
-        front,
-        behind,
-        behind.age + dt,
-        at,
-        dt,
-        sample,
-        place,
-        out,
-    )
+    joined(alloc, front, Passed { age, at }, arrival, place, out)
 }
 
-/// The queue after dt more, where all in front has passed: those behind that aren't due come to
-/// the front, and the sample is behind. Its answer is what is out.
+/// The queue with the sample in it, where all in front has passed: those behind that aren't due
+/// come to the front, and the sample is behind. Its answer is what is out.
 #[inline(never)]
 fn turned(
-    front: &Front,
-    behind: &Behind,
     alloc: Global,
-    dt: u64,
-    sample: &Sample,
+    front: &Front,
+    arrival: Arrival<'_>,
     place: &mut Cell,
     out: &mut Sample,
 ) -> Result<(), Memory>
-    ensures { OnOk result (IsTurnedOver front.now behind.now dt (datum_of sample.now)
-        (outcome_of (place.new, out.new))) }
+    ensures { OnOk result (IsTurnedOver front.now arrival.entry.behind.now arrival.entry.dt
+        (datum_of arrival.entry.sample.now) (outcome_of (place.new, out.new))) }
 {
+    let Arrival { behind, dt, sample } = arrival;
     let mut entries = Entries::with_room(alloc, front.entries.as_slice().len())?;
     match gather(front, behind, alloc, dt, &mut entries) {
-        Ok(()) => renewed(alloc, front.q, dt, entries, sample, place, out),
+        Ok(()) => {
+            let front = Front {
+                q: front.q,
+                entries,
+            };
+            renewed(alloc, front, dt, sample, place, out)
+        }
         Err(memory) => {
             drop(entries);
             Err(memory)
@@ -167,52 +170,53 @@ fn gather_run(
 #[inline(never)]
 fn renewed(
     alloc: Global,
-    q: u64,
+    front: Front,
     dt: u64,
-    entries: Entries,
     sample: &Sample,
     place: &mut Cell,
     out: &mut Sample,
 ) -> Result<(), Memory>
-    requires { 0 < length entries }
-    ensures { OnOk result (IsRenewed q entries (datum_of sample.now)
+    ensures { OnOk result (IsRenewed front.q front.entries (datum_of sample.now)
         (outcome_of (place.new, out.new))) }
 {
-    let at = entries.as_slice().len() - 1;
-    let front = Rc::new(alloc, Front { q, entries })?;
+    let at = front.entries.as_slice().len() - 1;
+    let front = Rc::new(alloc, front)?;
     let nothing = Behind::none(alloc);
-    let done = joined(alloc, front, &nothing, 0, at, dt, sample, place, out);
+    let arrival = Arrival {
+        behind: &nothing,
+        dt,
+        sample,
+    };
+    let done = joined(alloc, front, Passed { age: 0, at }, arrival, place, out);
     drop(nothing);
     done
 }
 
-/// The queue with the sample behind, dt after the earlier ones, at that age of the front, where
-/// what is out stands at that place. Its answer is what is out.
+/// The queue with the sample behind, where those in front have passed so far. Its answer is what
+/// is out.
 #[inline(always)]
 fn joined(
     alloc: Global,
     front: Rc<Front>,
-    before: &Behind,
-    age: u64,
-    at: usize,
-    dt: u64,
-    sample: &Sample,
+    passed: Passed,
+    arrival: Arrival<'_>,
     place: &mut Cell,
     out: &mut Sample,
 ) -> Result<(), Memory>
-    requires { at < length front.value.entries }
-    ensures { OnOk result (IsJoined front.value age at
-        ((dt, datum_of sample.now) ∷ back_of before.now) (outcome_of (place.new, out.new))) }
+    requires { passed.at < length front.value.entries }
+    ensures { OnOk result (IsJoined front.value passed.age passed.at
+        ((arrival.entry.dt, datum_of arrival.entry.sample.now) ∷ back_of arrival.entry.behind.now)
+        (outcome_of (place.new, out.new))) }
 {
-    if let Err(memory) = out.put_copy(alloc, &front.entries.as_slice()[at].value) {
+    if let Err(memory) = out.put_copy(alloc, &front.entries.as_slice()[passed.at].value) {
         drop(front);
         return Err(memory);
     }
     if let Cell::Delay(ahead, there) = place {
         drop(std::mem::replace(ahead, front));
-        return there.follow(alloc, before, age, at, dt, sample);
+        return there.follow(alloc, arrival, passed);
     }
-    put_joined(alloc, front, before, age, at, dt, sample, place)
+    put_joined(alloc, front, passed, arrival, place)
 }
 
 /// The queue with the sample behind, as above, where the place is of another form.
@@ -220,19 +224,16 @@ fn joined(
 fn put_joined(
     alloc: Global,
     front: Rc<Front>,
-    before: &Behind,
-    age: u64,
-    at: usize,
-    dt: u64,
-    sample: &Sample,
+    passed: Passed,
+    arrival: Arrival<'_>,
     place: &mut Cell,
 ) -> Result<(), Memory>
-    requires { at < length front.value.entries }
-    ensures { OnOk result (cell_of place.new
-        ≡ queue_of front.value age at ((dt, datum_of sample.now) ∷ back_of before.now)) }
+    requires { passed.at < length front.value.entries }
+    ensures { OnOk result (cell_of place.new ≡ queue_of front.value passed.age passed.at
+        ((arrival.entry.dt, datum_of arrival.entry.sample.now) ∷ back_of arrival.entry.behind.now)) }
 {
     let mut fresh = Behind::none(alloc);
-    match fresh.follow(alloc, before, age, at, dt, sample) {
+    match fresh.follow(alloc, arrival, passed) {
         Ok(()) => put_new(alloc, front, fresh, place),
         Err(memory) => {
             drop(fresh);

@@ -207,12 +207,20 @@ fn and_param(frame: Frame<'_>, by: usize) -> Result<Vec<usize>, Memory> {
     Ok(params)
 }
 
-/// Networks that are frozen together, and their types.
+/// Networks that are frozen together, the number of the child behind them, and their types.
 #[derive(Clone, Copy)]
 struct Frozen<'a> {
     functions: &'a [usize],
+    behind: u32,
     input: usize,
     output: usize,
+}
+
+/// What watches the parts of a switch, and what takes over from it.
+#[derive(Clone, Copy)]
+struct Rest<'n> {
+    watch: &'n Net<Expr>,
+    over: &'n Net<Expr>,
 }
 
 /// The frozen networks in scope with these more.
@@ -288,14 +296,14 @@ fn taker(
     part(inner, k, t, input, to)
 }
 
-/// Adds the layouts of child k, which also gets these frozen networks.
+/// Adds the layouts of what takes over, the second child behind frozen networks, which gets one
+/// parameter more and these networks.
 #[cycle(lay)]
 fn resumer(
     frame: Frame<'_>,
-    k: u32,
+    frozen: Frozen<'_>,
     t: &Net<Expr>,
     by: usize,
-    frozen: Frozen<'_>,
     input: usize,
     to: &mut Layouts,
 ) -> Result<Laid, Unlaid> {
@@ -306,7 +314,7 @@ fn resumer(
         params: frame.params,
         olds: olds.as_slice(),
     };
-    taker(inner, k, t, by, input, to)
+    taker(inner, frozen.behind.saturating_add(1), t, by, input, to)
 }
 
 /// Adds the layouts of a network; its output type.
@@ -331,7 +339,13 @@ fn lay(frame: Frame<'_>, net: &Net<Expr>, input: usize, to: &mut Layouts) -> Res
         Net::RSwitch(f, t) => lay_restart(frame, f, t, input, false, to),
         Net::DrSwitch(f, t) => lay_restart(frame, f, t, input, true, to),
         Net::KSwitch(f, e, t) => lay_k_switch(frame, f, e, t, input, to),
-        Net::PSwitch(r, fs, e, t) => lay_p_switch(frame, r, fs, e, t, input, to),
+        Net::PSwitch(r, fs, e, t) => {
+            let rest = Rest {
+                watch: e.get(),
+                over: t.get(),
+            };
+            lay_p_switch(frame, r, fs, rest, input, to)
+        }
         Net::RpSwitch(fs, m, t) => lay_collection(frame, fs, m, t, input, to),
     }
 }
@@ -541,28 +555,31 @@ fn lay_k_switch(
     let functions = [f.function];
     let frozen = Frozen {
         functions: &functions,
+        behind: 1,
         input,
         output: f.output,
     };
-    lay_frozen(frame, 1, e.get(), t.get(), frozen, f.output, input, to)
+    let rest = Rest {
+        watch: e.get(),
+        over: t.get(),
+    };
+    lay_frozen(frame, frozen, rest, f.output, input, to)
 }
 
-/// A switch that freezes, behind what it watches, which answers values of a type. e is child k.
+/// A switch that freezes its parts, which answer values of a type.
 #[cycle(lay)]
 fn lay_frozen(
     frame: Frame<'_>,
-    k: u32,
-    e: &Net<Expr>,
-    t: &Net<Expr>,
     frozen: Frozen<'_>,
+    rest: Rest<'_>,
     b: usize,
     input: usize,
     to: &mut Layouts,
 ) -> Result<usize, Unlaid> {
     let both = pair(frame, input, b, to)?;
-    let e = part(frame, k, e, both, to)?;
+    let e = part(frame, frozen.behind, rest.watch, both, to)?;
     let by = to.types.carried(e.output)?;
-    let t = resumer(frame, k.saturating_add(1), t, by, frozen, input, to)?;
+    let t = resumer(frame, frozen, rest.over, by, input, to)?;
     same(t.output, b)?;
     push(
         frame,
@@ -580,8 +597,7 @@ fn lay_p_switch(
     frame: Frame<'_>,
     r: &Expr,
     fs: &Members<Expr>,
-    e: &NetChild<Expr>,
-    t: &NetChild<Expr>,
+    rest: Rest<'_>,
     input: usize,
     to: &mut Layouts,
 ) -> Result<usize, Unlaid> {
@@ -592,20 +608,12 @@ fn lay_p_switch(
     let members = lay_members(frame, 1, fs.as_slice(), routed, &mut functions, to)?;
     let frozen = Frozen {
         functions: functions.as_slice(),
+        behind: members.behind,
         input: routed,
         output: members.output,
     };
     let b = to.types.row(frame.alloc, TypeRow::List(members.output))?;
-    lay_frozen(
-        frame,
-        members.behind,
-        e.get(),
-        t.get(),
-        frozen,
-        b,
-        input,
-        to,
-    )
+    lay_frozen(frame, frozen, rest, b, input, to)
 }
 
 /// Members: the number of the child behind them, their one output type, and whether one keeps

@@ -3,6 +3,7 @@
 ghost use Rattle.std.specs.Prelude.{◌≡◌, ◌++◌, IfOk, map, string_bytes};
 ghost use Rattle.sample_core.specs.{TypeTree.unit_ty, TypeView.type_of};
 ghost use Rattle.leaf_code.specs.CodeView.{literal_in, operation_of, step_of};
+ghost use Rattle.leaf_code.specs.Operation as O;
 ghost use Rattle.code_text.specs.{Piece.letter, Piece.pieces_text, Piece.ty, PieceView.piece_of};
 ghost use Rattle.code_text.specs.LeafText.{between, call_two, declared_text, elements_text, input_row, leaf_in, leaf_text, list_text, params_text, register_type, step_text, steps_text, unit_row, unused_params_text, unused_text, value_row, zeros};
 
@@ -387,59 +388,90 @@ fn push_value(
             prefix,
             &[Piece::Text("(int64_t)"), Piece::Reg(*i), Piece::Text(".n")],
         )?,
-        Operation::Equal(i, j) => {
-            let letters = letters_at(leaf, *i);
-            push(
-                text,
-                prefix,
-                &[
-                    Piece::Name,
-                    Piece::Text("_same_"),
-                    letters,
-                    Piece::Text("("),
-                    Piece::At(*i),
-                    Piece::Text(", "),
-                    Piece::At(*j),
-                    Piece::Text(")"),
-                ],
-            )?;
-        }
-        Operation::Carried(i) => {
-            let letters = letters_at(leaf, *i);
-            push(
-                text,
-                prefix,
-                &[
-                    Piece::Name,
-                    Piece::Text("_value_"),
-                    letters,
-                    Piece::Text("("),
-                    Piece::At(*i),
-                    Piece::Text(")"),
-                ],
-            )?;
-        }
-        Operation::Nth(i, j, d) => {
-            let letters = letters_at(leaf, *i);
-            push(
-                text,
-                prefix,
-                &[
-                    Piece::Name,
-                    Piece::Text("_nth_"),
-                    letters,
-                    Piece::Text("("),
-                    Piece::At(*i),
-                    Piece::Text(", "),
-                    Piece::Reg(*j),
-                    Piece::Text(", "),
-                    Piece::At(*d),
-                    Piece::Text(")"),
-                ],
-            )?;
-        }
+        Operation::Equal(i, j) => push_same(text, prefix, leaf, *i, *j)?,
+        Operation::Carried(i) => push_carried(text, prefix, leaf, *i)?,
+        Operation::Nth(i, j, d) => push_nth(text, prefix, leaf, *i, *j, *d)?,
         _ => {}
     }
+    Ok(())
+}
+
+/// Whether two registers of a type are the same.
+fn push_same(
+    text: &mut String,
+    prefix: &str,
+    leaf: Leaf<'_>,
+    i: usize,
+    j: usize,
+) -> Result<(), Memory>
+    ensures { IfOk result (λ _. string_bytes text.new ≡ string_bytes text.old
+        ++ pieces_text prefix.now (value_row (register_type (leaf_in leaf.entry)) (O.equal i j))) }
+{
+    push(
+        text,
+        prefix,
+        &[
+            Piece::Name,
+            Piece::Text("_same_"),
+            letters_at(leaf, i),
+            Piece::Text("("),
+            Piece::At(i),
+            Piece::Text(", "),
+            Piece::At(j),
+            Piece::Text(")"),
+        ],
+    )?;
+    Ok(())
+}
+
+/// What an event in a register carries.
+fn push_carried(text: &mut String, prefix: &str, leaf: Leaf<'_>, i: usize) -> Result<(), Memory>
+    ensures { IfOk result (λ _. string_bytes text.new ≡ string_bytes text.old
+        ++ pieces_text prefix.now (value_row (register_type (leaf_in leaf.entry)) (O.carried i))) }
+{
+    push(
+        text,
+        prefix,
+        &[
+            Piece::Name,
+            Piece::Text("_value_"),
+            letters_at(leaf, i),
+            Piece::Text("("),
+            Piece::At(i),
+            Piece::Text(")"),
+        ],
+    )?;
+    Ok(())
+}
+
+/// The element of a list in a register at a number, or another value.
+fn push_nth(
+    text: &mut String,
+    prefix: &str,
+    leaf: Leaf<'_>,
+    i: usize,
+    j: usize,
+    d: usize,
+) -> Result<(), Memory>
+    ensures { IfOk result (λ _. string_bytes text.new ≡ string_bytes text.old
+        ++ pieces_text prefix.now (value_row (register_type (leaf_in leaf.entry)) (O.nth i j d))) }
+{
+    push(
+        text,
+        prefix,
+        &[
+            Piece::Name,
+            Piece::Text("_nth_"),
+            letters_at(leaf, i),
+            Piece::Text("("),
+            Piece::At(i),
+            Piece::Text(", "),
+            Piece::Reg(j),
+            Piece::Text(", "),
+            Piece::At(d),
+            Piece::Text(")"),
+        ],
+    )?;
     Ok(())
 }
 

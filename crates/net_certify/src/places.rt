@@ -160,16 +160,29 @@ impl Pair {
         if effort == 0 {
             return Err(NoMove::Unfit);
         }
+        match self.join_step(path, depth, effort - 1, true) {
+            Err(NoMove::Unfit) => self.join_step(path, depth, effort - 1, false),
+            other => other,
+        }
+    }
+
+    /// The same by a step in the one or in the other; else both are as before.
+    #[cycle(join)]
+    fn join_step(
+        &mut self,
+        path: &[u32],
+        depth: u32,
+        effort: u32,
+        is_first: bool,
+    ) -> Result<(), NoMove> {
         let mark = self.mark()?;
-        for is_first in [true, false] {
-            for number in 1..=self.last_law(path)? {
-                if !self.step_at(path, number, is_first)? {
-                    continue;
-                }
-                match self.join(path, depth, effort - 1) {
-                    Err(NoMove::Unfit) => self.back_to(&mark)?,
-                    other => return other,
-                }
+        for number in 1..=self.last_law(path)? {
+            if !self.step_at(path, number, is_first)? {
+                continue;
+            }
+            match self.join(path, depth, effort) {
+                Err(NoMove::Unfit) => self.back_to(&mark)?,
+                other => return other,
             }
         }
         Err(NoMove::Unfit)

@@ -186,31 +186,37 @@ impl Aligning {
 fn lengths(alloc: Global, a: &[&Net<Expr>], b: &[&Net<Expr>]) -> Result<Vec<u32>, NoMove> {
     let width = b.len().saturating_add(1);
     let count = a.len().saturating_add(1).saturating_mul(width);
-    let mut longest = Vec::new(alloc);
-    for _ in 0..count {
-        longest.push(0u32)?;
-    }
+    let mut longest = zeros(alloc, count)?;
     for (i, f) in a.iter().enumerate().rev() {
-        for (j, g) in b.iter().enumerate().rev() {
-            let found = if same_net(f, g) {
-                length_at(&longest, width, i.saturating_add(1), j.saturating_add(1)).saturating_add(
-                    1,
-                )
-            } else {
-                length_at(&longest, width, i.saturating_add(1), j).max(length_at(
-                    &longest,
-                    width,
-                    i,
-                    j.saturating_add(1),
-                ))
-            };
-            let index = i.saturating_mul(width).saturating_add(j);
-            if let Some(here) = longest.get_mut(index) {
-                *here = found;
-            }
-        }
+        fill_row(&mut longest, i, f, b);
     }
     Ok(longest)
+}
+
+/// So many zeros.
+fn zeros(alloc: Global, count: usize) -> Result<Vec<u32>, NoMove> {
+    let mut all = Vec::new(alloc);
+    for _ in 0..count {
+        all.push(0)?;
+    }
+    Ok(all)
+}
+
+/// Fills row i, that of stage f, where the rows behind it are filled.
+fn fill_row(longest: &mut [u32], i: usize, f: &Net<Expr>, b: &[&Net<Expr>]) {
+    let width = b.len().saturating_add(1);
+    let next = i.saturating_add(1);
+    for (j, g) in b.iter().enumerate().rev() {
+        let beside = j.saturating_add(1);
+        let found = if same_net(f, g) {
+            length_at(longest, width, next, beside).saturating_add(1)
+        } else {
+            length_at(longest, width, next, j).max(length_at(longest, width, i, beside))
+        };
+        if let Some(here) = longest.get_mut(i.saturating_mul(width).saturating_add(j)) {
+            *here = found;
+        }
+    }
 }
 
 /// The number in row i at j.

@@ -88,6 +88,21 @@ struct Taken<'s> {
 
 /// Which of the steps are left without those between which the same tree stands at one position.
 fn changing(means: &Means, start: &Net<Expr>, steps: &[LawStep]) -> Result<Vec<bool>, NoMove> {
+    let all = taken_steps(means, start, steps)?;
+    let mut kept = Vec::new(means.alloc);
+    for taken in &all {
+        kept.push(taken.is_kept)?;
+    }
+    Ok(kept)
+}
+
+/// The steps that were taken, of which those are forgotten between which the same tree stands at one
+/// position.
+fn taken_steps<'s>(
+    means: &Means,
+    start: &Net<Expr>,
+    steps: &'s [LawStep],
+) -> Result<Vec<Taken<'s>>, NoMove> {
     let mut sketch = sketch_of(means, start)?;
     let mut all = Vec::new(means.alloc);
     for step in steps {
@@ -103,11 +118,7 @@ fn changing(means: &Means, start: &Net<Expr>, steps: &[LawStep]) -> Result<Vec<b
         let first = first_undone(means, &all, path, &now);
         forget(&mut all, first, path);
     }
-    let mut kept = Vec::new(means.alloc);
-    for taken in &all {
-        kept.push(taken.is_kept)?;
-    }
-    Ok(kept)
+    Ok(all)
 }
 
 /// What stands at the path.

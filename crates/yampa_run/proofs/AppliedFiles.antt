@@ -10,7 +10,10 @@ use Rattle.cert_check.specs.Laws.{AppliedLaw}
 use Rattle.net_view.specs.Trace.{first_steps}
 use Rattle.command_line.specs.CommandLine.{DerivationNames}
 use Rattle.yampa_run.specs.AppliedFiles.{AppliedFilesLaw, all_steps}
-use Rattle.yampa_run.specs.Preparation.{AreStepsOf, IsLeading, IsNetworkIn, IsNetworkOf, IsTold, KnownFiles}
+use Rattle.yampa_run.specs.KnownFiles.{IsTold, KnownFiles}
+use Rattle.yampa_run.specs.Loading.{IsNetworkIn, IsNetworkOf}
+use Rattle.yampa_run.specs.Check.{AreStepsOf}
+use Rattle.yampa_run.specs.Apply.{IsLeading}
 
 typed_of : (known : Option (List ℕ)) (t : TypedNetwork) → IsTold known → IsNetworkOf known t → WithinLimits t
 typed_of known t (bytes, e) n = let i : IsNetworkIn bytes t = subst (λ o. IsNetworkOf o t) e n in i.typed

@@ -3,10 +3,13 @@ use Rattle.std.proofs.Common.{◌≡◌, ℕ, Bool, List, Option, Result, Ok, Er
 use Rattle.std.specs.Result.{IfErr}
 use Rattle.net_meaning.specs.TypedNetwork.{TypedNetwork}
 use Rattle.command_line.specs.CommandLine.{DerivationNames, PrintingWords}
-use Rattle.yampa_run.specs.Compiled.{IsForm, PrintsC, PrintsNamed, asks_most}
-use Rattle.yampa_run.specs.Preparation.{HasNoC, IsChecked, IsNetworkOf, IsNotCheckedC, IsNotCompiled, KnownFiles, RefusesWith, TellsC, TellsCheckedC, TellsForm, checked_without_c, state_too_large, without_c}
+use Rattle.yampa_run.specs.Compile.{IsForm, PrintsC, PrintsNamed, asks_most}
+use Rattle.yampa_run.specs.KnownFiles.{KnownFiles}
+use Rattle.yampa_run.specs.Loading.{IsNetworkOf, RefusesWith}
+use Rattle.yampa_run.specs.Check.{IsChecked}
+use Rattle.yampa_run.specs.Compile.{HasNoC, IsNotCheckedC, IsNotCompiled, TellsC, TellsCheckedC, TellsForm, checked_without_c, state_too_large, without_c}
 use Rattle.yampa_run.specs.RefusalLines.{too_large_words}
-use Rattle.yampa_run.specs.declared.compiled.Form.{Form}
+use Rattle.yampa_run.specs.declared.compile.Form.{Form}
 use Rattle.yampa_run.specs.declared.preparation.Refusal.{Refusal}
 
 pub tells_form : (words : PrintingWords) (form : Form) → IsForm words form → TellsForm words

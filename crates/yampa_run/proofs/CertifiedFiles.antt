@@ -1,7 +1,7 @@
 -- What the command `certify` prints derives the target.
 use Rattle.std.proofs.Common.{refl, sym, subst}
 use Rattle.yampa_run.specs.CertifiedFiles.{CertifiedFilesLaw}
-use Rattle.yampa_run.specs.Preparation.{AreStepsOf}
+use Rattle.yampa_run.specs.Check.{AreStepsOf}
 
 pub certified_files : CertifiedFilesLaw
 certified_files told names held = record {

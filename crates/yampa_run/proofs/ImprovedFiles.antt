@@ -7,7 +7,7 @@ use Rattle.cert_check.specs.Derives.{Steps, no_step, step_then}
 use Rattle.cert_check.specs.Laws.{OneNextLaw}
 use Rattle.yampa_run.specs.AppliedFiles.{AppliedFilesLaw}
 use Rattle.yampa_run.specs.ImprovedFiles.{ImprovedFilesLaw}
-use Rattle.yampa_run.specs.Preparation.{AreStepsOf, IsDerivedIn}
+use Rattle.yampa_run.specs.Check.{AreStepsOf, IsDerivedIn}
 use Rattle.yampa_run.proofs.AppliedFiles.{all_taken}
 use Rattle.yampa_run.proofs.Refusals.{one_of_file}
 

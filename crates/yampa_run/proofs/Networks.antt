@@ -16,7 +16,12 @@ use Rattle.net_types.proofs.Checks.{check_exact}
 use Rattle.net_types.specs.Check.{check}
 use Rattle.net_types.specs.declared.fault.TypeFault.{TypeFault}
 use Rattle.net_types.specs.declared.fault.TypeFault.TheVariants as T
-use Rattle.yampa_run.specs.Preparation.{HasNoNetwork, HasNoPlace, ArePair, HaveOtherInputs, IsNotCertified, other_inputs, IsLeading, IsNetworkOf, IsNotApplied, IsNotThere, RefusesCheck, RefusesSteps, not_applied, not_there, IsNetworkIn, RefusesText, RefusesTypes, KnownFiles, by_text, by_types}
+use Rattle.yampa_run.specs.KnownFiles.{KnownFiles}
+use Rattle.yampa_run.specs.Loading.{HasNoNetwork, IsNetworkOf, IsNetworkIn, RefusesText, RefusesTypes, by_text, by_types}
+use Rattle.yampa_run.specs.Check.{RefusesCheck}
+use Rattle.yampa_run.specs.Laws.{HasNoPlace, IsNotThere, not_there}
+use Rattle.yampa_run.specs.Apply.{IsLeading, IsNotApplied, RefusesSteps, not_applied}
+use Rattle.yampa_run.specs.Certify.{ArePair, HaveOtherInputs, IsNotCertified, other_inputs}
 use Rattle.yampa_run.specs.declared.refused.Role.{Role}
 use Rattle.yampa_run.specs.declared.refused.Role.TheVariants as R
 use Rattle.yampa_run.specs.declared.preparation.Job.TheVariants as J

@@ -23,7 +23,10 @@ use Rattle.net_opt.specs.Optimising.{IsTried, MayTake, Optimised, expression_law
 use Rattle.command_line.specs.CommandLine.{DerivationNames}
 use Rattle.yampa_run.specs.OptimisedFiles.{DerivesOptimised, FitFiles, OptimisedFilesLaw}
 use Rattle.command_line.specs.declared.command.Wanted.TheVariants as W
-use Rattle.yampa_run.specs.Preparation.{AreStepsOf, IsNetworkIn, IsNetworkOf, IsTold, KnownFiles, PrintsMade}
+use Rattle.yampa_run.specs.KnownFiles.{IsTold, KnownFiles}
+use Rattle.yampa_run.specs.Loading.{IsNetworkIn, IsNetworkOf}
+use Rattle.yampa_run.specs.NetworkCommands.{PrintsMade}
+use Rattle.yampa_run.specs.Check.{AreStepsOf}
 use Rattle.yampa_run.proofs.Refusals.{one_of_file}
 
 -- a test that each number of a list passes is passed by one that stands in it

@@ -32,7 +32,14 @@ use Rattle.yampa_run.specs.Words.{TellsFirst, TellsMost, TellsName, is_name, mos
 use Rattle.yampa_run.proofs.Places.{one_place}
 use Rattle.command_line.specs.CommandLine.{DerivationNames, LeadingNames, PrintingWords, RequestTree, types, run, outline, laws, optimise, improve, check as checks, run_checked, apply, certify, compile, compile_checked, request_in, AsksNothing}
 use Rattle.yampa_run.specs.RefusalLines.{text_words, type_words}
-use Rattle.yampa_run.specs.Preparation.{AreTold, Fails, HasNoDerivation, HasNoNetwork, HasNoSteps, IsDerivedIn, IsNetworkIn, IsNetworkOf, IsApplied, IsNoNumber, IsCertified, IsNotCertified, TellsCertified, no_such_source, no_such_target, other_inputs, IsNotApplied, IsUnapplied, HasNoPlace, IsTold, AreStepsOf, KnownFiles, Meets, RefusesCheck, TellsApplied, TellsLaws, OneRefusalLaw, NoNetworkLaw, OnlyMemoryLaw, HasNoC, IsNoForm, IsNoMost, IsNoName, IsNotCheckedC, IsNotCompiled, IsTooLarge, TellsC, TellsCheckedC, bad_most, bad_name, checked_unformed, checked_without_c, unformed, without_c, without_derivation, without_network, no_place, no_network as no_such_network, not_there, no_number, without_source, without_steps, not_applied, by_text, by_types, no_source, no_target, no_steps, not_accepted}
+use Rattle.yampa_run.specs.KnownFiles.{IsTold, KnownFiles}
+use Rattle.yampa_run.specs.Loading.{HasNoNetwork, IsNetworkIn, IsNetworkOf, OneRefusalLaw, NoNetworkLaw, by_text, by_types}
+use Rattle.yampa_run.specs.Check.{HasNoDerivation, HasNoSteps, IsDerivedIn, AreStepsOf, RefusesCheck, no_source, no_target, no_steps, not_accepted}
+use Rattle.yampa_run.specs.Laws.{HasNoPlace, TellsLaws, no_place, no_network as no_such_network, not_there}
+use Rattle.yampa_run.specs.Apply.{IsApplied, IsNoNumber, IsNotApplied, IsUnapplied, TellsApplied, no_number, without_source, without_steps, not_applied}
+use Rattle.yampa_run.specs.Certify.{IsCertified, IsNotCertified, TellsCertified, no_such_source, no_such_target, other_inputs}
+use Rattle.yampa_run.specs.Compile.{HasNoC, IsNoForm, IsNoMost, IsNoName, IsNotCheckedC, IsNotCompiled, TellsC, TellsCheckedC, bad_most, bad_name, checked_unformed, checked_without_c, unformed, without_c, without_derivation, without_network}
+use Rattle.yampa_run.specs.Preparation.{AreTold, Fails, Meets, OnlyMemoryLaw, IsTooLarge}
 use Rattle.yampa_run.specs.declared.refused.Role.{Role}
 use Rattle.yampa_run.specs.declared.refused.Role.TheVariants as R
 use Rattle.yampa_run.specs.declared.preparation.Job.{Job}

@@ -13,7 +13,10 @@ use Rattle.command_line.specs.CommandLine.{RequestTree, types, run, outline, law
 use Rattle.yampa_run.specs.FaultLines.{line_of, status_of}
 use Rattle.yampa_run.specs.Headline.{RunsSo, text_output}
 use Rattle.yampa_run.specs.NetworkRun.{RunsOver}
-use Rattle.yampa_run.specs.Preparation.{AreStepsOf, IsApplied, IsDerivedIn, IsNetworkIn, IsNetworkOf, Meets}
+use Rattle.yampa_run.specs.Loading.{IsNetworkIn, IsNetworkOf}
+use Rattle.yampa_run.specs.Check.{AreStepsOf, IsDerivedIn}
+use Rattle.yampa_run.specs.Apply.{IsApplied}
+use Rattle.yampa_run.specs.Preparation.{Meets}
 use Rattle.yampa_run.specs.RefusalLines.{refusal_line, refusal_status}
 use Rattle.yampa_run.specs.Runs.{BeginsOutput, IsOutput, StopsWithin}
 use Rattle.yampa_run.specs.WholeRun.{RunsAsAsked, WholeRunLaw, WritesPart, WritesAsTold, part, up_to_fault, whole}

@@ -9,7 +9,9 @@ use Rattle.net_meaning.specs.TypedNetwork.{TypedNetwork}
 use Rattle.net_text.specs.Printing.{Writable, file_spelling, network_sexpr}
 use Rattle.net_view.specs.Applied.{PrintsApplied}
 use Rattle.command_line.specs.CommandLine.{DerivationNames, LeadingNames}
-use Rattle.yampa_run.specs.Preparation.{IsDerivedIn, IsLeading, IsTold, KnownFiles}
+use Rattle.yampa_run.specs.KnownFiles.{IsTold, KnownFiles}
+use Rattle.yampa_run.specs.Check.{IsDerivedIn}
+use Rattle.yampa_run.specs.Apply.{IsLeading}
 
 -- the printed network is within the limits of files
 pub record FitsFile (t : TypedNetwork) : Type 0 where

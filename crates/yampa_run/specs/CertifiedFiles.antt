@@ -3,7 +3,9 @@
 use Rattle.std.specs.Prelude.{◌≡◌, ℕ, List, length, Some}
 use Rattle.net_meaning.specs.TypedNetwork.{TypedNetwork}
 use Rattle.command_line.specs.CommandLine.{DerivationNames}
-use Rattle.yampa_run.specs.Preparation.{ArePair, IsDerivedIn, KnownFiles, PrintsCertificate}
+use Rattle.yampa_run.specs.KnownFiles.{KnownFiles}
+use Rattle.yampa_run.specs.Check.{IsDerivedIn}
+use Rattle.yampa_run.specs.Certify.{ArePair, PrintsCertificate}
 
 -- three files: those of a source and of a target, and what the command prints of both
 pub record HoldCertified (told : KnownFiles) (names : DerivationNames) : Type 0 where

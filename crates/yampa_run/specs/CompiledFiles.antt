@@ -16,8 +16,10 @@ use Rattle.net_code.specs.declared.statement.Function.{Function}
 use Rattle.net_text.specs.CertificateLaws.{IsCertificate}
 use Rattle.cert_check.specs.Derives.{Derives}
 use Rattle.command_line.specs.CommandLine.{AsksHelp, PrintingWords, RequestTree, compile, compile_checked, request_in}
-use Rattle.yampa_run.specs.Compiled.{PrintsC}
-use Rattle.yampa_run.specs.Preparation.{IsNetworkIn, IsRequested, KnownFiles}
+use Rattle.yampa_run.specs.Compile.{PrintsC}
+use Rattle.yampa_run.specs.KnownFiles.{KnownFiles}
+use Rattle.yampa_run.specs.Loading.{IsNetworkIn}
+use Rattle.yampa_run.specs.Preparation.{IsRequested}
 use Rattle.yampa_run.specs.declared.preparation.Job.{Job}
 use Rattle.yampa_run.specs.declared.preparation.Job.TheVariants as J
 

@@ -4,13 +4,15 @@ use Rattle.std.specs.Prelude.{◌≡◌, ℕ, List, length, Some}
 use Rattle.command_line.specs.CommandLine.{DerivationNames}
 use Rattle.command_line.specs.declared.command.Wanted.TheVariants as W
 use Rattle.yampa_run.specs.AppliedFiles.{FitsFile, HoldApplied}
-use Rattle.yampa_run.specs.Preparation.{IsDerivedIn, KnownFiles, Tells}
-use Rattle.yampa_run.specs.declared.telling.Telling.TheVariants as S
+use Rattle.yampa_run.specs.KnownFiles.{KnownFiles}
+use Rattle.yampa_run.specs.NetworkCommands.{Prints}
+use Rattle.yampa_run.specs.Check.{IsDerivedIn}
+use Rattle.yampa_run.specs.declared.network_commands.NetworkCommand.TheVariants as S
 
 -- three files: that of a source, what the command printed of it, and what `apply` printed of both
 pub record HoldImproved (told : KnownFiles) (names : DerivationNames) : Type 0 where
   pub text : List ℕ
-  pub improved : Tells (S.Improved W.Certificate) (told names.source) text
+  pub improved : Prints (S.Improve W.Certificate) (told names.source) text
   pub certificate_told : told names.certificate ≡ Some text
   pub applied : HoldApplied told names
 

@@ -5,7 +5,14 @@ pub mod Runs
 pub mod KnownFiles
 pub mod RefusalLines
 pub mod Words
-pub mod Compiled
+pub mod Loading
+pub mod Types
+pub mod NetworkCommands
+pub mod Check
+pub mod Laws
+pub mod Apply
+pub mod Certify
+pub mod Compile
 pub mod Preparation
 pub mod Headline
 pub mod NetworkRun

@@ -15,8 +15,10 @@ use Rattle.net_text.specs.CertificatePrinting.{ChildrenFit, certificate_spelling
 use Rattle.net_text.specs.Printing.{Writable, file_spelling, network_sexpr}
 use Rattle.command_line.specs.CommandLine.{DerivationNames}
 use Rattle.command_line.specs.declared.command.Wanted.TheVariants as W
-use Rattle.yampa_run.specs.Preparation.{IsDerivedIn, IsTold, KnownFiles, Tells}
-use Rattle.yampa_run.specs.declared.telling.Telling.TheVariants as S
+use Rattle.yampa_run.specs.KnownFiles.{IsTold, KnownFiles}
+use Rattle.yampa_run.specs.NetworkCommands.{Prints}
+use Rattle.yampa_run.specs.Check.{IsDerivedIn}
+use Rattle.yampa_run.specs.declared.network_commands.NetworkCommand.TheVariants as S
 
 -- a network with inputs of type A, the positions of the steps that lead to it, and both printed
 -- texts are within the limits of files
@@ -34,10 +36,10 @@ pub record HoldOptimised (told : KnownFiles) (names : DerivationNames) : Type 0 
   pub source_told : IsTold (told names.source)
   pub target_file : List ℕ
   pub target_told : told names.target ≡ Some target_file
-  pub target : Tells (S.Optimised W.Network) (told names.source) target_file
+  pub target : Prints (S.Optimise W.Network) (told names.source) target_file
   pub certificate_file : List ℕ
   pub certificate_told : told names.certificate ≡ Some certificate_file
-  pub certificate : Tells (S.Optimised W.Certificate) (told names.source) certificate_file
+  pub certificate : Prints (S.Optimise W.Certificate) (told names.source) certificate_file
 
 -- the three files hold a derivation of the optimised network
 pub record DerivesOptimised (told : KnownFiles) (names : DerivationNames)

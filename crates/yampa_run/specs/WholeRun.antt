@@ -26,7 +26,9 @@ use Rattle.command_line.specs.CommandLine.{RequestTree, types, run, outline, law
 use Rattle.yampa_run.specs.FaultLines.{stream_words}
 use Rattle.yampa_run.specs.Headline.{WritesOutput}
 use Rattle.yampa_run.specs.NetworkRun.{RunsOver}
-use Rattle.yampa_run.specs.Preparation.{IsNetworkIn, IsRequested, KnownFiles}
+use Rattle.yampa_run.specs.KnownFiles.{KnownFiles}
+use Rattle.yampa_run.specs.Loading.{IsNetworkIn}
+use Rattle.yampa_run.specs.Preparation.{IsRequested}
 use Rattle.yampa_run.specs.RefusalLines.{answer_status, refusal_line}
 use Rattle.yampa_run.specs.Runs.{BeginsOutput}
 use Rattle.yampa_run.specs.declared.fault.RunFault.TheVariants as U

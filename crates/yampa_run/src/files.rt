@@ -2,7 +2,7 @@
 
 ghost use Rattle.std.specs.Prelude.{◌≡◌, ℕ, List, Option, None, IfErr, IfOk};
 ghost use Rattle.yampa_run.specs.KnownFiles.{AgreesWith};
-ghost use Rattle.yampa_run.specs.Preparation.{IsUnread};
+ghost use Rattle.yampa_run.specs.Loading.{IsUnread};
 
 use crate::preparation::Refusal;
 use crate::refused::{Role, unread_line};

@@ -1,112 +1,56 @@
-// Laws of the definitions: what the refusal of a file says, that a derived network writes the same,
-// what the optimiser's texts are good for, and the whole way of a command.
+// The command `laws`: the steps that may be taken in the network of a file.
 
-ghost use Rattle.yampa_run.specs.Preparation.{NoNetworkLaw, OneRefusalLaw, OnlyMemoryLaw};
-ghost use Rattle.yampa_run.specs.Headline.{SameOutputLaw, SameFrontLaw, WritesOutputLaw, HeadlineLaw};
-ghost use Rattle.yampa_run.specs.AppliedFiles.{AppliedFilesLaw};
-ghost use Rattle.yampa_run.specs.OptimisedFiles.{OptimisedFilesLaw};
-ghost use Rattle.yampa_run.specs.CertifiedFiles.{CertifiedFilesLaw};
-ghost use Rattle.yampa_run.specs.CompiledFiles.{CompiledFilesLaw};
-ghost use Rattle.yampa_run.specs.ImprovedFiles.{ImprovedFilesLaw};
-ghost use Rattle.yampa_run.specs.WholeRun.{WholeRunLaw};
+ghost use Rattle.std.specs.Prelude.{IfErr, IfOk, option_map, string_bytes};
+ghost use Rattle.yampa_run.specs.Laws.{HasNoPlace, IsNotThere, TellsLaws, TellsSteps};
 
-use cert_check::{applied_laws, derivation_laws, one_answer_laws};
-use net_code::code_laws;
-use net_opt::optimised_laws;
-use net_syntax::typing_laws;
-use net_text::{certificate_laws, printing_laws};
-use sample_core::reading_laws;
-use stream_text::stream_laws;
+use crate::files::Files;
+use crate::load::load;
+use crate::preparation::Refusal;
+use crate::refused::{Role, not_there_line};
+use crate::words::place_of;
+use net_syntax::TypedNet;
+use net_tree::Position;
+use net_view::{has_position, possible_text};
+use std::alloc::Global;
 
-/// The bytes of a file are refused with one line, and bytes that have a network with none. So
-/// `prepare` refuses what is asked for, but for lack of memory and of C that is too large, only where
-/// no job is that: where the bytes of a file have no network or no certificate; where a target isn't
-/// derived, a step can't be taken, or the steps are too many; where two input types differ that are to
-/// be certified; where a position isn't in the network, or a word is no number, name or position.
-/// That no certificate is found, and that a table is full, is told behind it.
-pub fn refusal_laws()
-    ensures one_line { OneRefusalLaw }
-    ensures no_network { NoNetworkLaw }
-    ensures only_memory { OnlyMemoryLaw }
-{}
-
-/// Where `check` accepts a certificate from a source to a target network, then, whatever bytes come
-/// as the timed stream and in whatever pieces, a `run` of either network in which no allocation,
-/// read or write is refused writes the same bytes: one line per sample, the values of the source's
-/// stream meaning, up to the stream's first faulty line, which it names.
-///
-/// Accepts: `check` answered `Ok`, whose contract says `Derives`. `lines` is the same in both runs;
-/// `most_visits` may differ.
-pub fn headline_laws()
-    ensures same_output { SameOutputLaw }
-    ensures same_front { SameFrontLaw }
-    ensures writes_output { WritesOutputLaw }
-    ensures headline { HeadlineLaw }
+/// The text of the command `laws` on the file of that name, at the place of a word and below; of
+/// the whole network, if there is none.
+pub(crate) fn possible<F: Files>(
+    alloc: Global,
+    name: &str,
+    at: Option<&str>,
+    files: &F,
+) -> Result<String, Refusal>
+    ensures lines { IfOk result (λ text. TellsLaws (F.told files.now name.now)
+        (option_map (λ w. w.now) at.entry) (string_bytes text)) }
+    ensures refused { IfErr result (HasNoPlace (F.told files.now name.now)
+        (option_map (λ w. w.now) at.entry)) }
 {
-    reading_laws();
-    derivation_laws();
+    let place = match place_of(alloc, at) {
+        Ok(place) => place,
+        Err(refusal) => return Err(refusal),
+    };
+    match load(alloc, Role::Network, name, files) {
+        Ok(net) => {
+            let text = possible_at(alloc, &net, &place);
+            drop(net);
+            text
+        }
+        Err(refusal) => Err(refusal),
+    }
 }
 
-/// Where the words ask for a run of a network file, or of a target whose certificate is to be
-/// checked, and the bytes of the files that they name are told: what `run_network` writes of any
-/// text is the output of the file's network, or of the source. With status 0, by `run_status`, all
-/// of it; with status 1, all of it up to the text's first fault, which the line names; with status
-/// 3, a part of it as a prefix, and the line tells what ended it early. There is no other status.
-pub fn whole_run_laws()
-    ensures whole { WholeRunLaw }
+/// The lines on the steps that may be taken at the place and below.
+fn possible_at(alloc: Global, net: &TypedNet, place: &Position) -> Result<String, Refusal>
+    ensures lines { IfOk result (λ text. TellsSteps net.now place.now (string_bytes text)) }
+    ensures refused { IfErr result (IsNotThere net.now place.now) }
 {
-    reading_laws();
-    stream_laws();
-    derivation_laws();
-    typing_laws();
-}
-
-/// What two runs of `optimise` print of one file, without the flag and with it, put into files,
-/// within the limits of files: the steps of the one derive the network of the other from that of the
-/// file. So `prepare` refuses `check` and `run-checked` of the three for lack of memory alone.
-pub fn optimised_file_laws()
-    ensures { OptimisedFilesLaw }
-{
-    printing_laws();
-    optimised_laws();
-}
-
-/// What `apply` prints of a source and a certificate, put into a file, within the limits of files:
-/// the certificate derives it from the source. So `prepare` refuses `check` and `run-checked` of the
-/// three for lack of memory alone.
-pub fn applied_file_laws()
-    ensures { AppliedFilesLaw }
-{
-    printing_laws();
-    applied_laws();
-}
-
-/// What `certify` prints of a source and a target, put into a file: it derives the target from the
-/// source. So `prepare` refuses `check` and `run-checked` of the three for lack of memory alone.
-pub fn certified_file_laws()
-    ensures { CertifiedFilesLaw }
-{}
-
-/// What one run of `improve --certificate` prints of a source, put into a file, and what `apply`
-/// prints of both, put into a file, within the limits of files: that is the improved network, and the
-/// certificate derives it from the source. So `prepare` refuses `check` and `run-checked` of the three
-/// for lack of memory alone.
-pub fn improved_file_laws()
-    ensures { ImprovedFilesLaw }
-{
-    certificate_laws();
-    one_answer_laws();
-    printing_laws();
-    applied_laws();
-}
-
-/// What is printed where the words ask for C of a file, or of a target whose certificate is to be
-/// checked, and the bytes of the files that they name are told: the text of code that outputs the
-/// stream meaning of the file's network, or of the source, on samples of its input type.
-pub fn compiled_file_laws()
-    ensures { CompiledFilesLaw }
-{
-    code_laws();
-    typing_laws();
-    derivation_laws();
+    if has_position(net, place) {
+        Ok(possible_text(alloc, net, place)?)
+    } else {
+        Err(Refusal::Line {
+            status: 1,
+            line: not_there_line(alloc, place)?,
+        })
+    }
 }

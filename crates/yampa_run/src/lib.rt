@@ -10,33 +10,38 @@
 //! `whole_run_laws` say what that means for certificates and for the whole command; `fill_table!`
 //! makes the table.
 //!
-//! First `specs/Output` and `Headline`, then `src/stream_run.rt`, `src/preparation.rt`.
+//! First `specs/Output` and `Headline`, then `src/stream_run.rt`, `src/preparation.rt`. A command is
+//! in the file of its name, in `src` and in `specs`.
 #![tactic(auto)]
 
-mod applied;
-mod certificate;
-mod certified;
-mod compiled;
+mod apply;
+mod certify;
+mod check;
+mod compile;
 mod fault;
+mod file_laws;
 mod files;
 pub mod fill;
+mod improve;
 mod laws;
+mod load;
+mod network_commands;
 mod network_run;
-mod possible;
+mod optimise;
 mod preparation;
 mod printed;
 mod refused;
 mod stream_run;
-mod telling;
+mod types;
 mod words;
 
 pub use fault::{RunFault, RunReport};
-pub use files::{FileFault, Files};
-pub use fill::table_refusal;
-pub use laws::{
+pub use file_laws::{
     applied_file_laws, certified_file_laws, compiled_file_laws, headline_laws, improved_file_laws,
     optimised_file_laws, refusal_laws, whole_run_laws,
 };
+pub use files::{FileFault, Files};
+pub use fill::table_refusal;
 pub use network_run::{run_network, run_status};
 pub use preparation::{Job, Refusal, prepare};
 pub use printed::fault_line;

@@ -1,22 +1,22 @@
 // From the words of a command line to what is to be done.
 
-ghost use Rattle.std.specs.Prelude.{◌≡◌, ℕ, List, Err, IfErr, IfOk, Some, map};
+ghost use Rattle.std.specs.Prelude.{◌≡◌, ℕ, List, Err, IfErr, IfOk, map};
 ghost use Rattle.command_line.specs.CommandLine.{ReadsWords, request_view};
 ghost use Rattle.yampa_run.specs.RefusalLines.{job_status, refusal_line, refusal_status};
-ghost use Rattle.yampa_run.specs.Preparation.{Fails, HasNoNetwork, IsRequested, IsNetworkIn, IsNetworkOf, IsRefusal, Meets, RefusesText, RefusesTypes, KnownFiles};
+ghost use Rattle.yampa_run.specs.KnownFiles.{KnownFiles};
+ghost use Rattle.yampa_run.specs.Preparation.{Fails, IsRequested, IsRefusal, Meets};
 
-use crate::applied::applied;
-use crate::certificate::{accepted, derived};
-use crate::certified::certified;
-use crate::compiled::{compiled, compiled_checked};
-use crate::files::{Files, read_file};
-use crate::possible::possible;
-use crate::refused::{Role, text_line, type_line};
-use crate::telling::{Telling, told};
+use crate::apply::applied;
+use crate::certify::certified;
+use crate::check::{accepted, derived};
+use crate::compile::{compiled, compiled_checked};
+use crate::files::Files;
+use crate::laws::possible;
+use crate::load::load;
+use crate::network_commands::{NetworkCommand, network_text};
+use crate::refused::Role;
 use command_line::{Reply, Request, parse};
 use net_syntax::TypedNet;
-use net_text::{NetTextFault, read_net};
-use net_types::{TypeFault, check_types};
 use sample_core::Memory;
 use std::alloc::Global;
 
@@ -108,7 +108,7 @@ fn job_of<F: Files>(alloc: Global, request: Request<'_>, files: &F) -> Result<Jo
     ensures refused { IfErr result (Fails (F.told files.now) (request_view request.entry)) }
 {
     match request {
-        Request::Types { net } => match told(alloc, Telling::Types, net, files) {
+        Request::Types { net } => match network_text(alloc, NetworkCommand::Types, net, files) {
             Ok(text) => Ok(Job::Print(text)),
             Err(refusal) => Err(refusal),
         },
@@ -116,7 +116,7 @@ fn job_of<F: Files>(alloc: Global, request: Request<'_>, files: &F) -> Result<Jo
             Ok(net) => Ok(Job::Run(net)),
             Err(refusal) => Err(refusal),
         },
-        Request::Outline { net } => match told(alloc, Telling::Outline, net, files) {
+        Request::Outline { net } => match network_text(alloc, NetworkCommand::Outline, net, files) {
             Ok(text) => Ok(Job::Print(text)),
             Err(refusal) => Err(refusal),
         },
@@ -124,18 +124,18 @@ fn job_of<F: Files>(alloc: Global, request: Request<'_>, files: &F) -> Result<Jo
             Ok(text) => Ok(Job::Print(text)),
             Err(refusal) => Err(refusal),
         },
-        Request::Optimise { net, wanted } => match told(
+        Request::Optimise { net, wanted } => match network_text(
             alloc,
-            Telling::Optimised(wanted),
+            NetworkCommand::Optimise(wanted),
             net,
             files,
         ) {
             Ok(text) => Ok(Job::Print(text)),
             Err(refusal) => Err(refusal),
         },
-        Request::Improve { net, wanted } => match told(
+        Request::Improve { net, wanted } => match network_text(
             alloc,
-            Telling::Improved(wanted),
+            NetworkCommand::Improve(wanted),
             net,
             files,
         ) {
@@ -176,70 +176,5 @@ fn told_by(reply: Reply) -> Result<Job, Refusal>
         Reply::Help(text) => Ok(Job::Print(text)),
         Reply::Wrong(line) => Err(Refusal::Line { status: 2, line }),
         Reply::Memory => Err(Refusal::Memory),
-    }
-}
-
-/// The network of the file of that name, with its types.
-pub(crate) fn load<F: Files>(
-    alloc: Global,
-    role: Role,
-    name: &str,
-    files: &F,
-) -> Result<TypedNet, Refusal>
-    ensures network { IfOk result (IsNetworkOf (F.told files.now name.now)) }
-    ensures refused { IfErr result (HasNoNetwork role (F.told files.now name.now)) }
-{
-    match read_file(alloc, role, name, files) {
-        Ok(bytes) => network_of(alloc, role, &bytes),
-        Err(refusal) => Err(refusal),
-    }
-}
-
-/// The network of a file with those bytes, with its types.
-fn network_of(alloc: Global, role: Role, bytes: &[u8]) -> Result<TypedNet, Refusal>
-    ensures network { IfOk result (IsNetworkIn bytes.now) }
-    ensures refused { IfErr result (HasNoNetwork role (Some bytes.now)) }
-{
-    let (input, net) = match read_net(alloc, bytes) {
-        Ok(read) => read,
-        Err(fault) => return Err(text_refusal(alloc, role, &fault)?),
-    };
-    match check_types(alloc, input, net) {
-        Ok(typed) => Ok(typed),
-        Err(fault) => {
-            let refusal = type_refusal(alloc, role, &fault);
-            drop(fault);
-            Err(refusal?)
-        }
-    }
-}
-
-/// The refusal of a file for its text.
-pub(crate) fn text_refusal(
-    alloc: Global,
-    role: Role,
-    fault: &NetTextFault,
-) -> Result<Refusal, Memory>
-    ensures { IfOk result (RefusesText role fault.now) }
-{
-    match fault {
-        NetTextFault::Memory => Ok(Refusal::Memory),
-        fault => Ok(Refusal::Line {
-            status: 1,
-            line: text_line(alloc, role, fault)?,
-        }),
-    }
-}
-
-/// The refusal of a file for its network's types.
-fn type_refusal(alloc: Global, role: Role, fault: &TypeFault) -> Result<Refusal, Memory>
-    ensures { IfOk result (RefusesTypes role fault.now) }
-{
-    match fault {
-        TypeFault::Memory => Ok(Refusal::Memory),
-        fault => Ok(Refusal::Line {
-            status: 1,
-            line: type_line(alloc, role, fault)?,
-        }),
     }
 }

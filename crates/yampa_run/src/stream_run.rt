@@ -57,10 +57,6 @@ pub fn run<R: Read + Device, W: Write + Device>(
     let Ok(mut stream) = LineState::new(alloc) else {
         return Err(RunFault::Memory { lines: 0 });
     };
-    let failures = Failures {
-        reads: reader.failures(),
-        writes: writer.failures(),
-    };
     let mut runner = Runner::new(alloc, bound, table);
     let mut text = String::new(alloc);
     let ended = run_on(
@@ -68,20 +64,12 @@ pub fn run<R: Read + Device, W: Write + Device>(
         &mut stream,
         &mut runner,
         &mut text,
-        failures,
         reader,
         writer,
     );
     drop(runner);
     drop(stream);
     ended
-}
-
-/// How often the reader and the writer had failed before the run.
-#[derive(Clone, Copy)]
-struct Failures {
-    reads: u64,
-    writes: u64,
 }
 
 /// Runs a network that has not started, with inputs of the type, on a stream of which nothing was
@@ -91,7 +79,6 @@ fn run_on<R: Read + Device, W: Write + Device>(
     stream: &mut LineState,
     runner: &mut Runner<'_>,
     text: &mut String,
-    failures: Failures,
     reader: &mut R,
     writer: &mut W,
 ) -> Result<RunReport, RunFault>
@@ -104,19 +91,21 @@ fn run_on<R: Read + Device, W: Write + Device>(
     ensures stopped { IfErr result (StopsRun (type_of ty.now)
         (network_in (runner_state runner.old)) (R.remaining reader.old) (R.remaining reader.new)
         (W.contents writer.old) (W.contents writer.new)) }
-    ensures failed { IfErr result (FailsByDevice failures.reads (R.count reader.new)
-        failures.writes (W.count writer.new)) }
+    ensures failed { IfErr result (FailsByDevice (R.count reader.old) (R.count reader.new)
+        (W.count writer.old) (W.count writer.new)) }
     ensures answered { IfErr result EndsRun }
 {
+    let failed_reads = reader.failures();
+    let failed_writes = writer.failures();
     let mut lines: u64 = 0;
     let mut most_visits: u32 = 0;
     loop {
-        match stream.next_step(reader, failures.reads, ty) {
+        match stream.next_step(reader, failed_reads, ty) {
             Ok(Some(step)) => {
                 let Some(sample) = stream.last() else {
                     unreachable!()
                 };
-                match answer(step, sample, runner, text, failures.writes, writer) {
+                match answer(step, sample, runner, text, failed_writes, writer) {
                     Ok(()) => {}
                     Err(stop) => return Err(stopped(lines, stop)),
                 }

@@ -6,7 +6,9 @@ ghost use Rattle.net_tree.specs.LawStep.{step_of};
 ghost use Rattle.net_tree.specs.Position.{position_spelling};
 ghost use Rattle.net_text.specs.CertificatePrinting.{ChildrenFit};
 ghost use Rattle.net_text.specs.declared.fault.NetTextFault.TheVariants as Fault;
-ghost use Rattle.yampa_run.specs.Preparation.{IsNoMost, IsNoName, IsNoNumber, IsNowhere};
+ghost use Rattle.yampa_run.specs.Laws.{IsNowhere};
+ghost use Rattle.yampa_run.specs.Apply.{IsNoNumber};
+ghost use Rattle.yampa_run.specs.Compile.{IsNoMost, IsNoName};
 ghost use Rattle.yampa_run.specs.Words.{IsPlaceIn, IsPlaceOfStep, TellsFirst, TellsMost, TellsName, TellsPlace, all_name_bytes, begins_name, is_digits_word, is_most, is_name, is_name_byte, most_in, number_in, placed_file};
 
 use crate::preparation::Refusal;

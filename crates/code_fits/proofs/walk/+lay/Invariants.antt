@@ -13,7 +13,7 @@ abbrev pub decreases-lay_first : goal.decreases-lay_first
 decreases-lay_first l = 16 * network_size l.f.now + 8
 
 abbrev pub decreases-lay_frozen : goal.decreases-lay_frozen
-decreases-lay_frozen l = 16 * (net_size l.e.now + net_size l.t.now) + 8
+decreases-lay_frozen l = 16 * (net_size l.rest.watch.now + net_size l.rest.over.now) + 8
 
 abbrev pub decreases-lay_initial : goal.decreases-lay_initial
 decreases-lay_initial l = 16 * network_size l.f.now + 8
@@ -28,7 +28,7 @@ abbrev pub decreases-lay_members : goal.decreases-lay_members
 decreases-lay_members l = 16 * nets_size l.fs.now + 6
 
 abbrev pub decreases-lay_p_switch : goal.decreases-lay_p_switch
-decreases-lay_p_switch l = 16 * (networks_size l.fs.now + network_size l.e.now + network_size l.t.now) + 12
+decreases-lay_p_switch l = 16 * (networks_size l.fs.now + net_size l.rest.watch.now + net_size l.rest.over.now) + 12
 
 abbrev pub decreases-lay_par : goal.decreases-lay_par
 decreases-lay_par l = 16 * networks_size l.fs.now + 8

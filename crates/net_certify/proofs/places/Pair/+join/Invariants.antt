@@ -11,7 +11,10 @@ abbrev pub decreases-join_all : goal.decreases-join_all
 decreases-join_all l = 6 * l.depth + 4
 
 abbrev pub decreases-join_steps : goal.decreases-join_steps
-decreases-join_steps l = 6 * l.depth + 1
+decreases-join_steps l = 6 * l.depth + 2
+
+abbrev pub decreases-join_step : goal.decreases-join_step
+decreases-join_step l = 6 * l.depth + 1
 
 abbrev pub decreases-join_parts : goal.decreases-join_parts
 decreases-join_parts l = 6 * l.depth + 3

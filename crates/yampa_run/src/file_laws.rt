@@ -1,0 +1,113 @@
+// Laws of the definitions: what the refusal of a file says, that a derived network writes the same,
+// what the optimiser's texts are good for, and the whole way of a command.
+
+ghost use Rattle.yampa_run.specs.Loading.{NoNetworkLaw, OneRefusalLaw};
+ghost use Rattle.yampa_run.specs.Preparation.{OnlyMemoryLaw};
+ghost use Rattle.yampa_run.specs.Headline.{SameOutputLaw, SameFrontLaw, WritesOutputLaw, HeadlineLaw};
+ghost use Rattle.yampa_run.specs.AppliedFiles.{AppliedFilesLaw};
+ghost use Rattle.yampa_run.specs.OptimisedFiles.{OptimisedFilesLaw};
+ghost use Rattle.yampa_run.specs.CertifiedFiles.{CertifiedFilesLaw};
+ghost use Rattle.yampa_run.specs.CompiledFiles.{CompiledFilesLaw};
+ghost use Rattle.yampa_run.specs.ImprovedFiles.{ImprovedFilesLaw};
+ghost use Rattle.yampa_run.specs.WholeRun.{WholeRunLaw};
+
+use cert_check::{applied_laws, derivation_laws, one_answer_laws};
+use net_code::code_laws;
+use net_opt::optimised_laws;
+use net_syntax::typing_laws;
+use net_text::{certificate_laws, printing_laws};
+use sample_core::reading_laws;
+use stream_text::stream_laws;
+
+/// The bytes of a file are refused with one line, and bytes that have a network with none. So
+/// `prepare` refuses what is asked for, but for lack of memory and of C that is too large, only where
+/// no job is that: where the bytes of a file have no network or no certificate; where a target isn't
+/// derived, a step can't be taken, or the steps are too many; where two input types differ that are to
+/// be certified; where a position isn't in the network, or a word is no number, name or position.
+/// That no certificate is found, and that a table is full, is told behind it.
+pub fn refusal_laws()
+    ensures one_line { OneRefusalLaw }
+    ensures no_network { NoNetworkLaw }
+    ensures only_memory { OnlyMemoryLaw }
+{}
+
+/// Where `check` accepts a certificate from a source to a target network, then, whatever bytes come
+/// as the timed stream and in whatever pieces, a `run` of either network in which no allocation,
+/// read or write is refused writes the same bytes: one line per sample, the values of the source's
+/// stream meaning, up to the stream's first faulty line, which it names.
+///
+/// Accepts: `check` answered `Ok`, whose contract says `Derives`. `lines` is the same in both runs;
+/// `most_visits` may differ.
+pub fn headline_laws()
+    ensures same_output { SameOutputLaw }
+    ensures same_front { SameFrontLaw }
+    ensures writes_output { WritesOutputLaw }
+    ensures headline { HeadlineLaw }
+{
+    reading_laws();
+    derivation_laws();
+}
+
+/// Where the words ask for a run of a network file, or of a target whose certificate is to be
+/// checked, and the bytes of the files that they name are told: what `run_network` writes of any
+/// text is the output of the file's network, or of the source. With status 0, by `run_status`, all
+/// of it; with status 1, all of it up to the text's first fault, which the line names; with status
+/// 3, a part of it as a prefix, and the line tells what ended it early. There is no other status.
+pub fn whole_run_laws()
+    ensures whole { WholeRunLaw }
+{
+    reading_laws();
+    stream_laws();
+    derivation_laws();
+    typing_laws();
+}
+
+/// What two runs of `optimise` print of one file, without the flag and with it, put into files,
+/// within the limits of files: the steps of the one derive the network of the other from that of the
+/// file. So `prepare` refuses `check` and `run-checked` of the three for lack of memory alone.
+pub fn optimised_file_laws()
+    ensures { OptimisedFilesLaw }
+{
+    printing_laws();
+    optimised_laws();
+}
+
+/// What `apply` prints of a source and a certificate, put into a file, within the limits of files:
+/// the certificate derives it from the source. So `prepare` refuses `check` and `run-checked` of the
+/// three for lack of memory alone.
+pub fn applied_file_laws()
+    ensures { AppliedFilesLaw }
+{
+    printing_laws();
+    applied_laws();
+}
+
+/// What `certify` prints of a source and a target, put into a file: it derives the target from the
+/// source. So `prepare` refuses `check` and `run-checked` of the three for lack of memory alone.
+pub fn certified_file_laws()
+    ensures { CertifiedFilesLaw }
+{}
+
+/// What one run of `improve --certificate` prints of a source, put into a file, and what `apply`
+/// prints of both, put into a file, within the limits of files: that is the improved network, and the
+/// certificate derives it from the source. So `prepare` refuses `check` and `run-checked` of the three
+/// for lack of memory alone.
+pub fn improved_file_laws()
+    ensures { ImprovedFilesLaw }
+{
+    certificate_laws();
+    one_answer_laws();
+    printing_laws();
+    applied_laws();
+}
+
+/// What is printed where the words ask for C of a file, or of a target whose certificate is to be
+/// checked, and the bytes of the files that they name are told: the text of code that outputs the
+/// stream meaning of the file's network, or of the source, on samples of its input type.
+pub fn compiled_file_laws()
+    ensures { CompiledFilesLaw }
+{
+    code_laws();
+    typing_laws();
+    derivation_laws();
+}
