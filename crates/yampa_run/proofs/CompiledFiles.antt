@@ -16,7 +16,7 @@ use Rattle.net_code.specs.declared.statement.Function.{Function}
 use Rattle.code_fits.specs.CodeOfNet.{IsCodeOf}
 use Rattle.cert_check.specs.Laws.{SameStreamLaw}
 use Rattle.command_line.specs.CommandLine.{RequestTree, types, run, outline, laws, optimise, improve, check as checks, run_checked, apply, certify, compile, compile_checked}
-use Rattle.yampa_run.specs.CompiledFiles.{CompiledFilesLaw, CompilesAsAsked, OutputsStream}
+use Rattle.yampa_run.specs.CompiledFiles.{CompiledFilesLaw, CompilesAsAsked}
 use Rattle.yampa_run.specs.KnownFiles.{KnownFiles}
 use Rattle.yampa_run.specs.Loading.{IsNetworkIn, IsNetworkOf}
 use Rattle.yampa_run.specs.Check.{AreStepsOf, IsDerivedIn}

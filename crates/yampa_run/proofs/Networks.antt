@@ -23,8 +23,6 @@ use Rattle.yampa_run.specs.Laws.{HasNoPlace, IsNotThere, not_there}
 use Rattle.yampa_run.specs.Apply.{IsLeading, IsNotApplied, RefusesSteps, not_applied}
 use Rattle.yampa_run.specs.Certify.{ArePair, HaveOtherInputs, IsNotCertified, other_inputs}
 use Rattle.yampa_run.specs.declared.refused.Role.{Role}
-use Rattle.yampa_run.specs.declared.refused.Role.TheVariants as R
-use Rattle.yampa_run.specs.declared.preparation.Job.TheVariants as J
 use Rattle.yampa_run.specs.declared.preparation.Refusal.{Refusal}
 use Rattle.yampa_run.specs.declared.preparation.Refusal.TheVariants as Refused
 

@@ -28,7 +28,7 @@ use Rattle.net_meaning.specs.NetworkLimits.{WithinLimits}
 use Rattle.net_search.specs.Certifying.{AreApart}
 use Rattle.net_view.specs.Listed.{IsThere}
 use Rattle.net_view.specs.Trace.{TraceAnswer, first_steps}
-use Rattle.yampa_run.specs.Words.{TellsFirst, TellsMost, TellsName, is_name, most_in}
+use Rattle.yampa_run.specs.Words.{TellsFirst, TellsMost, TellsName}
 use Rattle.yampa_run.proofs.Places.{one_place}
 use Rattle.command_line.specs.CommandLine.{DerivationNames, LeadingNames, PrintingWords, RequestTree, types, run, outline, laws, optimise, improve, check as checks, run_checked, apply, certify, compile, compile_checked, request_in, AsksNothing}
 use Rattle.yampa_run.specs.RefusalLines.{text_words, type_words}

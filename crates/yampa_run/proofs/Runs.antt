@@ -33,7 +33,6 @@ use Rattle.yampa_run.specs.Output.{spelled_lines, line_feeds, line_of_value, gre
 use Rattle.yampa_run.specs.Runs.{RunsToEnd, IsOutput, StopsAtFault, StopsUnread, BeginsOutput, StopsWithin, StopsRun, Answers, IsPartOfLine, Breaks, run_fault_of, stream_fault_of}
 use Rattle.yampa_run.specs.declared.fault.RunFault.{RunFault}
 use Rattle.yampa_run.specs.declared.fault.RunReport.{RunReport}
-use Rattle.yampa_run.specs.declared.fault.RunFault.TheVariants as U
 use Rattle.yampa_run.specs.declared.stream_run.WriteStop.{WriteStop}
 use Rattle.yampa_run.specs.declared.stream_run.WriteStop.TheVariants as T
 use Rattle.yampa_run.proofs.Written.{appends_none, appends_both, feeds-free, feeds-append, feeds-lines, part_free}
