@@ -1,6 +1,7 @@
 pub mod Listings
 pub mod Paths
 pub mod Stepping
+pub mod Growing
 pub mod Heavier
 pub mod Higher
 pub mod Spots
