@@ -15,10 +15,10 @@ use net_tree::{Net, Parts, TreeRef, form_number, parts_inside, same_net};
 use sample_core::{Ty, same_type};
 
 /// The most children of a node.
-pub(crate) const MOST_CHILDREN: u32 = 100_000;
+pub const MOST_CHILDREN: u32 = 100_000;
 
 /// Child k of the tree.
-pub(crate) fn inner_at(tree: TreeRef<'_>, k: u32) -> Option<TreeRef<'_>>
+pub fn inner_at(tree: TreeRef<'_>, k: u32) -> Option<TreeRef<'_>>
     ensures { option_map seen result ≡ tree_child (seen tree.entry) k }
 {
     match tree {

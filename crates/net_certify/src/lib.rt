@@ -25,6 +25,7 @@ mod segments;
 mod shaping;
 mod table;
 
+pub use alike::{MOST_CHILDREN, inner_at};
 pub use difference::{Difference, first_difference};
 pub use forming::{Formed, normal_form};
 pub use places::{Ways, ways_between};

@@ -1,5 +1,6 @@
 // Loops round one `arr`, of networks that are made of `arr`s, `first`s, loops and cells.
 
+use crate::alike::MOST_CHILDREN;
 use crate::loop_states::{arrange, nest_left};
 use crate::meeting::Trail;
 use expr_improve::{
@@ -14,9 +15,6 @@ use std::alloc::Global;
 
 /// The most networks in one another and beside one another.
 const MOST_PLACES: u32 = 10_000;
-
-/// The most children of a network.
-const MOST_CHILDREN: u32 = 100_000;
 
 /// The most rounds in which loops beside one another are made one, two by two.
 const MOST_ROUNDS: u32 = 20;

@@ -1,13 +1,10 @@
 // How many nodes networks have.
 
-use leaf_core::{Expr, part};
-use net_syntax::child;
+use leaf_core::Expr;
+use net_certify::{MOST_CHILDREN, inner_at};
 use net_tree::{Net, TreeRef};
 use sample_core::Memory;
 use std::alloc::Global;
-
-/// The most children of a node.
-const MOST_CHILDREN: u32 = 100_000;
 
 /// How many nodes the network has, where these are fewer than so many; else so many. `Memory` if
 /// allocation fails.
@@ -32,15 +29,4 @@ fn push_children<'n>(todo: &mut Vec<TreeRef<'n>>, tree: TreeRef<'n>) -> Result<(
         }
     }
     Ok(())
-}
-
-/// Child k of the tree.
-fn inner_at(tree: TreeRef<'_>, k: u32) -> Option<TreeRef<'_>> {
-    match tree {
-        TreeRef::Net(net) => child(net, k),
-        TreeRef::Expr(expr) => {
-            let inner = part(expr, k)?;
-            Some(TreeRef::Expr(inner))
-        }
-    }
 }

@@ -33,7 +33,7 @@ pub use net_meaning::{
     congruence_laws, output_examples, stream_laws, switching_laws, weight_examples,
 };
 pub use net_tree::{
-    Direction, Law, LawStep, Members, Net, Position, Tree, height, same_net, weight,
+    Direction, Law, LawStep, Members, Net, NetChild, Position, Tree, height, same_net, weight,
 };
 pub use part_types::{arrow_from, event_with, list_of, pair_under};
 pub use place::{Place, at, child, place_below};
