@@ -74,8 +74,8 @@ pub record HeardSo (has has' : Option (List ℕ)) (P : List ℕ → Type 0) : Ty
 abbrev pub BeginsWith : TypeTree → List (ℕ × Datum) → List ℕ → Type 0
 BeginsWith A p text = (later : List (ℕ × Datum)) × ((samples A text).taken ≡ p ++ later)
 
--- so many reads were made and did not meet the end; their bytes hold the samples so far, and show
--- no fault
+-- so many reads are claimed, failed ones among them, and none met the end; their bytes hold the
+-- samples so far, and show no fault
 pub record HeardFront (A : TypeTree) (has has' : Option (List ℕ)) (p : List (ℕ × Datum))
     (made : ℕ) : Type 0 where
   pub read : List ℕ
@@ -107,7 +107,7 @@ FaultyLaw = (A : TypeTree) (has has' has'' : Option (List ℕ)) (s s' : ReaderSt
     → GivesAnswer A s has' (Err fault) s' has'' → IsOfText fault
     → HeardSo has has'' (λ text. samples A text ≡ record { taken = p; fault = Some fault })
 
--- where a read failed, the samples so far are those of the bytes that were read
+-- where a call answers `Read`, the samples so far are those of the bytes that were read
 abbrev pub UnreadLaw : Type 0
 UnreadLaw = (A : TypeTree) (has has' has'' : Option (List ℕ)) (s s' : ReaderState)
     (p : List (ℕ × Datum)) → Heard A has has' s p → GivesAnswer A s has' (Err S.Read) s' has''

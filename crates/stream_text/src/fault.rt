@@ -17,13 +17,13 @@ pub enum StreamFault {
     LineTooLong { line: u64 },
     /// There is a line 1,000,001.
     TooManySamples { line: u64 },
-    /// 2^40 reads were made.
+    /// 2^40 reads are counted, failed ones among them, and the next line isn't known.
     ReadTurns,
-    /// A read failed.
+    /// The reader counts more failures than before, and the next line isn't known.
     Read,
     /// Allocation failed.
     Memory,
-    /// An earlier call answered a fault. No run answers it.
+    /// An earlier call answered a fault: each later one answers this.
     Ended,
 }
 

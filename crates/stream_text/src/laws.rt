@@ -8,8 +8,8 @@ ghost use Rattle.stream_text.specs.WrittenStreams.{WrittenLaw};
 use sample_core::reading_laws;
 
 /// Successive calls answer the samples of the text in order; where one answers that there is none
-/// more, these are all, and where one answers a line's fault, these are those before it. Where a
-/// read failed, or 2^40 were made, they are those of the bytes that were read. A line is read as a
+/// more, these are all, and where one answers a line's fault, these are those before it. Where one
+/// answers `Read` or `ReadTurns`, they are those of the bytes that were read. A line is read as a
 /// sample if and only if it holds it: line 1 the value's spelling, a later line a step and the
 /// value's spelling or `=`; and it has a fault if and only if that fault's row of the table of
 /// faults holds. A timed list that is written is read back.

@@ -76,8 +76,8 @@ impl LineState {
     /// The next sample of the stream with its step, which is 0 for the first; `None` at the end,
     /// again and again. The value that was answered last, if there is one, must have that type.
     ///
-    /// `failures` is how often the source had failed before: a read failed where it has failed more
-    /// often.
+    /// `failures` is how often the source had failed before: `Read` comes only where it counts more
+    /// by then.
     ///
     /// The first fault ends the stream: in the words of [`StreamFault`], lines before reads, so
     /// that lines whose line feed came before a failed read are answered first. `Memory`: there

@@ -26,9 +26,9 @@ pub enum Settled {
 
 /// Reads on until line `number`, the next, is known, and no further. Counts the reads.
 ///
-/// `Read`: a read failed, so that the reader has failed more often than `failures`. `ReadTurns`:
-/// 2^40 reads were made. What is kept then settles no line. After a failed read that the reader
-/// doesn't count it is asked again.
+/// `Read`: the reader counts more failures than `failures`. `ReadTurns`: 2^40 reads are counted,
+/// failed ones among them. What is kept then settles no line. Where the reader counts no failure it
+/// is asked again.
 pub fn settle<R: Read + Device>(
     kept: &mut Pending,
     reads: &mut u64,
