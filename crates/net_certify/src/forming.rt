@@ -233,10 +233,13 @@ impl Former {
     /// What the first move makes that fits at the stage of the chain at the path.
     fn found(&self, path: &[u32], stage: usize) -> Result<Option<Made>, NoMove> {
         let chain = self.sketch.net_at(path)?;
+        let Some(here) = rest(chain, stage) else {
+            return Ok(None);
+        };
         let loops = has_loop(chain, stage);
         let arr = stage > 0 && is_arr(chain, stage - 1);
         for row in TABLE {
-            if row.0.fits_behind(loops, arr) {
+            if row.0.fits_behind(loops, arr) && row_fits(&row, here) {
                 if let Some(made) = self.made_by(&row, path, stage)? {
                     return Ok(Some(made));
                 }
@@ -254,14 +257,7 @@ impl Former {
         let Some(chain) = rest(whole, stage) else {
             return Ok(None);
         };
-        let second = match rest(chain, 1) {
-            Some(net) => Some(head(net)),
-            None => None,
-        };
-        if !row_fits(row, length(chain), head(chain), second) {
-            return Ok(None);
-        }
-        if !self.sketch.means.spend(row.1 as u64) {
+        if !row_fits(row, chain) || !self.sketch.means.spend(row.1 as u64) {
             return Ok(None);
         }
         let window = front(self.sketch.alloc, chain, row.1)?;

@@ -4,7 +4,7 @@ use crate::arr_forms::ArrForm;
 use crate::loop_forms::LoopForm;
 use leaf_core::Expr;
 use net_improve::{
-    ArrMove, Built, CellMove, FirstMove, LoopMove, Move, NoMove, Sketch, SwitchMove,
+    ArrMove, Built, CellMove, FirstMove, LoopMove, Move, NoMove, Sketch, SwitchMove, head, rest,
 };
 use net_tree::Net;
 
@@ -363,18 +363,13 @@ impl FormMove {
     }
 }
 
-/// Whether the stages of the row are there, so many, of which these are the first two.
-pub(crate) fn row_fits(
-    row: &MoveRow,
-    count: usize,
-    first: &Net<Expr>,
-    second: Option<&Net<Expr>>,
-) -> bool {
-    if row.1 > count || !row.2.is(first) {
+/// Whether the chain begins with the stages of the row.
+pub(crate) fn row_fits(row: &MoveRow, chain: &Net<Expr>) -> bool {
+    if rest(chain, row.1.saturating_sub(1)).is_none() || !row.2.is(head(chain)) {
         return false;
     }
-    match second {
-        Some(net) => row.3.is(net),
+    match rest(chain, 1) {
+        Some(second) => row.3.is(head(second)),
         None => true,
     }
 }

@@ -144,19 +144,31 @@ pub fn is_flat(chain: &Net<Expr>) -> bool {
     }
 }
 
+/// How many stages of the chain stand before the first that is itself a chain; `None` if none is.
+fn before_chain(chain: &Net<Expr>) -> Option<usize> {
+    let mut left = chain;
+    for stages in 0..MOST_STAGES {
+        let Net::Seq(f, rest) = left else {
+            return None;
+        };
+        if let Net::Seq(..) = f.get() {
+            return Some(stages);
+        }
+        left = rest.get();
+    }
+    None
+}
+
 impl Sketch {
     /// Nests the chain at the path to the right, by L3.
     pub fn flatten(&mut self, path: &[u32]) -> Result<(), NoMove> {
         let mut way = path.to_vec(self.alloc)?;
         for _ in 0..MOST_STAGES {
-            let Net::Seq(f, _) = self.net_at(&way)? else {
+            let Some(stages) = before_chain(self.net_at(&way)?) else {
                 return Ok(());
             };
-            if let Net::Seq(..) = f.get() {
-                self.forward(3, &way)?;
-            } else {
-                way.push(1)?;
-            }
+            way = behind(self.alloc, &way, stages)?;
+            self.forward(3, &way)?;
         }
         Ok(())
     }
