@@ -99,7 +99,8 @@ impl Joining {
     /// Makes one loop of the most stages of the chain at the path, from this one on, of which that
     /// costs less.
     fn join_from(&mut self, path: &[u32], stage: usize) -> Result<(), NoMove> {
-        for stages in (1..=MOST_STAGES).rev() {
+        for fewer in 0..MOST_STAGES {
+            let stages = MOST_STAGES - fewer;
             match self.made_one(path, stage, stages) {
                 Ok(Some(made)) => return self.adopt(path, stage, stages, made),
                 Ok(None) | Err(NoMove::Unfit) => {}
@@ -178,7 +179,9 @@ impl Parts {
 /// What the network is made of; nothing where there are others in it than `arr`s, `first`s, loops and
 /// cells, or many.
 fn parts_of(alloc: Global, net: &Net<Expr>) -> Result<Option<Parts>, Memory> {
-    let (mut firsts, mut loops, mut cells) = (0u32, 0u32, 0u32);
+    let mut firsts = 0u32;
+    let mut loops = 0u32;
+    let mut cells = 0u32;
     let mut todo = Vec::new(alloc);
     todo.push(net)?;
     for _ in 0..MOST_NETS {
