@@ -1,14 +1,16 @@
--- Where a part gets no more than so much greater, the whole does so too, by any measure that is made node by node: so much is what a
--- function allows of each number.
-use Rattle.std.proofs.Common.{◌≡◌, ℕ, zero, suc, ◌+◌, ◌≤◌, List, [], ◌∷◌, ◌++◌, length, get_or, Option, Some, None, IfSome, option_map, refl, sym, ap, ◌∙◌, subst, arith}
-use Rattle.std.proofs.lemmas.Option.{same_Some}
+-- Where a part gets no more than so much greater, the whole is there with it, and does so too, by any measure that is made node by
+-- node: so much is what a function allows of each number.
+use Rattle.std.proofs.Common.{◌≡◌, ℕ, zero, suc, ◌+◌, ◌≤◌, List, [], ◌∷◌, ◌++◌, length, get_or, Option, Some, None, option_map, refl, sym, ap, subst, arith}
+use Rattle.std.proofs.lemmas.Option.{none-some, same_Some}
 use Rattle.std.proofs.lemmas.List.{length-append}
 use Rattle.leaf_core.specs.Expression.{Expression}
-use Rattle.leaf_core.specs.Parts.{with_part_at}
+use Rattle.leaf_core.specs.Parts.{part_at}
 use Rattle.net_tree.specs.Network.{Network, Networks, at_once, delayed, arr, seq, first, par, loop_pre, i_pre, delay, hold, accum_by, after, repeatedly, switch, r_switch, k_switch, p_switch, old, initial_out, initial_in, rp_switch, no_members, and_member}
 use Rattle.net_tree.specs.Place.{◌>>=◌, Tree, a_network, a_leaf, member, child, child_network, collection_child, PSwitchChild, p_switch_child, member_child, event_child, continuation_child, no_child}
 use Rattle.net_meaning.specs.Typing.{members}
 use Rattle.net_syntax.specs.Placed.{Placed, placed, placed_at, bound_in, bound_behind, bound_started, with_member, with_child, with_p_switch_child, with_collection_child, replaced}
+use Rattle.net_syntax.proofs.Splits.{onward}
+use Rattle.net_view.proofs.Putting.{Has, put_at}
 
 -- how a node's measure is made of those of its parts: of members, of two networks, of one and what takes its place one sample late,
 -- and of a collection's continuation and members
@@ -115,33 +117,38 @@ module _ (M : Measure) (B : ℕ → ℕ) (allowed : Allows M B) where
     all_under no_members u = none_under
     all_under (and_member f fs) u = one_under (under f u) (all_under fs u)
 
-  -- with so many frozen networks in scope, the second tree measures at most what B allows of the first
+  -- with so many frozen networks in scope, the second tree is of the first one's kind, and measures at most what B allows of that
   abbrev Within : ℕ → Tree Expression → Tree Expression → Type 0
   Within n (a_network g) (a_network h) = (us ws : List ℕ) → Under B us ws → length ws ≡ n → measured M h us ≤ B (measured M g ws)
-  Within n _ _ = Unit {0}
+  Within n (a_leaf e) (a_leaf s) = Unit {0}
+  Within n _ _ = ⊥
 
   abbrev AllWithin : ℕ → Networks Expression → Networks Expression → Type 0
   AllWithin n fs gs = (us ws : List ℕ) → Under B us ws → length ws ≡ n → Under B (measures M gs us) (measures M fs ws)
 
-  member_within : (n : ℕ) (fs : Networks Expression) (k : ℕ) (s : Network Expression) → IfSome (member fs k) (λ g. Within n (a_network g) (a_network s))
-      → IfSome (with_member fs k s) (AllWithin n fs)
-  member_within n no_members k s h = tt
+  member_within : (n : ℕ) (fs : Networks Expression) (k : ℕ) (s : Network Expression) → Has (member fs k) (λ g. Within n (a_network g) (a_network s))
+      → Has (with_member fs k s) (AllWithin n fs)
+  member_within n no_members k s h = h
   member_within n (and_member f fs) zero s h = λ us ws u l. one_under (h us ws u l) (all_under fs u)
   member_within n (and_member f fs) (suc k) s h = go (with_member fs k s) (member_within n fs k s h)
     where
-      go : (o : Option (Networks Expression)) → IfSome o (AllWithin n fs) → IfSome (option_map (and_member f) o) (AllWithin n (and_member f fs))
-      go None h = tt
+      go : (o : Option (Networks Expression)) → Has o (AllWithin n fs) → Has (option_map (and_member f) o) (AllWithin n (and_member f fs))
+      go None h = h
       go (Some gs) h = λ us ws u l. one_under (under f u) (h us ws u l)
 
-  a_member : (n : ℕ) (s : Network Expression) (o : Option (Network Expression)) → IfSome (option_map a_network o) (λ c. Within n c (a_network s))
-      → IfSome o (λ g. Within n (a_network g) (a_network s))
-  a_member n s None h = tt
+  a_member : (n : ℕ) (s : Network Expression) (o : Option (Network Expression)) → Has (option_map a_network o) (λ c. Within n c (a_network s))
+      → Has o (λ g. Within n (a_network g) (a_network s))
+  a_member n s None h = h
   a_member n s (Some g) h = h
+
+  no_member : (n : ℕ) (s : Expression) (o : Option (Network Expression)) → Has (option_map a_network o) (λ c. Within n c (a_leaf s)) → ⊥
+  no_member n s None h = h
+  no_member n s (Some g) h = h
 
   -- the network with another child
   abbrev ChildWithin : ℕ → Network Expression → ℕ → Tree Expression → Type 0
   ChildWithin n f k d =
-      IfSome (child f k) (λ c. Within (n + (bound_in f k).olds) c d) → IfSome (with_child f k d) (λ v. Within n (a_network f) (a_network v))
+      Has (child f k) (λ c. Within (n + (bound_in f k).olds) c d) → Has (with_child f k d) (λ v. Within n (a_network f) (a_network v))
 
   same_scope : (n : ℕ) (ws : List ℕ) → length ws ≡ n → length ws ≡ n + 0
   same_scope n ws l = omega (arith, l)
@@ -155,9 +162,10 @@ module _ (M : Measure) (B : ℕ → ℕ) (allowed : Allows M B) where
   child_within n (first f) zero (a_network s) h = λ us ws u l. over_one (measured M s us) (measured M f ws) (h us ws u (same_scope n ws l))
   child_within n (par fs) k (a_network s) h = put (with_member fs k s) (member_within (n + 0) fs k s (a_member (n + 0) s (member fs k) h))
     where
-      put : (o : Option (Networks Expression)) → IfSome o (AllWithin (n + 0) fs) → IfSome (option_map par o) (λ v. Within n (a_network (par fs)) (a_network v))
-      put None h = tt
+      put : (o : Option (Networks Expression)) → Has o (AllWithin (n + 0) fs) → Has (option_map par o) (λ v. Within n (a_network (par fs)) (a_network v))
+      put None h = h
       put (Some gs) h = λ us ws u l. over_one (M.members (measures M gs us)) (M.members (measures M fs ws)) (allowed.members_grow (h us ws u (same_scope n ws l)))
+  child_within n (par fs) k (a_leaf s) h = no_member (n + 0) s (member fs k) h
   child_within n (loop_pre c f) zero (a_leaf s) h = λ us ws u l. under (loop_pre c f) u
   child_within n (loop_pre c f) (suc zero) (a_network s) h = λ us ws u l. over_one (measured M s us) (measured M f ws) (h us ws u (same_scope n ws l))
   child_within n (i_pre c) zero (a_leaf s) h = λ us ws u l. over_none
@@ -193,19 +201,19 @@ module _ (M : Measure) (B : ℕ → ℕ) (allowed : Allows M B) where
   child_within n (p_switch r fs e t) (suc k) (a_network s) h = at (p_switch_child fs k) h
     where
       Is : Option (Network Expression) → Type 0
-      Is o = IfSome o (λ v. Within n (a_network (p_switch r fs e t)) (a_network v))
+      Is o = Has o (λ v. Within n (a_network (p_switch r fs e t)) (a_network v))
 
-      Has : PSwitchChild → Type 0
-      Has W = IfSome (option_map a_network (child_network W fs e t k)) (λ c. Within (n + (bound_behind W fs).olds) c (a_network s))
+      There : PSwitchChild → Type 0
+      There W = Has (option_map a_network (child_network W fs e t k)) (λ c. Within (n + (bound_behind W fs).olds) c (a_network s))
 
-      put : (o : Option (Networks Expression)) → IfSome o (AllWithin (n + 0) fs) → Is (option_map (λ gs. p_switch r gs e t) o)
-      put None h = tt
+      put : (o : Option (Networks Expression)) → Has o (AllWithin (n + 0) fs) → Is (option_map (λ gs. p_switch r gs e t) o)
+      put None h = h
       put (Some gs) h = λ us ws u l.
           let all : Under B (measures M gs us) (measures M fs ws) = h us ws u (same_scope n ws l) in
           over_three (M.members (measures M gs us)) (measured M e us) (measured M t (us ++ measures M gs us)) (M.members (measures M fs ws)) (measured M e ws) (measured M t (ws ++ measures M fs ws))
           (allowed.members_grow all) (under e u) (under t (under_joined u all))
 
-      at : (W : PSwitchChild) → Has W → Is (with_p_switch_child W r fs e t k s)
+      at : (W : PSwitchChild) → There W → Is (with_p_switch_child W r fs e t k s)
       at member_child h = put (with_member fs k s) (member_within (n + 0) fs k s (a_member (n + 0) s (member fs k) h))
       at event_child h = λ us ws u l.
           over_three (M.members (measures M fs us)) (measured M s us) (measured M t (us ++ measures M fs us)) (M.members (measures M fs ws)) (measured M e ws) (measured M t (ws ++ measures M fs ws))
@@ -214,7 +222,9 @@ module _ (M : Measure) (B : ℕ → ℕ) (allowed : Allows M B) where
           over_three (M.members (measures M fs us)) (measured M e us) (measured M s (us ++ measures M fs us)) (M.members (measures M fs ws)) (measured M e ws) (measured M t (ws ++ measures M fs ws))
           (allowed.members_grow (all_under fs u)) (under e u)
           (h (us ++ measures M fs us) (ws ++ measures M fs ws) (under_joined u (all_under fs u)) (omega (arith, l, length-append ws (measures M fs ws), many M fs ws)))
-      at no_child h = tt
+      at no_child h = h
+  child_within n (p_switch r fs e t) (suc k) (a_leaf s) h =
+      no_member (n + (bound_behind (p_switch_child fs k) fs).olds) s (child_network (p_switch_child fs k) fs e t k) h
   child_within n (initial_out c f) zero (a_leaf s) h = λ us ws u l. under (initial_out c f) u
   child_within n (initial_out c f) (suc zero) (a_network s) h = λ us ws u l. over_one (measured M s us) (measured M f ws) (h us ws u (same_scope n ws l))
   child_within n (initial_in c f) zero (a_leaf s) h = λ us ws u l. under (initial_in c f) u
@@ -222,78 +232,80 @@ module _ (M : Measure) (B : ℕ → ℕ) (allowed : Allows M B) where
   child_within n (rp_switch fs m t) k s h = at (p_switch_child fs k) s h
     where
       Is : Option (Network Expression) → Type 0
-      Is o = IfSome o (λ v. Within n (a_network (rp_switch fs m t)) (a_network v))
+      Is o = Has o (λ v. Within n (a_network (rp_switch fs m t)) (a_network v))
 
-      Has : PSwitchChild → Tree Expression → Type 0
-      Has W s = IfSome (collection_child W fs m t k) (λ c. Within (n + (bound_started W).olds) c s)
+      There : PSwitchChild → Tree Expression → Type 0
+      There W s = Has (collection_child W fs m t k) (λ c. Within (n + (bound_started W).olds) c s)
 
-      put : (o : Option (Networks Expression)) → IfSome o (AllWithin (n + 0) fs) → Is (option_map (λ gs. rp_switch gs m t) o)
-      put None h = tt
+      put : (o : Option (Networks Expression)) → Has o (AllWithin (n + 0) fs) → Is (option_map (λ gs. rp_switch gs m t) o)
+      put None h = h
       put (Some gs) h = λ us ws u l.
           over_collection (measured M t us) (measured M t ws) (under t u) (h us ws u (same_scope n ws l))
 
-      at : (W : PSwitchChild) (s : Tree Expression) → Has W s → Is (with_collection_child W fs m t k s)
+      at : (W : PSwitchChild) (s : Tree Expression) → There W s → Is (with_collection_child W fs m t k s)
       at member_child (a_network s) h = put (with_member fs k s) (member_within (n + 0) fs k s (a_member (n + 0) s (member fs k) h))
-      at member_child (a_leaf s) h = tt
+      at member_child (a_leaf s) h = no_member (n + 0) s (member fs k) h
       at event_child (a_leaf s) h = λ us ws u l. under (rp_switch fs m t) u
-      at event_child (a_network s) h = tt
+      at event_child (a_network s) h = h
       at continuation_child (a_network s) h = λ us ws u l.
           over_collection (measured M s us) (measured M t ws) (h us ws u (same_scope n ws l)) (all_under fs u)
-      at continuation_child (a_leaf s) h = tt
-      at no_child s h = tt
-  child_within n _ k d h = tt
+      at continuation_child (a_leaf s) h = h
+      at no_child s h = h
+  child_within n _ k d h = absurd h
 
-  -- what goes on from what was found
-  on_from : {X Y : Type 0} (P : Y → Type 0) (o : Option X) (f : X → Option Y) → ((x : X) → o ≡ Some x → IfSome (f x) P) → IfSome (o >>= f) P
-  on_from P None f h = tt
-  on_from P (Some x) f h = h x refl
-
-  on_network : (P : Tree Expression → Type 0) (o : Option (Network Expression)) → IfSome o (λ v. P (a_network v)) → IfSome (option_map a_network o) P
-  on_network P None h = tt
+  on_network : (P : Tree Expression → Type 0) (o : Option (Network Expression)) → Has o (λ v. P (a_network v)) → Has (option_map a_network o) P
+  on_network P None h = h
   on_network P (Some v) h = h
 
-  some_within : (n : ℕ) (d : Tree Expression) (o : Option (Tree Expression)) (c : Tree Expression) → o ≡ Some c → Within n c d → IfSome o (λ z. Within n z d)
-  some_within n d o c e h = subst (λ z. IfSome z (λ y. Within n y d)) (sym e) h
+  -- a part of an expression
+  on_part : (m n : ℕ) (e : Expression) (p : List ℕ) (c : Placed) (s : Tree Expression) (o : Option Expression) → part_at e p ≡ o
+      → option_map (λ x. placed m n (a_leaf x)) o ≡ Some c → Within c.olds c.tree s → Has (replaced (a_leaf e) p s) (Within n (a_leaf e))
+  on_part m n e p c s None i j h = absurd (none-some c j)
+  on_part m n e p c (a_network s) (Some x) i j h = subst (λ z. Within z.olds z.tree (a_network s)) (sym (same_Some (placed m n (a_leaf x)) c j)) h
+  on_part m n e p c (a_leaf s) (Some x) i j h =
+      let v = put_at p e x s i in subst (λ o. Has (option_map a_leaf o) (Within n (a_leaf e))) (sym v.1) tt
 
-  -- what stands at the position is replaced by what measures at most what B allows of it, and so does the whole
+  -- where what stands at the position is replaced by what measures at most what B allows of it, the whole is there, and does so too
   path_within : (m n : ℕ) (u : Tree Expression) (p : List ℕ) (c : Placed) (s : Tree Expression) → placed_at m n u p ≡ Some c → Within c.olds c.tree s
-      → IfSome (replaced u p s) (Within n u)
-  path_within m n (a_leaf e) p c (a_leaf s) i h = on_leaf (with_part_at e p s)
-    where
-      on_leaf : (o : Option Expression) → IfSome (option_map a_leaf o) (Within n (a_leaf e))
-      on_leaf None = tt
-      on_leaf (Some v) = tt
-  path_within m n (a_leaf e) p c (a_network s) i h = tt
-  path_within m n (a_network f) [] c (a_network s) i h =
-      let is : placed m n (a_network f) ≡ c = same_Some (placed m n (a_network f)) c i in
-      subst (λ z. Within z.olds z.tree (a_network s)) (sym is) h
-  path_within m n (a_network f) [] c (a_leaf s) i h = tt
+      → Has (replaced u p s) (Within n u)
+  path_within m n (a_leaf e) p c s i h = on_part m n e p c s (part_at e p) refl i h
+  path_within m n (a_network f) [] c (a_network s) i h = subst (λ z. Within z.olds z.tree (a_network s)) (sym (same_Some (placed m n (a_network f)) c i)) h
+  path_within m n (a_network f) [] c (a_leaf s) i h = subst (λ z. Within z.olds z.tree (a_leaf s)) (sym (same_Some (placed m n (a_network f)) c i)) h
   path_within m n (a_network f) (k ∷ p) c s i h =
-      on_from (Within n (a_network f)) (child f k) (λ x. replaced x p s >>= (λ d. option_map a_network (with_child f k d)))
-      (λ x e. let below : placed_at (m + (bound_in f k).params) (n + (bound_in f k).olds) x p ≡ Some c =
-      ap (λ o. o >>= (λ y. placed_at (m + (bound_in f k).params) (n + (bound_in f k).olds) y p)) (sym e) ∙ i in
-      let found : IfSome (replaced x p s) (Within (n + (bound_in f k).olds) x) =
-      path_within (m + (bound_in f k).params) (n + (bound_in f k).olds) x p c s below h in
-      on_from (Within n (a_network f)) (replaced x p s) (λ d. option_map a_network (with_child f k d))
-      (λ d r. on_network (Within n (a_network f)) (with_child f k d)
-      (child_within n f k d (some_within (n + (bound_in f k).olds) d (child f k) x e
-      (subst (λ o. IfSome o (Within (n + (bound_in f k).olds) x)) r found)))))
+      let a = onward (child f k) (λ x. placed_at (m + (bound_in f k).params) (n + (bound_in f k).olds) x p) c i in
+      in_child a.from a.was (replaced a.from p s) refl (path_within (m + (bound_in f k).params) (n + (bound_in f k).olds) a.from p c s a.goes h)
+    where
+      in_child : (x : Tree Expression) → child f k ≡ Some x → (o : Option (Tree Expression)) → replaced x p s ≡ o → Has o (Within (n + (bound_in f k).olds) x)
+          → Has (replaced (a_network f) (k ∷ p) s) (Within n (a_network f))
+      in_child x e None r w = absurd w
+      in_child x e (Some d) r w =
+          subst (λ z. Has (z >>= (λ y. replaced y p s >>= (λ d. option_map a_network (with_child f k d)))) (Within n (a_network f))) (sym e)
+          (subst (λ z. Has (z >>= (λ d. option_map a_network (with_child f k d))) (Within n (a_network f))) (sym r)
+          (on_network (Within n (a_network f)) (with_child f k d)
+          (child_within n f k d (subst (λ z. Has z (λ y. Within (n + (bound_in f k).olds) y d)) (sym e) w))))
 
   -- so a whole network
-  whole_within : (f v : Network Expression) (p : List ℕ) (c : Placed) (s : Tree Expression) → placed_at 0 0 (a_network f) p ≡ Some c → Within c.olds c.tree s
-      → replaced (a_network f) p s ≡ Some (a_network v) → Within 0 (a_network f) (a_network v)
-  whole_within f v p c s i h q = subst (λ o. IfSome o (Within 0 (a_network f))) q (path_within 0 0 (a_network f) p c s i h)
+  abbrev pub IsWhole : Network Expression → List ℕ → Tree Expression → Type 0
+  IsWhole f p s = (v : Network Expression) × (replaced (a_network f) p s ≡ Some (a_network v)) × (measured M v [] ≤ B (measured M f []))
+
+  whole_within : (f : Network Expression) (p : List ℕ) (s : Tree Expression) (o : Option (Tree Expression)) → replaced (a_network f) p s ≡ o
+      → Has o (Within 0 (a_network f)) → IsWhole f p s
+  whole_within f p s None r w = absurd w
+  whole_within f p s (Some (a_leaf e)) r w = absurd w
+  whole_within f p s (Some (a_network v)) r w = (v, r, w [] [] none_under refl)
 
   -- so where a part with nothing frozen in scope is another
-  pub whole_allowed : (f v : Network Expression) (p : List ℕ) (g s : Network Expression) (k : ℕ) → placed_at 0 0 (a_network f) p ≡ Some (placed k 0 (a_network g))
-      → replaced (a_network f) p (a_network s) ≡ Some (a_network v) → measured M s [] ≤ B (measured M g []) → measured M v [] ≤ B (measured M f [])
-  whole_allowed f v p g s k i q h = whole_within f v p (placed k 0 (a_network g)) (a_network s) i here q [] [] none_under refl
+  pub whole_allowed : (f : Network Expression) (p : List ℕ) (g s : Network Expression) (k : ℕ) → placed_at 0 0 (a_network f) p ≡ Some (placed k 0 (a_network g))
+      → measured M s [] ≤ B (measured M g []) → IsWhole f p (a_network s)
+  whole_allowed f p g s k i h =
+      whole_within f p (a_network s) (replaced (a_network f) p (a_network s)) refl (path_within 0 0 (a_network f) p (placed k 0 (a_network g)) (a_network s) i here)
     where
       here : (us ws : List ℕ) → Under B us ws → length ws ≡ 0 → measured M s us ≤ B (measured M g ws)
       here us ws none_under l = h
       here us ws (one_under x xs) l = absurd (omega (arith, l))
 
   -- and where a part of an expression is another
-  pub whole_inside : (f v : Network Expression) (p : List ℕ) (e s : Expression) (m n : ℕ) → placed_at 0 0 (a_network f) p ≡ Some (placed m n (a_leaf e))
-      → replaced (a_network f) p (a_leaf s) ≡ Some (a_network v) → measured M v [] ≤ B (measured M f [])
-  whole_inside f v p e s m n i q = whole_within f v p (placed m n (a_leaf e)) (a_leaf s) i tt q [] [] none_under refl
+  pub whole_inside : (f : Network Expression) (p : List ℕ) (e s : Expression) (m n : ℕ) → placed_at 0 0 (a_network f) p ≡ Some (placed m n (a_leaf e))
+      → IsWhole f p (a_leaf s)
+  whole_inside f p e s m n i =
+      whole_within f p (a_leaf s) (replaced (a_network f) p (a_leaf s)) refl (path_within 0 0 (a_network f) p (placed m n (a_leaf e)) (a_leaf s) i tt)

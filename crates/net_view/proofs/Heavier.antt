@@ -87,17 +87,13 @@ module _ (r : ℕ) (some : 1 ≤ r) where
     collection_grows = collection;
   }
 
--- where a part with nothing frozen in scope gets at most so many times heavier, the whole does so too
-pub whole_times : (r : ℕ) (f v : Network Expression) (p : List ℕ) (g s : Network Expression) (m : ℕ) → placed_at 0 0 (a_network f) p ≡ Some (placed m 0 (a_network g))
-    → replaced (a_network f) p (a_network s) ≡ Some (a_network v) → weight s [] ≤ r * weight g [] → weight v [] ≤ r * weight f []
-whole_times r f v p g s m i q h =
-    omega (
-      arith,
-      is_weight v [],
-      ap (λ z. r * z) (is_weight f []),
-      whole_allowed by_weight (λ w. r * w) (times_allowed r (some r refl)) f v p g s m i q
-          (omega (arith, h, is_weight s [], ap (λ z. r * z) (is_weight g []))),
-    )
+-- where a part with nothing frozen in scope gets at most so many times heavier, the whole is there with it, and does so too
+pub whole_times : (r : ℕ) (f : Network Expression) (p : List ℕ) (g s : Network Expression) (m : ℕ) → placed_at 0 0 (a_network f) p ≡ Some (placed m 0 (a_network g))
+    → weight s [] ≤ r * weight g []
+    → (v : Network Expression) × (replaced (a_network f) p (a_network s) ≡ Some (a_network v)) × (weight v [] ≤ r * weight f [])
+whole_times r f p g s m i h =
+    let w = whole_allowed by_weight (λ w. r * w) (times_allowed r (some r refl)) f p g s m i (omega (arith, h, is_weight s [], ap (λ z. r * z) (is_weight g []))) in
+    (w.0, w.1, omega (arith, w.2, is_weight w.0 [], ap (λ z. r * z) (is_weight f [])))
   where
     -- a network weighs something, so r isn't 0
     some : (n : ℕ) → r ≡ n → 1 ≤ r
@@ -105,7 +101,8 @@ whole_times r f v p g s m i q h =
     some (suc n) e = omega (arith, e)
 
 -- and where a part of an expression is another, the whole weighs the same
-pub whole_light : (f v : Network Expression) (p : List ℕ) (e s : Expression) (m n : ℕ) → placed_at 0 0 (a_network f) p ≡ Some (placed m n (a_leaf e))
-    → replaced (a_network f) p (a_leaf s) ≡ Some (a_network v) → weight v [] ≤ weight f []
-whole_light f v p e s m n i q =
-    omega (arith, is_weight v [], is_weight f [], whole_inside by_weight (λ w. 1 * w) (times_allowed 1 (omega arith)) f v p e s m n i q)
+pub whole_light : (f : Network Expression) (p : List ℕ) (e s : Expression) (m n : ℕ) → placed_at 0 0 (a_network f) p ≡ Some (placed m n (a_leaf e))
+    → (v : Network Expression) × (replaced (a_network f) p (a_leaf s) ≡ Some (a_network v)) × (weight v [] ≤ weight f [])
+whole_light f p e s m n i =
+    let w = whole_inside by_weight (λ w. 1 * w) (times_allowed 1 (omega arith)) f p e s m n i in
+    (w.0, w.1, omega (arith, w.2, is_weight w.0 [], is_weight f []))

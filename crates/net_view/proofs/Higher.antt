@@ -56,19 +56,17 @@ module _ (rise : ℕ) where
     collection_grows = λ a x h u. omega (arith, h, under_greatest u);
   }
 
--- where a part with nothing frozen in scope gets at most so much higher, the whole does so too
-pub whole_rises : (rise : ℕ) (f v : Network Expression) (p : List ℕ) (g s : Network Expression) (m : ℕ) → placed_at 0 0 (a_network f) p ≡ Some (placed m 0 (a_network g))
-    → replaced (a_network f) p (a_network s) ≡ Some (a_network v) → height s [] ≤ rise + height g [] → height v [] ≤ rise + height f []
-whole_rises rise f v p g s m i q h =
-    omega (
-      arith,
-      is_height v [],
-      is_height f [],
-      whole_allowed by_height (λ w. rise + w) (rises_allowed rise) f v p g s m i q (omega (arith, h, is_height s [], is_height g [])),
-    )
+-- where a part with nothing frozen in scope gets at most so much higher, the whole is there with it, and does so too
+pub whole_rises : (rise : ℕ) (f : Network Expression) (p : List ℕ) (g s : Network Expression) (m : ℕ) → placed_at 0 0 (a_network f) p ≡ Some (placed m 0 (a_network g))
+    → height s [] ≤ rise + height g []
+    → (v : Network Expression) × (replaced (a_network f) p (a_network s) ≡ Some (a_network v)) × (height v [] ≤ rise + height f [])
+whole_rises rise f p g s m i h =
+    let w = whole_allowed by_height (λ w. rise + w) (rises_allowed rise) f p g s m i (omega (arith, h, is_height s [], is_height g [])) in
+    (w.0, w.1, omega (arith, w.2, is_height w.0 [], is_height f []))
 
 -- and where a part of an expression is another, the whole is as high
-pub whole_low : (f v : Network Expression) (p : List ℕ) (e s : Expression) (m n : ℕ) → placed_at 0 0 (a_network f) p ≡ Some (placed m n (a_leaf e))
-    → replaced (a_network f) p (a_leaf s) ≡ Some (a_network v) → height v [] ≤ height f []
-whole_low f v p e s m n i q =
-    omega (arith, is_height v [], is_height f [], whole_inside by_height (λ w. 0 + w) (rises_allowed 0) f v p e s m n i q)
+pub whole_low : (f : Network Expression) (p : List ℕ) (e s : Expression) (m n : ℕ) → placed_at 0 0 (a_network f) p ≡ Some (placed m n (a_leaf e))
+    → (v : Network Expression) × (replaced (a_network f) p (a_leaf s) ≡ Some (a_network v)) × (height v [] ≤ height f [])
+whole_low f p e s m n i =
+    let w = whole_inside by_height (λ w. 0 + w) (rises_allowed 0) f p e s m n i in
+    (w.0, w.1, omega (arith, w.2, is_height w.0 [], is_height f []))

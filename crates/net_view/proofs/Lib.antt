@@ -1,6 +1,7 @@
 pub mod Listings
 pub mod Paths
 pub mod Stepping
+pub mod Putting
 pub mod Growing
 pub mod Heavier
 pub mod Higher

@@ -1,14 +1,17 @@
 -- The walk that lists steps: what is known on the way down, and the steps behind one another.
-use Rattle.std.proofs.Common.{◌≡◌, ◌⊎◌, inl, inr, ℕ, ◌+◌, ◌-◌, ◌*◌, ◌/◌, ◌≤◌, Bool, true, false, List, [], ◌∷◌, ◌++◌, drop, length, Option, Some, None, IfSome, IfOk, Result, Ok, Err, option_map, Contains, refl, sym, ap, ◌∙◌, subst, arith, append_assoc}
-use Rattle.std.specs.Prelude.{MatchOption}
-use Rattle.std.proofs.lemmas.List.{append-nil, drop-append-le, length-append, map-append}
+use Rattle.std.proofs.Common.{◌≡◌, ◌⊎◌, inl, inr, ℕ, ◌+◌, ◌-◌, ◌*◌, ◌/◌, ◌≤◌, leb, leb-true, leb-false, le-leb, Bool, true, false, ◌&&◌, List, [], ◌∷◌, ◌++◌, Option, Some, None, IfSome, IfOk, Result, Ok, Err, option_map, Contains, refl, sym, ap, ◌∙◌, subst, arith, append_assoc}
+use Rattle.std.specs.Prelude.{MatchOption, option_and_then}
+use Rattle.std.proofs.lemmas.List.{append-nil, map-append}
 use Rattle.std.proofs.lemmas.List.Elements.{All-nil, All-cons, All-append, All-contains, Contains-append_left, Contains-append_right, Contains-append_cases}
 use Rattle.std.proofs.lemmas.Option.{none-some, same_Some}
 use Rattle.std.proofs.lemmas.Nat.{mul-le}
 use Rattle.std.proofs.Math.Nat.{div-mul-le_self, mul_comm}
 use Rattle.sample_core.specs.TypeTree.{TypeTree}
-use Rattle.leaf_core.specs.Expression.{Expression}
-use Rattle.leaf_core.specs.Parts.{part}
+use Rattle.leaf_core.specs.Expression.{Expression, height_of, nodes_in}
+use Rattle.leaf_core.specs.ExpressionLimits.{expression_fits, TypedWithin, ExpressionTypedWithin}
+use Rattle.leaf_core.specs.Parts.{part, with_part, with_part_at}
+use Rattle.leaf_core.specs.PartWalk.{part_input, part_type_at}
+use Rattle.leaf_core.proofs.WithinParts.{WithinPart, within_part}
 use Rattle.net_tree.specs.Network.{Network}
 use Rattle.net_tree.specs.Weight.{weight}
 use Rattle.net_tree.specs.Height.{height}
@@ -22,7 +25,7 @@ use Rattle.net_syntax.specs.Standing.{Standing, alone, TreeWithin}
 use Rattle.net_syntax.specs.StandingWalk as W
 use Rattle.net_meaning.specs.TypedNetwork.{TypedNetwork}
 use Rattle.net_meaning.specs.NetworkLimits.{WithinLimits, NetTypedWithin}
-use Rattle.net_types.specs.KeptTypes.{both_there, type_kept}
+use Rattle.net_types.specs.KeptTypes.{same_type, kept_in_leaf, both_there, type_kept}
 use Rattle.net_types.proofs.Holes.{Hole, hole, found_there}
 use Rattle.net_types.proofs.Rewritings.{rewritten, none_unkept}
 use Rattle.cert_check.specs.TreeAnswer.{TreeAnswer}
@@ -36,38 +39,31 @@ use Rattle.net_opt.proofs.Insides.{inside}
 use Rattle.net_opt.proofs.Walked.{found_inside, placed_here, reached_inside}
 use Rattle.net_view.specs.Listed.{InOrder, Lists, AddsPositions, IsInside}
 use Rattle.net_view.specs.Possible.{Possible, EarlierStep, earlier_position, IsFoundBy, IsPossible, ListsSteps, ArePossible, ArePossibleAt, MayBeTaken, changing, possible_of}
-use Rattle.net_view.specs.Spots.{IsRooted, IsAround, MayStand, IsPut, GrowsLittle, HasRoom, AtPositions, AddsSteps, AddsStepsBelow, standing_below, root_below, depth_below}
+use Rattle.net_view.specs.Spots.{IsRoomy, IsRoomyTree, IsNewRoom, IsRoomBelow, fits_there, kept_in_room, kept_below, IsAround, MayStand, GrowsLittle, AtPositions, AddsSteps, AddsStepsBelow}
+use Rattle.net_view.specs.Walked.{inside_tree}
 use Rattle.net_view.specs.declared.possible.PossibleStep.{PossibleStep}
 use Rattle.net_view.proofs.Listings.{order_mapped, lists_same, lists_joined}
 use Rattle.net_view.proofs.Paths.{IsUpTo, inside_at, none_below, order_behind, paths_begin, paths_more, paths_end, found_positions, no_positions}
 use Rattle.net_view.proofs.Stepping.{steps_in, no_positions_yet, steps_more, all_possible, untyped_by}
+use Rattle.net_view.proofs.Putting.{Has, Put, what_is_there, part_put}
 use Rattle.net_view.proofs.Heavier.{whole_times, whole_light}
 use Rattle.net_view.proofs.Higher.{whole_rises, whole_low}
 
 value_is : {X : Type 0} (P : X → Type 0) {o : Option X} {x : X} → o ≡ Some x → IfSome o P → P x
 value_is P e h = subst (λ o. IfSome o P) e h
 
-nothing_dropped : (p : List ℕ) → drop (length p) p ≡ []
-nothing_dropped [] = refl
-nothing_dropped (k ∷ p) = nothing_dropped p
-
-all_dropped : (n : ℕ) (p : List ℕ) → n ≡ length p → drop n p ≡ []
-all_dropped n p e = ap (λ z. drop z p) e ∙ nothing_dropped p
-
 -- the walk begins at the root
-pub around_start : (t : TypedNetwork) (p : List ℕ) (c : Placed) (S : Standing) (u : Tree Expression) (n : ℕ) → WithinLimits t → p ≡ [] → S ≡ alone t.input
-    → c ≡ placed 0 0 (a_network t.net) → u ≡ a_network t.net → n ≡ 0 → IsAround t p c S u n
-around_start t p c S u n w way stands is root none =
-    subst (λ z. IsAround t z c S u n) (sym way)
-    (subst (λ z. IsAround t [] z S u n) (sym is)
-    (subst (λ z. IsAround t [] (placed 0 0 (a_network t.net)) z u n) (sym stands)
-    (subst (λ z. IsAround t [] (placed 0 0 (a_network t.net)) (alone t.input) z n) (sym root)
-    (subst (λ z. IsAround t [] (placed 0 0 (a_network t.net)) (alone t.input) (a_network t.net) z) (sym none) (record {
+pub around_start : (t : TypedNetwork) (p : List ℕ) (c : Placed) (S : Standing) (high more : ℕ) → WithinLimits t → p ≡ [] → S ≡ alone t.input
+    → c ≡ placed 0 0 (a_network t.net) → IsAround t p c S high more
+around_start t p c S high more w way stands is =
+    subst (λ z. IsAround t z c S high more) (sym way)
+    (subst (λ z. IsAround t [] z S high more) (sym is)
+    (subst (λ z. IsAround t [] (placed 0 0 (a_network t.net)) z high more) (sym stands) (record {
       output = t.output;
       typed = w.fits.typed;
-      rooted = (refl, refl);
+      room = tt;
       kept = λ q new. refl;
-    })))))
+    })))
 
 -- a child of a typed network stands where the code finds it, and is typed there
 record Below (S : Standing) (f : Network Expression) (k : ℕ) (v : Tree Expression) : Type 0 where
@@ -81,94 +77,176 @@ below S f k v B d e =
     let h : Hole S.params S.olds S.input B f k v = value_is (Hole S.params S.olds S.input B f k) e (hole d k) in
     record { place = h.place; found = found_there d e h.stands; output = h.out; typed = h.typed }
 
--- a tree is rooted in itself
-own_root : (p : List ℕ) (v u : Tree Expression) (n : ℕ) → u ≡ v → n ≡ length p → IsRooted p v u n
-own_root p (a_network f) u n e l = (e, l)
-own_root p (a_leaf x) u n e l = omega (arith, l)
-
 -- what keeps the type inside a network is what keeps it inside its child
 child_kept : (S R : Standing) (f : Network Expression) (k : ℕ) (v : Tree Expression) (q : List ℕ) (new : Tree Expression) → child f k ≡ Some v → W.inside S f k ≡ Some R
     → type_kept S (a_network f) (k ∷ q) new ≡ type_kept R v q new
 child_kept S R f k v q new e i =
     ap (λ z. both_there z (W.inside S f k) (λ c Q. type_kept Q c q new)) e ∙ ap (λ z. both_there (Some v) z (λ c Q. type_kept Q c q new)) i
 
--- inside a network
-around_child : (t : TypedNetwork) (p r : List ℕ) (k m n : ℕ) (f : Network Expression) (d : Placed) (S R : Standing) (u v : Tree Expression) (c : Placed) → c.tree ≡ a_network f
-    → r ≡ p ++ k ∷ [] → IsAround t p c S u n → u ≡ a_network f → n ≡ length p → child f k ≡ Some d.tree → W.inside S f k ≡ Some R → v ≡ d.tree → m ≡ length r
-    → IsAround t r d R v m
-around_child t p r k m n f d S R u v c is way a root full e i own deep =
-    let typed : NetTypedWithin S.params S.olds f S.input a.output = subst (λ z. TreeWithin S z a.output) root a.typed in
-    let b : Below S f k d.tree = below S f k d.tree a.output typed e in
+-- and inside a whole expression, by what the limits leave it
+kept_anew : (R : Standing) (v : Tree Expression) (B : TypeTree) (high more : ℕ) → TreeWithin R v B → IsNewRoom v high more → (q : List ℕ) (new : Tree Expression)
+    → type_kept R v q new ≡ kept_below high more R v q new
+kept_anew R (a_network f) B high more d room q new = refl
+kept_anew R (a_leaf e) B high more d room q (a_network s) = refl
+kept_anew R (a_leaf e) B high more d room q (a_leaf s) = go (with_part_at e q s)
+  where
+    left : (high ≡ 256) × (nodes_in e + more ≡ 100000)
+    left = room d.whole_fits
+
+    go : (o : Option Expression) → kept_in_leaf R e q o ≡ kept_in_room high more R e q o
+    go None = refl
+    go (Some v) =
+        let same : Bool = same_type (part_type_at R.params R.input e q) (part_type_at R.params R.input v q) in
+        ap (λ z. (leb (height_of v) z && leb (nodes_in v) 100000) && same) (sym left.0) ∙ ap (λ z. (leb (height_of v) high && leb (nodes_in v) z) && same) (sym left.1)
+
+new_room : (R : Standing) (v : Tree Expression) (B : TypeTree) (high more : ℕ) → TreeWithin R v B → IsNewRoom v high more → IsRoomyTree v high more
+new_room R (a_network f) B high more d room = tt
+new_room R (a_leaf e) B high more d room =
+    let left : (high ≡ 256) × (nodes_in e + more ≡ 100000) = room d.whole_fits in
+    record { low = omega (arith, left.0, d.whole_fits.shallow); limit = omega (arith, left.0); few = omega (arith, left.1) }
+
+around_child : (t : TypedNetwork) (p r : List ℕ) (k high more high' more' : ℕ) (f : Network Expression) (c d : Placed) (S R : Standing) → c.tree ≡ a_network f
+    → r ≡ p ++ k ∷ [] → IsAround t p c S high more → child f k ≡ Some d.tree → W.inside S f k ≡ Some R → IsNewRoom d.tree high' more' → IsAround t r d R high' more'
+around_child t p r k high more high' more' f c d S R is way a e i room =
+    let b : Below S f k d.tree = below S f k d.tree a.output (subst (λ z. TreeWithin S z a.output) is a.typed) e in
     let at : b.place ≡ R = same_Some b.place R (sym b.found ∙ i) in
+    let typed : TreeWithin R d.tree b.output = subst (λ z. TreeWithin z d.tree b.output) at b.typed in
     record {
       output = b.output;
-      typed = subst (λ z. TreeWithin R z b.output) (sym own) (subst (λ z. TreeWithin z d.tree b.output) at b.typed);
-      rooted = own_root r d.tree v m own deep;
+      typed = typed;
+      room = new_room R d.tree b.output high' more' typed room;
       kept = λ q new.
           ap (λ (z : List ℕ). type_kept (alone t.input) (a_network t.net) z new) (ap (λ (z : List ℕ). z ++ q) way ∙ append_assoc p (k ∷ []) q)
           ∙ a.kept (k ∷ q) new
-          ∙ ap (λ (z : List ℕ). type_kept S u (z ++ k ∷ q) new) (all_dropped n p full)
-          ∙ ap (λ z. type_kept S z (k ∷ q) new) root
+          ∙ ap (λ z. kept_below high more S z (k ∷ q) new) is
           ∙ child_kept S R f k d.tree q new e i
-          ∙ ap (λ z. type_kept R z q new) (sym own)
-          ∙ ap (λ (z : List ℕ). type_kept R v (z ++ q) new) (sym (all_dropped m r deep));
+          ∙ kept_anew R d.tree b.output high' more' typed room q new;
     }
 
--- inside an expression
-leaf_below : (e : Expression) (k : ℕ) (v : Tree Expression) (r : List ℕ) (u : Tree Expression) (n : ℕ) → inside (a_leaf e) k ≡ Some v → n ≤ length r → IsRooted r v u n
-leaf_below e k v r u n i l = go (part e k) i
+-- two tests that say the same
+same_test : (a b c d : ℕ) → (a ≤ b → c ≤ d) → (c ≤ d → a ≤ b) → leb a b ≡ leb c d
+same_test a b c d to from = go (leb a b) (leb c d) refl refl
   where
-    go : (o : Option Expression) → option_map a_leaf o ≡ Some v → IsRooted r v u n
-    go None j = absurd (none-some v j)
-    go (Some x) j = subst (λ z. IsRooted r z u n) (same_Some (a_leaf x) v j) l
+    go : (x y : Bool) → leb a b ≡ x → leb c d ≡ y → x ≡ y
+    go true true i j = refl
+    go false false i j = refl
+    go true false i j = absurd (omega (arith, to (leb-true a b i), leb-false c d j))
+    go false true i j = absurd (omega (arith, from (leb-true c d j), leb-false a b i))
 
-around_part : (t : TypedNetwork) (p r : List ℕ) (k m n : ℕ) (e : Expression) (d : Placed) (S R : Standing) (u v : Tree Expression) (c : Placed) → c.tree ≡ a_leaf e
-    → r ≡ p ++ k ∷ [] → IsAround t p c S u n → n ≤ length p → inside (a_leaf e) k ≡ Some d.tree → S ≡ R → v ≡ u → m ≡ n → IsAround t r d R v m
-around_part t p r k m n e d S R u v c is way a few i at same deep =
-    let long : length r ≡ length p + 1 = ap (λ (z : List ℕ). length z) way ∙ length-append p (k ∷ []) in
-    let split : drop n r ≡ drop n p ++ k ∷ [] = ap (drop n) way ∙ drop-append-le n p (k ∷ []) few in
+all_same : (a b c d : Bool) (x y z w : Option TypeTree) → a ≡ c → b ≡ d → x ≡ z → y ≡ w → ((a && b) && same_type x y) ≡ ((c && d) && same_type z w)
+all_same a b c d x y z w i j k l =
+    ap (λ u. (u && b) && same_type x y) i ∙ (ap (λ u. (c && u) && same_type x y) j ∙ (ap (λ u. (c && d) && same_type u y) k ∙ ap (λ u. (c && d) && same_type z u) l))
+
+-- what is found at a path, found at its rest in the part
+type_inside : (Ps : List TypeTree) (A D : TypeTree) (e x : Expression) (k : ℕ) (q : List ℕ) → part e k ≡ Some x → part_input Ps A e k ≡ Some D
+    → part_type_at Ps A e (k ∷ q) ≡ part_type_at Ps D x q
+type_inside Ps A D e x k q j f =
+    ap (option_and_then (λ z. option_and_then (λ X. part_type_at Ps X z q) (part_input Ps A e k))) j ∙ ap (option_and_then (λ X. part_type_at Ps X x q)) f
+
+-- what keeps the type inside an expression is what keeps it inside its part, where the whole gets higher and larger as the part does
+module _ (S : Standing) (e x : Expression) (k high more : ℕ) (B : TypeTree) (room : IsRoomy e high more) (there : part e k ≡ Some x)
+    (w : WithinPart S.params S.input B e k x) where
+  abbrev Changed : Expression → Expression → Type 0
+  Changed d v = (part v k ≡ Some d) × (part_input S.params S.input v k ≡ Some w.input) × (TypedWithin d S.params w.input w.output → TypedWithin v S.params S.input B)
+
+  kept_with : (q : List ℕ) (d : Expression) (o : Option Expression) → Has o (λ v. Put x d (height_of e) (nodes_in e) (height_of v) (nodes_in v)) → IfSome o (Changed d)
+      → kept_in_room high more S e (k ∷ q) o ≡ kept_in_room (high - 1) more (W.taking S w.input) x q (Some d)
+  kept_with q d None h i = absurd h
+  kept_with q d (Some v) h i =
+      all_same (leb (height_of v) high) (leb (nodes_in v) (nodes_in e + more)) (leb (height_of d) (high - 1)) (leb (nodes_in d) (nodes_in x + more))
+      (part_type_at S.params S.input e (k ∷ q)) (part_type_at S.params S.input v (k ∷ q)) (part_type_at S.params w.input x q) (part_type_at S.params w.input d q)
+      (same_test (height_of v) high (height_of d) (high - 1) (λ l. omega (arith, l, h.above)) (λ l. omega (arith, l, h.below, h.lower, room.low)))
+      (same_test (nodes_in v) (nodes_in e + more) (nodes_in d) (nodes_in x + more) (λ l. omega (arith, l, h.nodes)) (λ l. omega (arith, l, h.nodes)))
+      (type_inside S.params S.input w.input e x k q there w.found) (type_inside S.params S.input w.input v d k q i.0 i.1)
+
+  kept_changed : (q : List ℕ) (o : Option Expression)
+      → kept_in_room high more S e (k ∷ q) (option_and_then (with_part e k) o) ≡ kept_in_room (high - 1) more (W.taking S w.input) x q o
+  kept_changed q None = refl
+  kept_changed q (Some d) =
+      kept_with q d (with_part e k d)
+      (value_is (λ z. Has (with_part e k d) (λ v. Put z d (height_of e) (nodes_in e) (height_of v) (nodes_in v))) there (part_put e k d)) (w.put d)
+
+  part_kept : (q : List ℕ) (new : Tree Expression) → kept_below high more S (a_leaf e) (k ∷ q) new ≡ kept_below (high - 1) more (W.taking S w.input) (a_leaf x) q new
+  part_kept q (a_network s) = refl
+  part_kept q (a_leaf s) =
+      ap (λ o. kept_in_room high more S e (k ∷ q) (option_and_then (λ z. option_and_then (with_part e k) (with_part_at z q s)) o)) there
+      ∙ kept_changed q (with_part_at x q s)
+
+  -- there is as much room as there was
+  part_room : IsRoomy x (high - 1) more
+  part_room =
+      let h = value_is (λ z. Has (with_part e k x) (λ v. Put z x (height_of e) (nodes_in e) (height_of v) (nodes_in v))) there (part_put e k x) in
+      let put = what_is_there (λ v. Put x x (height_of e) (nodes_in e) (height_of v) (nodes_in v)) (with_part e k x) h in
+      record { low = omega (arith, put.2.lower, room.low); limit = omega (arith, room.limit); few = omega (arith, put.2.fewer, room.few) }
+
+  part_within : TreeWithin (W.taking S w.input) (a_leaf x) w.output
+  part_within = record {
+    whole_fits = record { shallow = omega (arith, part_room.low, part_room.limit); small = omega (arith, part_room.few) };
+    checked = w.typed;
+  }
+
+around_part : (t : TypedNetwork) (p r : List ℕ) (k high more : ℕ) (e x : Expression) (c d : Placed) (S R : Standing) → c.tree ≡ a_leaf e → r ≡ p ++ k ∷ []
+    → IsAround t p c S high more → part e k ≡ Some x → d.tree ≡ a_leaf x → inside_tree S (a_leaf e) k ≡ Some R → IsAround t r d R (high - 1) more
+around_part t p r k high more e x c d S R is way a there own stands =
+    let whole : ExpressionTypedWithin e S.params S.input a.output = subst (λ z. TreeWithin S z a.output) is a.typed in
+    let room : IsRoomy e high more = subst (λ z. IsRoomyTree z high more) is a.room in
+    let w : WithinPart S.params S.input a.output e k x =
+    value_is (WithinPart S.params S.input a.output e k) there (within_part whole.checked.given whole.checked.fits k) in
+    let at : W.taking S w.input ≡ R = same_Some (W.taking S w.input) R (sym (ap (option_map (W.taking S)) w.found) ∙ stands) in
     record {
-      output = a.output;
-      typed = subst (λ z. TreeWithin R z a.output) (sym same) (subst (λ z. TreeWithin z u a.output) at a.typed);
-      rooted = leaf_below e k d.tree r v m i (omega (arith, long, few, deep));
+      output = w.output;
+      typed = subst (λ z. TreeWithin R z w.output) (sym own) (subst (λ z. TreeWithin z (a_leaf x) w.output) at (part_within S e x k high more a.output room there w));
+      room = subst (λ z. IsRoomyTree z (high - 1) more) (sym own) (part_room S e x k high more a.output room there w);
       kept = λ q new.
           ap (λ (z : List ℕ). type_kept (alone t.input) (a_network t.net) z new) (ap (λ (z : List ℕ). z ++ q) way ∙ append_assoc p (k ∷ []) q)
           ∙ a.kept (k ∷ q) new
-          ∙ ap (λ (z : List ℕ). type_kept S u z new) (sym (append_assoc (drop n p) (k ∷ []) q))
-          ∙ ap (λ (z : List ℕ). type_kept S u (z ++ q) new) (sym split)
-          ∙ ap (λ z. type_kept z u (drop n r ++ q) new) at
-          ∙ ap (λ z. type_kept R z (drop n r ++ q) new) (sym same)
-          ∙ ap (λ z. type_kept R v (drop z r ++ q) new) (sym deep);
+          ∙ ap (λ z. kept_below high more S z (k ∷ q) new) is
+          ∙ part_kept S e x k high more a.output room there w q new
+          ∙ ap (λ z. kept_below (high - 1) more z (a_leaf x) q new) at
+          ∙ ap (λ z. kept_below (high - 1) more R z q new) (sym own);
     }
 
 -- the walk goes on inside what it has come to
-pub around_inside : (t : TypedNetwork) (p r : List ℕ) (k m n : ℕ) (c d : Placed) (S R : Standing) (u v : Tree Expression) → r ≡ p ++ k ∷ [] → IsAround t p c S u n
-    → placed_at c.params c.olds c.tree (k ∷ []) ≡ Some d → standing_below S c.tree k ≡ Some R → v ≡ root_below c.tree u d.tree
-    → m ≡ depth_below c.tree n (length r) → IsAround t r d R v m
-around_inside t p r k m n c d S R u v way a found stands own deep =
-    go c.tree refl a.rooted (found_inside c d k found) stands own deep
+around_inside : (t : TypedNetwork) (p r : List ℕ) (k high more high' more' : ℕ) (c d : Placed) (S R : Standing) → r ≡ p ++ k ∷ [] → IsAround t p c S high more
+    → placed_at c.params c.olds c.tree (k ∷ []) ≡ Some d → inside_tree S c.tree k ≡ Some R → IsRoomBelow c.tree d.tree high more high' more'
+    → IsAround t r d R high' more'
+around_inside t p r k high more high' more' c d S R way a found stands left = go c.tree refl (found_inside c d k found) stands left
   where
-    go : (x : Tree Expression) → c.tree ≡ x → IsRooted p x u n → inside x k ≡ Some d.tree → standing_below S x k ≡ Some R → v ≡ root_below x u d.tree
-        → m ≡ depth_below x n (length r) → IsAround t r d R v m
-    go (a_network f) is root i j own deep = around_child t p r k m n f d S R u v c is way a root.0 root.1 i j own deep
-    go (a_leaf e) is few i j own deep = around_part t p r k m n e d S R u v c is way a few i (same_Some S R j) own deep
+    in_part : (e : Expression) → c.tree ≡ a_leaf e → (o : Option Expression) → part e k ≡ o → option_map a_leaf o ≡ Some d.tree → inside_tree S (a_leaf e) k ≡ Some R
+        → (high' ≡ high - 1) × (more' ≡ more) → IsAround t r d R high' more'
+    in_part e is None i h j l = absurd (none-some d.tree h)
+    in_part e is (Some x) i h j l =
+        subst (λ z. IsAround t r d R z more') (sym l.0)
+        (subst (λ z. IsAround t r d R (high - 1) z) (sym l.1) (around_part t p r k high more e x c d S R is way a i (sym (same_Some (a_leaf x) d.tree h)) j))
 
-pub spot_inside : (t : TypedNetwork) (p r : List ℕ) (k m n : ℕ) (c d e : Placed) (S R : Standing) (u v : Tree Expression) → r ≡ p ++ k ∷ [] → Reached t p c → IsAround t p c S u n
-    → placed_at c.params c.olds c.tree (k ∷ []) ≡ Some d → standing_below S c.tree k ≡ Some R → e ≡ d → v ≡ root_below c.tree u d.tree
-    → m ≡ depth_below c.tree n (length r) → Reached t r e × IsAround t r e R v m
-spot_inside t p r k m n c d e S R u v way reached around found stands same own deep = (
+    go : (u : Tree Expression) → c.tree ≡ u → inside u k ≡ Some d.tree → inside_tree S u k ≡ Some R → IsRoomBelow u d.tree high more high' more'
+        → IsAround t r d R high' more'
+    go (a_network f) is i j l = around_child t p r k high more high' more' f c d S R is way a i j l
+    go (a_leaf e) is i j l = in_part e is (part e k) refl i j l
+
+pub spot_inside : (t : TypedNetwork) (p r : List ℕ) (k high more high' more' : ℕ) (c d e : Placed) (S R : Standing) → r ≡ p ++ k ∷ [] → Reached t p c
+    → IsAround t p c S high more → placed_at c.params c.olds c.tree (k ∷ []) ≡ Some d → inside_tree S c.tree k ≡ Some R → e ≡ d
+    → IsRoomBelow c.tree d.tree high more high' more' → Reached t r e × IsAround t r e R high' more'
+spot_inside t p r k high more high' more' c d e S R way reached around found stands same left = (
   subst (λ z. Reached t r z) (sym same) (subst (λ z. Reached t z d) (sym way) (reached_inside t p k c d reached found)),
-  subst (λ z. IsAround t r z R v m) (sym same) (around_inside t p r k m n c d S R u v way around found stands own deep),
+  subst (λ z. IsAround t r z R high' more') (sym same) (around_inside t p r k high more high' more' c d S R way around found stands left),
 )
 
-pub stands_below : (t : TypedNetwork) (p : List ℕ) (k n : ℕ) (c d : Placed) (S : Standing) (u : Tree Expression) → IsAround t p c S u n
-    → placed_at c.params c.olds c.tree (k ∷ []) ≡ Some d → standing_below S c.tree k ≡ None → ⊥
-stands_below t p k n c d S u a found none = go c.tree a.rooted (found_inside c d k found) none
+pub stands_below : (t : TypedNetwork) (p : List ℕ) (k high more : ℕ) (c d : Placed) (S : Standing) → IsAround t p c S high more
+    → placed_at c.params c.olds c.tree (k ∷ []) ≡ Some d → inside_tree S c.tree k ≡ None → ⊥
+stands_below t p k high more c d S a found none = go c.tree a.typed (found_inside c d k found) none
   where
-    go : (x : Tree Expression) → IsRooted p x u n → inside x k ≡ Some d.tree → standing_below S x k ≡ None → ⊥
-    go (a_network f) root i j =
-        let b : Below S f k d.tree = below S f k d.tree a.output (subst (λ z. TreeWithin S z a.output) root.0 a.typed) i in none-some b.place (sym j ∙ b.found)
-    go (a_leaf e) root i j = none-some S (sym j)
+    in_part : (e : Expression) → ExpressionTypedWithin e S.params S.input a.output → (o : Option Expression) → part e k ≡ o → option_map a_leaf o ≡ Some d.tree
+        → inside_tree S (a_leaf e) k ≡ None → ⊥
+    in_part e whole None i h j = none-some d.tree h
+    in_part e whole (Some x) i h j =
+        let w : WithinPart S.params S.input a.output e k x =
+        value_is (WithinPart S.params S.input a.output e k) i (within_part whole.checked.given whole.checked.fits k) in
+        none-some (W.taking S w.input) (sym j ∙ ap (option_map (W.taking S)) w.found)
+
+    go : (u : Tree Expression) → TreeWithin S u a.output → inside u k ≡ Some d.tree → inside_tree S u k ≡ None → ⊥
+    go (a_network f) typed i j = let b : Below S f k d.tree = below S f k d.tree a.output typed i in none-some b.place (sym j ∙ b.found)
+    go (a_leaf e) typed i j = in_part e typed (part e k) refl i j
 
 -- what the measures tell
 pub little : (t : TypedNetwork) (g h : Network Expression) (bw bh aw ah m times rise : ℕ) → WithinLimits t → bw ≡ weight g [] → bh ≡ height g [] → aw ≡ weight h []
@@ -186,57 +264,95 @@ little t g h bw bh aw ah m times rise w is_bw is_bh is_aw is_ah most is_times is
       higher = omega (arith, is_ah, is_bh, high);
     }
 
--- no more numbers lead to the root than to the tree
-pub not_deeper : (t : TypedNetwork) (p : List ℕ) (c : Placed) (S : Standing) (u : Tree Expression) (n : ℕ) → IsAround t p c S u n → n ≤ length p
-not_deeper t p c S u n a = go c.tree a.rooted
+-- the network with the tree at the position, within the limits of weight and height
+record Fitting (t : TypedNetwork) (p : List ℕ) (new : Tree Expression) : Type 0 where
+  net : Network Expression
+  made : replaced (a_network t.net) p new ≡ Some (a_network net)
+  light : weight net [] ≤ 1000000
+  low : height net [] ≤ 256
+
+one_network : (u v : Network Expression) → a_network u ≡ a_network v → u ≡ v
+one_network u v e = ap (λ z. network_in z) e
   where
-    go : (x : Tree Expression) → IsRooted p x u n → n ≤ length p
-    go (a_network f) root = omega (arith, root.1)
-    go (a_leaf e) few = few
+    network_in : Tree Expression → Network Expression
+    network_in (a_network f) = f
+    network_in (a_leaf e) = u
 
--- the limits leave the whole room
-pub room_whole : (t : TypedNetwork) (p : List ℕ) (c : Placed) (new : Tree Expression) (v : Network Expression) → Reached t p c → HasRoom t c.olds c.tree new
-    → replaced (a_network t.net) p new ≡ Some (a_network v) → (weight v [] ≤ 1000000) × (height v [] ≤ 256)
-room_whole t p c new v r h q = go c.params c.olds c.tree new r.stands h q
-  where
-    go : (m n : ℕ) (u s : Tree Expression) → placed_at 0 0 (a_network t.net) p ≡ Some (placed m n u) → HasRoom t n u s → replaced (a_network t.net) p s ≡ Some (a_network v)
-        → (weight v [] ≤ 1000000) × (height v [] ≤ 256)
-    go m n (a_network g) (a_network s) i h q =
-        let l : GrowsLittle t g s = h.1 in
-        let at : placed_at 0 0 (a_network t.net) p ≡ Some (placed m 0 (a_network g)) = i ∙ ap (λ z. Some (placed m z (a_network g))) h.0 in
-        let heavy : weight v [] ≤ l.times * weight t.net [] = whole_times l.times t.net v p g s m at q l.heavier in
-        let high : height v [] ≤ l.rise + height t.net [] = whole_rises l.rise t.net v p g s m at q l.higher in
-        let light : l.times * weight t.net [] ≤ 1000000 = subst (λ z. l.times * z ≤ 1000000) r.within.its_weight l.light in
-        (omega (arith, heavy, light), omega (arith, high, l.low, r.within.its_height))
-    go m n (a_network g) (a_leaf s) i h q = absurd h
-    go m n (a_leaf e) (a_network s) i h q = absurd h
-    go m n (a_leaf e) (a_leaf s) i h q =
-        (omega (arith, whole_light t.net v p e s m n i q, r.within.fits.light), omega (arith, whole_low t.net v p e s m n i q, r.within.fits.low))
+fitting : (t : TypedNetwork) (p : List ℕ) (new : Tree Expression) (u v : Network Expression) → replaced (a_network t.net) p new ≡ Some (a_network u)
+    → replaced (a_network t.net) p new ≡ Some (a_network v) → weight u [] ≤ 1000000 → height v [] ≤ 256 → Fitting t p new
+fitting t p new u v i j light low = record {
+  net = u;
+  made = i;
+  light = light;
+  low = subst (λ z. height z [] ≤ 256) (one_network v u (same_Some (a_network v) (a_network u) (sym j ∙ i))) low;
+}
 
--- what the types and the room tell
-pub stands_kept : (t : TypedNetwork) (p inner : List ℕ) (c : Placed) (S : Standing) (u : Tree Expression) (n : ℕ) (new : Tree Expression) (put kept : Bool) → Reached t p c
-    → IsAround t p c S u n → HasRoom t c.olds c.tree new → IsPut t p new put → put ≡ true → inner ≡ drop n p → kept ≡ type_kept S u inner new → MayStand t p new kept
-stands_kept t p inner c S u n new put kept r a room is there way same = go kept refl
-  where
-    found : IsPut t p new true
-    found = subst (IsPut t p new) there is
+network_fits : (t : TypedNetwork) (p : List ℕ) (c : Placed) (g s : Network Expression) → Reached t p c → c.tree ≡ a_network g → c.olds ≡ 0 → GrowsLittle t g s
+    → Fitting t p (a_network s)
+network_fits t p c g s r is none l =
+    let at : placed_at 0 0 (a_network t.net) p ≡ Some (placed c.params 0 (a_network g)) =
+    r.stands ∙ (ap (λ z. Some (placed c.params c.olds z)) is ∙ ap (λ z. Some (placed c.params z (a_network g))) none) in
+    let heavy = whole_times l.times t.net p g s c.params at l.heavier in
+    let high = whole_rises l.rise t.net p g s c.params at l.higher in
+    let light : l.times * weight t.net [] ≤ 1000000 = subst (λ z. l.times * z ≤ 1000000) r.within.its_weight l.light in
+    fitting t p (a_network s) heavy.0 high.0 heavy.1 high.1 (omega (arith, heavy.2, light)) (omega (arith, high.2, l.low, r.within.its_height))
 
-    whole : (b : Bool) → kept ≡ b → type_kept (alone t.input) (a_network t.net) p new ≡ b
-    whole b e =
-        ap (λ (z : List ℕ). type_kept (alone t.input) (a_network t.net) z new) (sym (append-nil p)) ∙ a.kept [] new
-        ∙ ap (λ (z : List ℕ). type_kept S u z new) (append-nil (drop n p) ∙ sym way) ∙ sym same ∙ e
+part_fits : (t : TypedNetwork) (p : List ℕ) (c : Placed) (e s : Expression) → Reached t p c → c.tree ≡ a_leaf e → Fitting t p (a_leaf s)
+part_fits t p c e s r is =
+    let at : placed_at 0 0 (a_network t.net) p ≡ Some (placed c.params c.olds (a_leaf e)) = r.stands ∙ ap (λ z. Some (placed c.params c.olds z)) is in
+    let heavy = whole_light t.net p e s c.params c.olds at in
+    let high = whole_low t.net p e s c.params c.olds at in
+    fitting t p (a_leaf s) heavy.0 high.0 heavy.1 high.1 (omega (arith, heavy.2, r.within.fits.light)) (omega (arith, high.2, r.within.fits.low))
 
-    go : (b : Bool) → kept ≡ b → MayStand t p new kept
-    go true e =
-        let l = room_whole t p c new found.0 r room found.1 in
-        subst (MayStand t p new) (sym e) (
-          record { input = t.input; output = t.output; net = found.0; weight = weight found.0 []; height = height found.0 [] },
-          rewritten t p new t.input t.output found.0 (weight found.0 []) (height found.0 []) r.within found.1 refl refl (whole true e) (omega (arith, l.0)) (omega (arith, l.1)) l.0 l.1,
-        )
-    go false e = subst (MayStand t p new) (sym e) (none_unkept t p new found.0 r.within found.1 (whole false e))
+-- what the types tell
+told : (t : TypedNetwork) (p : List ℕ) (new : Tree Expression) (kept : Bool) → WithinLimits t → Fitting t p new
+    → type_kept (alone t.input) (a_network t.net) p new ≡ kept → MayStand t p new kept
+told t p new true w f e = (
+  record { input = t.input; output = t.output; net = f.net; weight = weight f.net []; height = height f.net [] },
+  rewritten t p new t.input t.output f.net (weight f.net []) (height f.net []) w f.made refl refl e (omega (arith, f.light)) (omega (arith, f.low)) f.light f.low,
+)
+told t p new false w f e = none_unkept t p new f.net w f.made e
 
-pub nowhere_put : (t : TypedNetwork) (p : List ℕ) (new : Tree Expression) (put : Bool) → IsPut t p new put → put ≡ false → MayStand t p new false
-nowhere_put t p new put is none = λ u x. none-some (a_network u.net) (sym (subst (IsPut t p new) none is) ∙ x.result)
+kept_there : (t : TypedNetwork) (p : List ℕ) (c : Placed) (S : Standing) (high more : ℕ) (u new : Tree Expression) → IsAround t p c S high more → c.tree ≡ u
+    → type_kept (alone t.input) (a_network t.net) p new ≡ kept_below high more S u [] new
+kept_there t p c S high more u new a is =
+    ap (λ (z : List ℕ). type_kept (alone t.input) (a_network t.net) z new) (sym (append-nil p)) ∙ (a.kept [] new ∙ ap (λ z. kept_below high more S z [] new) is)
+
+-- in a network
+pub network_stands : (t : TypedNetwork) (p : List ℕ) (c : Placed) (S : Standing) (high more : ℕ) (g s : Network Expression) (kept : Bool) → Reached t p c
+    → IsAround t p c S high more → c.tree ≡ a_network g → c.olds ≡ 0 → GrowsLittle t g s → kept ≡ type_kept S (a_network g) [] (a_network s)
+    → MayStand t p (a_network s) kept
+network_stands t p c S high more g s kept r a is none l same =
+    told t p (a_network s) kept r.within (network_fits t p c g s r is none l) (kept_there t p c S high more (a_network g) (a_network s) a is ∙ sym same)
+
+-- in an expression: one that is within the room is within the limits
+and_true : (a b : Bool) → (a && b) ≡ true → (a ≡ true) × (b ≡ true)
+and_true true true e = (refl, refl)
+and_true true false e = absurd (cc)
+and_true false b e = absurd (cc)
+
+fits_alone : (e s : Expression) (high more : ℕ) → IsRoomy e high more → fits_there high more e s ≡ true → expression_fits s ≡ true
+fits_alone e s high more room fits =
+    let both = and_true (leb (height_of s) high) (leb (nodes_in s) (nodes_in e + more)) fits in
+    let low : leb (height_of s) 256 ≡ true = le-leb (height_of s) 256 (omega (arith, leb-true (height_of s) high both.0, room.limit)) in
+    let few : leb (nodes_in s) 100000 ≡ true =
+    le-leb (nodes_in s) 100000 (omega (arith, leb-true (nodes_in s) (nodes_in e + more) both.1, room.few)) in
+    ap (λ z. z && leb (nodes_in s) 100000) low ∙ few
+
+pub part_stands : (t : TypedNetwork) (p : List ℕ) (c : Placed) (S : Standing) (high more : ℕ) (e s : Expression) (kept : Bool) → Reached t p c
+    → IsAround t p c S high more → c.tree ≡ a_leaf e → fits_there high more e s ≡ true → kept ≡ type_kept S (a_leaf e) [] (a_leaf s) → MayStand t p (a_leaf s) kept
+part_stands t p c S high more e s kept r a is fits same =
+    let room : IsRoomy e high more = subst (λ z. IsRoomyTree z high more) is a.room in
+    let types : Bool = same_type (part_type_at S.params S.input e []) (part_type_at S.params S.input s []) in
+    told t p (a_leaf s) kept r.within (part_fits t p c e s r is)
+    (kept_there t p c S high more (a_leaf e) (a_leaf s) a is ∙ (ap (λ z. z && types) (fits ∙ sym (fits_alone e s high more room fits)) ∙ sym same))
+
+pub part_too_large : (t : TypedNetwork) (p : List ℕ) (c : Placed) (S : Standing) (high more : ℕ) (e s : Expression) → Reached t p c → IsAround t p c S high more
+    → c.tree ≡ a_leaf e → fits_there high more e s ≡ false → MayStand t p (a_leaf s) false
+part_too_large t p c S high more e s r a is fits =
+    told t p (a_leaf s) false r.within (part_fits t p c e s r is)
+    (kept_there t p c S high more (a_leaf e) (a_leaf s) a is
+    ∙ ap (λ z. z && same_type (part_type_at S.params S.input e []) (part_type_at S.params S.input s [])) fits)
 
 -- the step by a law whose answer may stand there, and none where it may not
 pub found_by : (t : TypedNetwork) (p : List ℕ) (law : Law) (c : Placed) (new : Tree Expression) (found : Option Possible) → Reached t p c
@@ -264,11 +380,17 @@ pub none_by : (t : TypedNetwork) (p : List ℕ) (law : Law) (c : Placed) (new : 
 none_by t p law c new r answer may = untyped_by t p c.params c.olds c.tree new law r.stands answer may
 
 -- what the code answers
-pub ok_kept : {E : Type 0} (t : TypedNetwork) (p inner : List ℕ) (c : Placed) (S : Standing) (u : Tree Expression) (n : ℕ) (new : Tree Expression) (put : Bool) (r : Result Bool E)
-    → Reached t p c → IsAround t p c S u n → HasRoom t c.olds c.tree new → IsPut t p new put → put ≡ true → inner ≡ drop n p
-    → IfOk r (λ kept. kept ≡ type_kept S u inner new) → IfOk r (MayStand t p new)
-ok_kept t p inner c S u n new put (Ok kept) r a room is there way same = stands_kept t p inner c S u n new put kept r a room is there way same
-ok_kept t p inner c S u n new put (Err m) r a room is there way same = tt
+pub ok_network : {E : Type 0} (t : TypedNetwork) (p : List ℕ) (c : Placed) (S : Standing) (high more : ℕ) (g s : Network Expression) (r : Result Bool E) → Reached t p c
+    → IsAround t p c S high more → c.tree ≡ a_network g → c.olds ≡ 0 → GrowsLittle t g s → IfOk r (λ kept. kept ≡ type_kept S (a_network g) [] (a_network s))
+    → IfOk r (MayStand t p (a_network s))
+ok_network t p c S high more g s (Ok kept) r a is none l same = network_stands t p c S high more g s kept r a is none l same
+ok_network t p c S high more g s (Err m) r a is none l same = tt
+
+pub ok_part : {E : Type 0} (t : TypedNetwork) (p : List ℕ) (c : Placed) (S : Standing) (high more : ℕ) (e s : Expression) (r : Result Bool E) → Reached t p c
+    → IsAround t p c S high more → c.tree ≡ a_leaf e → fits_there high more e s ≡ true → IfOk r (λ kept. kept ≡ type_kept S (a_leaf e) [] (a_leaf s))
+    → IfOk r (MayStand t p (a_leaf s))
+ok_part t p c S high more e s (Ok kept) r a is fits same = part_stands t p c S high more e s kept r a is fits same
+ok_part t p c S high more e s (Err m) r a is fits same = tt
 
 pub answers : (law : Law) (c : Placed) (new : C.Tree) (answer : Option C.Tree) → answer ≡ Some new → IsTreeAnswer c.olds law Forward c.tree None answer
     → TreeAnswer c.olds law Forward c.tree None (part_of new)

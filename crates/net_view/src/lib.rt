@@ -17,6 +17,7 @@ mod cut;
 mod forms;
 mod inner;
 mod may_stand;
+mod nodes;
 mod positions;
 mod possible;
 mod rows;

@@ -1,16 +1,18 @@
 // Whether another tree may stand at a place of a network.
 
 ghost use Rattle.std.specs.Prelude.{◌≡◌, IfOk, IsTrue};
-ghost use Rattle.net_tree.specs.LawStep.{seen};
+ghost use Rattle.leaf_core.specs.ExpressionView.{expression_of};
+ghost use Rattle.net_tree.specs.LawStep.{part_of, seen};
+ghost use Rattle.net_tree.specs.NetworkView.{tree_of};
 ghost use Rattle.net_syntax.specs.{ChildParts.seen_place, StandingWalk.standing_of};
-ghost use Rattle.net_tree.specs.{LawStep.part_of, NetworkView.tree_of};
 ghost use Rattle.net_meaning.specs.NetworkLimits.{WithinLimits};
 ghost use Rattle.net_opt.specs.Walk.{Reached};
-ghost use Rattle.net_view.specs.Spots.{GrowsLittle, HasRoom, IsAround, IsPut, MayStand};
+ghost use Rattle.net_view.specs.Spots.{GrowsLittle, IsAround, IsRoomy, MayStand, fits_there};
 
+use crate::nodes::nodes_left;
 use crate::spot::Spot;
-use leaf_core::Expr;
-use net_syntax::{Place, Standing, TypedNet, replace};
+use leaf_core::{Expr, MOST_EXPR_HEIGHT, MOST_EXPR_NODES};
+use net_syntax::{Standing, TypedNet};
 use net_tree::{
     MOST_HEIGHT, MOST_SIZE, MOST_WEIGHT, Measures, Net, Position, Tree, TreeRef, measured,
 };
@@ -30,17 +32,24 @@ pub(crate) fn may_stand(
 ) -> Result<bool, Memory>
     requires reached { Reached net.now path.now (seen_place spot.place) }
     requires around { IsAround net.now path.now (seen_place spot.place) (standing_of at.now)
-        (seen spot.root) spot.depth }
+        spot.height spot.more }
     ensures { IfOk result (MayStand net.now path.now (part_of new.now)) }
 {
-    if !has_room(alloc, net, spot.place, new)? {
-        return may_stand_in_whole(alloc, net, path, new);
+    match (spot.place.tree, new) {
+        (TreeRef::Expr(before), Tree::Expr(after)) => {
+            if !fits_there(spot.height, spot.more, before, after) {
+                return Ok(false);
+            }
+            keeps_type_at(alloc, at, TreeRef::Expr(before), &[], new)
+        }
+        (TreeRef::Net(before), Tree::Net(after)) if spot.place.olds == 0 => {
+            if !grows_little(alloc, net, before, after)? {
+                return may_stand_in_whole(alloc, net, path, new);
+            }
+            keeps_type_at(alloc, at, TreeRef::Net(before), &[], new)
+        }
+        _ => may_stand_in_whole(alloc, net, path, new),
     }
-    if !is_put(alloc, net, path, new)? {
-        return Ok(false);
-    }
-    let (_, inner) = path.split_at(spot.depth);
-    keeps_type_at(alloc, at, spot.root, inner, new)
 }
 
 /// The same, found of the whole.
@@ -67,34 +76,17 @@ fn may_stand_in_whole(
     }
 }
 
-/// Whether the tree can be put at the path: something of its kind is there.
-fn is_put(alloc: Global, net: &TypedNet, path: &[u32], new: &Tree) -> Result<bool, Memory>
-    ensures { IfOk result (IsPut net.now path.now (part_of new.now)) }
+/// Whether the second expression is at most so high, and has at most so many nodes more than the
+/// first.
+fn fits_there(height: u32, more: u32, before: &Expr, after: &Expr) -> bool
+    requires { IsRoomy (expression_of before.now) height more }
+    ensures { result
+        ≡ fits_there height more (expression_of before.now) (expression_of after.now) }
 {
-    let position = Position::of_node(alloc, path)?;
-    match replace(alloc, net.net(), &position, new)? {
-        Some(changed) => {
-            drop(changed);
-            Ok(true)
-        }
-        None => Ok(false),
-    }
-}
-
-/// Whether the limits leave the whole room for the tree at the place, by what it measures there and
-/// by what the whole measures. Where frozen networks are in scope, it isn't known.
-fn has_room(alloc: Global, net: &TypedNet, place: Place<'_>, new: &Tree) -> Result<bool, Memory>
-    requires { WithinLimits net.now }
-    ensures { IfOk result (λ roomy. IsTrue roomy
-        → HasRoom net.now place.entry.olds (seen place.entry.tree) (part_of new.now)) }
-{
-    match (place.tree, new) {
-        (TreeRef::Net(before), Tree::Net(after)) if place.olds == 0 => {
-            grows_little(alloc, net, before, after)
-        }
-        (TreeRef::Expr(_), Tree::Expr(_)) => Ok(true),
-        _ => Ok(false),
-    }
+    let Some(others) = nodes_left(before, MOST_EXPR_HEIGHT, MOST_EXPR_NODES) else {
+        unreachable!()
+    };
+    nodes_left(after, height, MOST_EXPR_NODES - others + more).is_some()
 }
 
 /// Whether the network may stand for the other one, with no frozen networks in scope: the whole gets

@@ -12,8 +12,9 @@ ghost use Rattle.net_view.specs.Listed.{IsInside};
 ghost use Rattle.net_view.specs.Possible.{ArePossible, ArePossibleAt, IsFoundBy, changing, law_rank, possible_of};
 ghost use Rattle.net_view.specs.Spots.{AddsSteps, AddsStepsBelow, IsAround};
 
+use crate::inner::standing_inside;
 use crate::may_stand::may_stand;
-use crate::spot::{Spot, spot_below, standing_below};
+use crate::spot::{Spot, spot_at, spot_below};
 use crate::trace::Change;
 use cert_check::answer_at;
 use net_syntax::{Place, Standing, TypedNet, place_below};
@@ -37,9 +38,9 @@ pub struct PossibleStep {
 /// preorder and at each by the laws' numbers; none where the position isn't there. `Memory` if
 /// allocation fails.
 ///
-/// Types are found on the way down. Where a step's law fits, the part that it changes is typed and
-/// measured, and of the whole only what the limits leave is asked; the whole is measured only where
-/// that isn't enough, or frozen networks are in scope.
+/// Types are found on the way down, and so is what the limits leave. Where a step's law fits, the
+/// part that it changes is typed and measured; the whole network is measured only where one in it
+/// may then be too heavy or too high, or frozen networks are in scope.
 pub fn possible_steps(
     alloc: Global,
     net: &TypedNet,
@@ -47,16 +48,11 @@ pub fn possible_steps(
 ) -> Result<Vec<PossibleStep>, Memory>
     ensures { IfOk result (λ steps. ArePossible net.now position.now (map possible_of steps.items)) }
 {
-    let tree = TreeRef::Net(net.net());
-    let whole = Spot {
-        place: Place {
-            tree,
-            params: 0,
-            olds: 0,
-        },
-        root: tree,
-        depth: 0,
-    };
+    let whole = spot_at(Place {
+        tree: TreeRef::Net(net.net()),
+        params: 0,
+        olds: 0,
+    });
     let at = Standing::alone(alloc, net.input())?;
     let mut path = Vec::new(alloc);
     let found = steps_below(alloc, net, &at, whole, &mut path, position.path());
@@ -76,7 +72,7 @@ fn steps_below(
 ) -> Result<Vec<PossibleStep>, Memory>
     requires reached { Reached net.now path.old.items (seen_place spot.place) }
     requires around { IsAround net.now path.old.items (seen_place spot.place) (standing_of at.now)
-        (seen spot.root) spot.depth }
+        spot.height spot.more }
     ensures { IfOk result (λ steps. AddsStepsBelow net.now path.old.items
         (seen_place spot.entry.place) rest.now (map possible_of steps.items)) }
 {
@@ -88,18 +84,11 @@ fn steps_below(
     let Some(inner) = place_below(spot.place, &[*k]) else {
         return Ok(Vec::new(alloc));
     };
-    let Some(there) = standing_below(alloc, at, spot.place.tree, *k)? else {
+    let Some(there) = standing_inside(alloc, at, spot.place.tree, *k)? else {
         unreachable!()
     };
     path.push(*k)?;
-    let found = steps_below(
-        alloc,
-        net,
-        &there,
-        spot_below(spot, inner, path.as_slice()),
-        path,
-        rest,
-    );
+    let found = steps_below(alloc, net, &there, spot_below(spot, inner), path, rest);
     drop(there);
     found
 }
@@ -115,7 +104,7 @@ fn add_steps(
 ) -> Result<(), Memory>
     requires reached { Reached net.now path.old.items (seen_place spot.place) }
     requires around { IsAround net.now path.old.items (seen_place spot.place) (standing_of at.now)
-        (seen spot.root) spot.depth }
+        spot.height spot.more }
     ensures path { OnOk result (path.new.items ≡ path.old.items) }
     ensures added { OnOk result (AddsSteps net.now path.old.items
         (IsInside (seen_place spot.entry.place)) (map possible_of steps.old.items)
@@ -125,11 +114,11 @@ fn add_steps(
     steps.append(&mut here)?;
     let mut k = 0;
     while let Some(inner) = place_below(spot.place, &[k]) {
-        let Some(there) = standing_below(alloc, at, spot.place.tree, k)? else {
+        let Some(there) = standing_inside(alloc, at, spot.place.tree, k)? else {
             unreachable!()
         };
         path.push(k)?;
-        let inner = spot_below(spot, inner, path.as_slice());
+        let inner = spot_below(spot, inner);
         let added = add_steps(alloc, net, &there, inner, path, steps);
         drop(there);
         added?;
@@ -149,7 +138,7 @@ fn steps_at(
 ) -> Result<Vec<PossibleStep>, Memory>
     requires reached { Reached net.now path.now (seen_place spot.place) }
     requires around { IsAround net.now path.now (seen_place spot.place) (standing_of at.now)
-        (seen spot.root) spot.depth }
+        spot.height spot.more }
     ensures { IfOk result
         (λ steps. ArePossibleAt net.now path.now (map possible_of steps.items)) }
 {
@@ -186,7 +175,7 @@ fn step_at(
 ) -> Result<Option<PossibleStep>, Memory>
     requires reached { Reached net.now path.now (seen_place spot.place) }
     requires around { IsAround net.now path.now (seen_place spot.place) (standing_of at.now)
-        (seen spot.root) spot.depth }
+        spot.height spot.more }
     ensures { IfOk result (λ found. IsFoundBy net.now path.now law (option_map possible_of found)) }
 {
     let Some(new) = answer_at(alloc, law, Direction::Forward, spot.place, None)? else {

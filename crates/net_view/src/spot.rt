@@ -1,75 +1,64 @@
-// Where a walk over a network is, and what is known of the types there.
+// Where a walk over a network is, and what the limits leave there.
 
-ghost use Rattle.std.specs.Prelude.{◌≡◌, IfOk, length, option_map};
+ghost use Rattle.std.specs.Prelude.{◌≡◌};
+ghost use Rattle.leaf_core.specs.declared.limits.TheConstants.{MOST_EXPR_HEIGHT};
 ghost use Rattle.net_tree.specs.LawStep.{seen};
-ghost use Rattle.net_syntax.specs.{ChildParts.seen_place, StandingWalk.standing_of};
-ghost use Rattle.net_view.specs.Spots.{depth_below, root_below, standing_below};
+ghost use Rattle.net_syntax.specs.{ChildParts.seen_place};
+ghost use Rattle.net_view.specs.Spots.{IsNewRoom, IsRoomBelow};
 
-use net_syntax::{Place, Standing, child_standing};
+use crate::nodes::nodes_left;
+use leaf_core::{MOST_EXPR_HEIGHT, MOST_EXPR_NODES};
+use net_syntax::Place;
 use net_tree::TreeRef;
-use sample_core::Memory;
-use std::alloc::Global;
 
 /// A place that the walk has come to.
 #[derive(Clone, Copy)]
 pub(crate) struct Spot<'n> {
     /// What stands there.
     pub(crate) place: Place<'n>,
-    /// The network there, or the whole expression of a network that the place is in.
-    pub(crate) root: TreeRef<'n>,
-    /// How many numbers of the path lead to that.
-    pub(crate) depth: usize,
+    /// How high an expression may be there, by the limit of the whole one that it is in.
+    pub(crate) height: u32,
+    /// How many nodes more that one may have.
+    pub(crate) more: u32,
 }
 
-/// Where the root stands of the place that is inside a tree at this number; `None` if there is
-/// nothing, or no type.
-pub(crate) fn standing_below(
-    alloc: Global,
-    at: &Standing,
-    tree: TreeRef<'_>,
-    k: u32,
-) -> Result<Option<Standing>, Memory>
-    ensures { IfOk result (λ found. option_map standing_of found
-        ≡ standing_below (standing_of at.now) (seen tree.entry) k) }
+/// A whole network, or a child of one.
+pub(crate) fn spot_at(place: Place<'_>) -> Spot<'_>
+    ensures place { seen_place result.place ≡ seen_place place.entry }
+    ensures room { IsNewRoom (seen place.entry.tree) result.height result.more }
+{
+    Spot {
+        place,
+        height: MOST_EXPR_HEIGHT,
+        more: room_of(place.tree),
+    }
+}
+
+/// How many nodes an expression may have beside its own; 0 of a network.
+fn room_of(tree: TreeRef<'_>) -> u32
+    ensures { IsNewRoom (seen tree.entry) MOST_EXPR_HEIGHT result }
 {
     match tree {
-        TreeRef::Net(net) => child_standing(alloc, at, net, k),
-        TreeRef::Expr(_) => Ok(Some(copy_of(alloc, at)?)),
+        TreeRef::Net(_) => 0,
+        TreeRef::Expr(expr) => match nodes_left(expr, MOST_EXPR_HEIGHT, MOST_EXPR_NODES) {
+            Some(left) => left,
+            None => 0,
+        },
     }
 }
 
-/// A copy.
-fn copy_of(alloc: Global, at: &Standing) -> Result<Standing, Memory>
-    ensures { IfOk result (λ copy. standing_of copy ≡ standing_of at.now) }
-{
-    let input = at.input.try_copy(alloc)?;
-    match at.scope.try_copy(alloc) {
-        Ok(scope) => Ok(Standing { scope, input }),
-        Err(refused) => {
-            drop(input);
-            Err(refused)
-        }
-    }
-}
-
-/// The place inside another one, at the path.
-pub(crate) fn spot_below<'n>(spot: Spot<'n>, inner: Place<'n>, path: &[u32]) -> Spot<'n>
+/// The place inside another one.
+pub(crate) fn spot_below<'n>(spot: Spot<'n>, inner: Place<'n>) -> Spot<'n>
     ensures place { seen_place result.place ≡ seen_place inner.entry }
-    ensures root { seen result.root
-        ≡ root_below (seen spot.entry.place.tree) (seen spot.entry.root) (seen inner.entry.tree) }
-    ensures depth { result.depth
-        ≡ depth_below (seen spot.entry.place.tree) spot.entry.depth (length path.now) }
+    ensures room { IsRoomBelow (seen spot.entry.place.tree) (seen inner.entry.tree)
+        spot.entry.height spot.entry.more result.height result.more }
 {
     match spot.place.tree {
-        TreeRef::Net(_) => Spot {
-            place: inner,
-            root: inner.tree,
-            depth: path.len(),
-        },
+        TreeRef::Net(_) => spot_at(inner),
         TreeRef::Expr(_) => Spot {
             place: inner,
-            root: spot.root,
-            depth: spot.depth,
+            height: spot.height.saturating_sub(1),
+            more: spot.more,
         },
     }
 }

@@ -1,4 +1,4 @@
-use Rattle.std.proofs.Common.{◌≡◌, ◌<◌, [], ◌∷◌, ◌++◌, Some, None, length, map, option_map, refl, sym, ap, ◌∙◌, subst, arith}
+use Rattle.std.proofs.Common.{◌≡◌, ◌<◌, [], ◌∷◌, ◌++◌, Some, None, map, option_map, refl, sym, ap, ◌∙◌, subst, arith}
 use Rattle.std.proofs.lemmas.List.{map-append}
 use Rattle.std.proofs.lemmas.Grind.{common_steps}
 use Rattle.net_tree.specs.LawStep.{seen}
@@ -7,7 +7,7 @@ use Rattle.net_syntax.specs.Placed.{Placed, placed_at}
 use Rattle.net_syntax.specs.StandingWalk.{standing_of}
 use Rattle.net_opt.proofs.Walked.{few_there, lower_inside, low_number, nothing_below, rank}
 use Rattle.net_view.specs.Possible.{ArePossibleAt, possible_of}
-use Rattle.net_view.specs.Spots.{depth_below, standing_below}
+use Rattle.net_view.specs.Walked.{inside_tree}
 use Rattle.net_view.proofs.Spots.{spot_inside, stands_below, steps_begin, steps_onward, steps_end}
 use Rattle.net_view.proofs.possible.+add_steps.Goals as goal
 
@@ -27,21 +27,20 @@ unreachable-requires t c =
     let here = seen_place c.args.spot.place in
     let there = seen_place c.in-Some.inner in
     let found : placed_at here.params here.olds here.tree (c.loop-inner.k ∷ []) ≡ Some there = sym c.place_below.ensures ∙ ap (option_map seen_place) c.in-Some.is in
-    let none : standing_below (standing_of c.args.at.now) here.tree c.loop-inner.k ≡ None = sym c.in_ok-there.ensures ∙ ap (option_map standing_of) c.in_default-2.is in
-    stands_below c.args.net.now c.args.path.now.items c.loop-inner.k c.args.spot.depth here there (standing_of c.args.at.now) (seen c.args.spot.root) c.requires.around found none
+    let none : inside_tree (standing_of c.args.at.now) here.tree c.loop-inner.k ≡ None = sym c.in_ok-there.ensures ∙ ap (option_map standing_of) c.in_default-2.is in
+    stands_below c.args.net.now c.args.path.now.items c.loop-inner.k c.args.spot.height c.args.spot.more here there (standing_of c.args.at.now) c.requires.around found none
 
 pub add_steps-added-requires : goal.add_steps-added-requires
 add_steps-added-requires t c =
     let here = seen_place c.args.spot.place in
     let there = seen_place c.in-Some.inner in
     let found : placed_at here.params here.olds here.tree (c.loop-inner.k ∷ []) ≡ Some there = sym c.place_below.ensures ∙ ap (option_map seen_place) c.in-Some.is in
-    let stands : standing_below (standing_of c.args.at.now) here.tree c.loop-inner.k ≡ Some (standing_of c.in-Some-2.there) =
+    let stands : inside_tree (standing_of c.args.at.now) here.tree c.loop-inner.k ≡ Some (standing_of c.in-Some-2.there) =
     sym c.in_ok-there.ensures ∙ ap (option_map standing_of) c.in-Some-2.is in
-    let long : c.spot_below-inner.result.depth ≡ depth_below here.tree c.args.spot.depth (length c.push.new.self.items) = grind (arith, common_steps) in
-    let inside = spot_inside c.args.net.now c.args.path.now.items c.push.new.self.items c.loop-inner.k c.spot_below-inner.result.depth c.args.spot.depth here there
-    (seen_place c.spot_below-inner.result.place) (standing_of c.args.at.now) (standing_of c.in-Some-2.there) (seen c.args.spot.root) (seen c.spot_below-inner.result.root)
-    (c.in_ok-push.ensures.items ∙ ap (λ x. x ++ c.loop-inner.k ∷ []) c.loop-inner.invariant.path) c.requires.reached c.requires.around found stands
-    c.spot_below-inner.ensures.place c.spot_below-inner.ensures.root long in
+    let inside = spot_inside c.args.net.now c.args.path.now.items c.push.new.self.items c.loop-inner.k c.args.spot.height c.args.spot.more
+    c.spot_below-inner.result.height c.spot_below-inner.result.more here there (seen_place c.spot_below-inner.result.place) (standing_of c.args.at.now)
+    (standing_of c.in-Some-2.there) (c.in_ok-push.ensures.items ∙ ap (λ x. x ++ c.loop-inner.k ∷ []) c.loop-inner.invariant.path) c.requires.reached c.requires.around
+    found stands c.spot_below-inner.ensures.place c.spot_below-inner.ensures.room in
     let same : rank (seen c.spot_below-inner.result.place.tree) ≡ rank there.tree = ap (λ (d : Placed). rank d.tree) c.spot_below-inner.ensures.place in
     let falls : rank (seen c.spot_below-inner.result.place.tree) < rank here.tree =
     omega (arith, same, lower_inside c.loop-inner.k here there c.requires.reached.limited found) in
