@@ -379,6 +379,14 @@ pub none_by : (t : TypedNetwork) (p : List ℕ) (law : Law) (c : Placed) (new : 
     → MayStand t p new false → IsFoundBy t p law None
 none_by t p law c new r answer may = untyped_by t p c.params c.olds c.tree new law r.stands answer may
 
+-- and none where it has no answer
+pub unanswered : (t : TypedNetwork) (p : List ℕ) (law : Law) (c : Placed) (answer : Option C.Tree) → Reached t p c → answer ≡ None
+    → IsTreeAnswer c.olds law Forward c.tree None answer → IsFoundBy t p law None
+unanswered t p law c answer r none h = λ u n.
+    let same : n.answered.place ≡ c = same_Some n.answered.place c (sym n.answered.found ∙ r.stands) in
+    let no : (new : Tree Expression) → TreeAnswer c.olds law Forward c.tree None new → ⊥ = subst (IsTreeAnswer c.olds law Forward c.tree None) none h in
+    no n.new (subst (λ (z : Placed). TreeAnswer z.olds law Forward z.tree None n.new) same n.answered.answered)
+
 -- what the code answers
 pub ok_network : {E : Type 0} (t : TypedNetwork) (p : List ℕ) (c : Placed) (S : Standing) (high more : ℕ) (g s : Network Expression) (r : Result Bool E) → Reached t p c
     → IsAround t p c S high more → c.tree ≡ a_network g → c.olds ≡ 0 → GrowsLittle t g s → IfOk r (λ kept. kept ≡ type_kept S (a_network g) [] (a_network s))

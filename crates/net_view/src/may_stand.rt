@@ -2,7 +2,7 @@
 
 ghost use Rattle.std.specs.Prelude.{◌≡◌, IfOk, IsTrue};
 ghost use Rattle.leaf_core.specs.ExpressionView.{expression_of};
-ghost use Rattle.net_tree.specs.LawStep.{part_of, seen};
+ghost use Rattle.net_tree.specs.LawStep.{part_of};
 ghost use Rattle.net_tree.specs.NetworkView.{tree_of};
 ghost use Rattle.net_syntax.specs.{ChildParts.seen_place, StandingWalk.standing_of};
 ghost use Rattle.net_meaning.specs.NetworkLimits.{WithinLimits};

@@ -1,6 +1,5 @@
 use Rattle.std.proofs.Common.{◌≡◌, ℕ, suc, List, [], ◌∷◌, Some, None, length, map, option_map, sym, ap, ◌∙◌, arith}
 use Rattle.std.proofs.lemmas.Grind.{common_steps}
-use Rattle.net_tree.specs.LawStep.{seen}
 use Rattle.net_syntax.specs.ChildParts.{seen_place}
 use Rattle.net_syntax.specs.Placed.{placed_at}
 use Rattle.net_syntax.specs.StandingWalk.{standing_of}

@@ -1,4 +1,4 @@
-use Rattle.std.proofs.Common.{◌≡◌, IfOk, map, sym, ap, ◌∙◌, subst}
+use Rattle.std.proofs.Common.{IfOk, map, sym, ap, ◌∙◌, subst}
 use Rattle.net_tree.specs.NetworkView.{tree_of}
 use Rattle.net_tree.specs.Place.{a_network}
 use Rattle.net_syntax.specs.ChildParts.{seen_place}
