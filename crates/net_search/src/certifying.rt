@@ -7,8 +7,8 @@ ghost use Rattle.net_search.specs.ReadBack.{IsReadBack};
 
 use crate::draft::Draft;
 use crate::reading_back::is_within;
-use crate::ways::{formed, may_be_taken, shortest, steps_of};
-use net_certify::{Difference, first_difference};
+use crate::ways::{Tried, may_be_taken, shortest, steps_of};
+use net_certify::{Difference, Formed, first_difference};
 use net_syntax::TypedNet;
 use net_text::{print_cert, printing_laws};
 use net_tree::{LawStep, same_net};
@@ -46,9 +46,10 @@ pub fn certify(alloc: Global, source: &TypedNet, target: &TypedNet) -> Result<Ce
         return Ok(nothing_to_do(alloc, source, target));
     }
     let mut nodes = 0;
-    match shortest(alloc, source, target, &mut nodes)? {
+    let mut tried = Tried::new(alloc);
+    match shortest(alloc, source, target, &mut tried, &mut nodes)? {
         Some(steps) => found(alloc, source, target, steps),
-        None => none_found(alloc, source, target, &mut nodes),
+        None => none_found(alloc, source, target, tried, nodes),
     }
 }
 
@@ -84,34 +85,37 @@ fn found(
 }
 
 /// That nothing was found: where the two normal forms differ, first, where both were come to; else
-/// what was spent.
+/// how many nodes were visited.
 fn none_found(
     alloc: Global,
     source: &TypedNet,
     target: &TypedNet,
-    nodes: &mut u64,
+    tried: Tried,
+    nodes: u64,
 ) -> Result<Certified, Memory>
     requires { AreApart source.now target.now }
     ensures { IfOk result (CertifyAnswer source.now target.now) }
 {
+    let Some((there, back)) = tried.into_forms() else {
+        return Ok(Certified::GaveUp { nodes });
+    };
     let forms = (
-        form_of(alloc, source, nodes)?,
-        form_of(alloc, target, nodes)?,
+        form_of(alloc, source, there)?,
+        form_of(alloc, target, back)?,
     );
     if let (Some(first), Some(second)) = &forms {
         if let Some(difference) = first_difference(alloc, first.net(), second.net())? {
             return Ok(Certified::Differ(difference));
         }
     }
-    Ok(Certified::GaveUp { nodes: *nodes })
+    Ok(Certified::GaveUp { nodes })
 }
 
-/// The normal form, where the search came to it and all steps to it may be taken. Adds how many nodes
-/// the search visited.
-fn form_of(alloc: Global, net: &TypedNet, nodes: &mut u64) -> Result<Option<TypedNet>, Memory>
+/// The network's normal form as it was found, where the search came to it and all steps to it may be
+/// taken.
+fn form_of(alloc: Global, net: &TypedNet, formed: Formed) -> Result<Option<TypedNet>, Memory>
     ensures { IfOk result (λ form. IfSome form (Reaches net.now)) }
 {
-    let formed = formed(alloc, net, nodes)?;
     if !formed.is_done || !may_be_taken(alloc, &formed)? {
         drop(formed);
         return Ok(None);

@@ -17,6 +17,7 @@ use net_syntax::TypedNet;
 use net_tree::{LawStep, same_net};
 use sample_core::Memory;
 use std::alloc::Global;
+use std::mem::replace;
 
 /// How many nodes each of the searches visits.
 const MOST_WORK: u64 = 5_000_000;
@@ -69,12 +70,41 @@ const WAYS: [Looking; 7] = [
     Looking::Looped,
 ];
 
-/// The fewest steps found that lead from the source to the target, where some were found. Not all is
-/// tried once some are. Adds how many nodes the searches visited.
+/// What was found and led nowhere, for what is tried later.
+#[derive(Drop)]
+pub(crate) struct Tried {
+    /// The steps that the optimiser takes from the source.
+    optimised: Vec<LawStep>,
+    /// The steps from the source to what costs less.
+    improved: Vec<LawStep>,
+    /// The normal forms of source and target, where these aren't one.
+    forms: Option<(Formed, Formed)>,
+}
+
+impl Tried {
+    /// Nothing yet.
+    pub(crate) fn new(alloc: Global) -> Tried {
+        Tried {
+            optimised: Vec::new(alloc),
+            improved: Vec::new(alloc),
+            forms: None,
+        }
+    }
+
+    /// The normal forms of source and target, where they were looked for and aren't one.
+    pub(crate) fn into_forms(self) -> Option<(Formed, Formed)> {
+        let Tried { forms, .. } = self;
+        forms
+    }
+}
+
+/// The fewest steps found that lead from the source to the target, where some were found; what else was
+/// found is kept. Not all is tried once some are. Adds how many nodes the searches visited.
 pub(crate) fn shortest(
     alloc: Global,
     source: &TypedNet,
     target: &TypedNet,
+    tried: &mut Tried,
     nodes: &mut u64,
 ) -> Result<Option<Vec<LawStep>>, Memory>
     ensures { IfOk result (λ found. IfSome found
@@ -86,7 +116,7 @@ pub(crate) fn shortest(
         if most == 0 {
             break;
         }
-        let steps = steps_by(alloc, way, source, target, nodes)?;
+        let steps = steps_by(alloc, way, source, target, tried, nodes)?;
         if let Some(found) = led(alloc, source, target, steps, nodes)? {
             if found.len() < most {
                 best = Some(found);
@@ -185,18 +215,25 @@ fn steps_by(
     way: Looking,
     source: &TypedNet,
     target: &TypedNet,
+    tried: &mut Tried,
     nodes: &mut u64,
 ) -> Result<Vec<LawStep>, Memory> {
     let (there, back) = match way {
-        Looking::Optimising => (optimised_to(alloc, source, target)?, Vec::new(alloc)),
-        Looking::Improving => (improved_to(alloc, source, target, nodes)?, Vec::new(alloc)),
+        Looking::Optimising => (optimised_to(alloc, source, target, tried)?, Vec::new(alloc)),
+        Looking::Improving => (
+            improved_to(alloc, source, target, tried, nodes)?,
+            Vec::new(alloc),
+        ),
         Looking::AtPlaces => at_places(alloc, source, target, false, nodes)?,
-        Looking::Optimised => (optimised(alloc, source)?, optimised(alloc, target)?),
+        Looking::Optimised => (
+            replace(&mut tried.optimised, Vec::new(alloc)),
+            optimised(alloc, target)?,
+        ),
         Looking::Improved => (
-            improved(alloc, source, nodes)?,
+            replace(&mut tried.improved, Vec::new(alloc)),
             improved(alloc, target, nodes)?,
         ),
-        Looking::Formed => at_forms(alloc, source, target, nodes)?,
+        Looking::Formed => at_forms(alloc, source, target, tried, nodes)?,
         Looking::Looped => at_places(alloc, source, target, true, nodes)?,
     };
     through(alloc, target, there, &back)
@@ -224,23 +261,25 @@ fn at_places(
     }
 }
 
-/// The steps of the optimiser, where they lead to the target.
+/// The steps of the optimiser, where they lead to the target; else they are kept.
 fn optimised_to(
     alloc: Global,
     source: &TypedNet,
     target: &TypedNet,
+    tried: &mut Tried,
 ) -> Result<Vec<LawStep>, Memory> {
     let (last, steps) = optimise(alloc, source)?;
     let is_led = same_net(&last, target.net());
     drop(last);
-    Ok(if_led(alloc, is_led, steps))
+    Ok(if_led(alloc, is_led, steps, &mut tried.optimised))
 }
 
-/// The steps to what costs less, where they lead to the target.
+/// The steps to what costs less, where they lead to the target; else they are kept.
 fn improved_to(
     alloc: Global,
     source: &TypedNet,
     target: &TypedNet,
+    tried: &mut Tried,
     nodes: &mut u64,
 ) -> Result<Vec<LawStep>, Memory> {
     let means = Means::new(alloc, MOST_IMPROVING)?;
@@ -248,12 +287,21 @@ fn improved_to(
     add_spent(nodes, MOST_IMPROVING, &means);
     let is_led = same_net(&last, target.net());
     drop(last);
-    Ok(if_led(alloc, is_led, steps))
+    Ok(if_led(alloc, is_led, steps, &mut tried.improved))
 }
 
-/// The steps, where they lead to the target; else none.
-fn if_led(alloc: Global, is_led: bool, steps: Vec<LawStep>) -> Vec<LawStep> {
-    if is_led { steps } else { Vec::new(alloc) }
+/// The steps, where they lead to the target; else none, and they are kept.
+fn if_led(
+    alloc: Global,
+    is_led: bool,
+    steps: Vec<LawStep>,
+    kept: &mut Vec<LawStep>,
+) -> Vec<LawStep> {
+    if is_led {
+        return steps;
+    }
+    drop(replace(kept, steps));
+    Vec::new(alloc)
 }
 
 /// The steps of the optimiser.
@@ -272,17 +320,21 @@ fn improved(alloc: Global, net: &TypedNet, nodes: &mut u64) -> Result<Vec<LawSte
     Ok(steps)
 }
 
-/// The steps to the normal forms of two networks, where these are one.
+/// The steps to the normal forms of two networks, where these are one; else the forms are kept.
 fn at_forms(
     alloc: Global,
     source: &TypedNet,
     target: &TypedNet,
+    tried: &mut Tried,
     nodes: &mut u64,
 ) -> Result<(Vec<LawStep>, Vec<LawStep>), Memory> {
     let there = formed(alloc, source, nodes)?;
     let back = formed(alloc, target, nodes)?;
-    let is_one = same_net(there.net.get(), back.net.get());
-    if is_one && may_be_taken(alloc, &there)? && may_be_taken(alloc, &back)? {
+    if !same_net(there.net.get(), back.net.get()) {
+        drop(replace(&mut tried.forms, Some((there, back))));
+        return Ok((Vec::new(alloc), Vec::new(alloc)));
+    }
+    if may_be_taken(alloc, &there)? && may_be_taken(alloc, &back)? {
         Ok((steps_of(there), steps_of(back)))
     } else {
         Ok((Vec::new(alloc), Vec::new(alloc)))
@@ -296,7 +348,7 @@ pub(crate) fn may_be_taken(alloc: Global, formed: &Formed) -> Result<bool, Memor
 }
 
 /// The network's normal form, as far as the search comes.
-pub(crate) fn formed(alloc: Global, net: &TypedNet, nodes: &mut u64) -> Result<Formed, Memory> {
+fn formed(alloc: Global, net: &TypedNet, nodes: &mut u64) -> Result<Formed, Memory> {
     let means = Means::new(alloc, MOST_WORK)?;
     let formed = normal_form(&means, net.net(), 0)?;
     add_spent(nodes, MOST_WORK, &means);
