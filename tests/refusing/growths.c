@@ -1,5 +1,7 @@
 // Loaded before the C library: counts the growths that the program itself asks for, and refuses one of them.
-// REFUSE_GROWTH names it, counted from 1; the count is written to the file that COUNT_GROWTHS names when the program ends.
+// REFUSE_GROWTH names it, counted from 1. A test of a crate (`refusing.rt` of `row_texts`) names it by asking for 2^50 bytes and that
+// many more, of which it gets one; it is then counted from there on.
+// When the program ends, how many were asked for and how many were refused is written to the file that COUNT_GROWTHS names.
 #define _GNU_SOURCE
 #include <dlfcn.h>
 #include <errno.h>
@@ -8,7 +10,7 @@
 #include <stdio.h>
 #include <stdlib.h>
 
-static unsigned long asked, refused;
+static unsigned long asked, refused, refusals;
 static char *program_start, *program_end;
 
 // The first object of a process is the program.
@@ -35,13 +37,28 @@ __attribute__((destructor)) static void end(void) {
     const char *name = getenv("COUNT_GROWTHS");
     FILE *file = name ? fopen(name, "w") : NULL;
     if (file) {
-        fprintf(file, "%lu\n", asked);
+        fprintf(file, "%lu %lu\n", asked, refusals);
         fclose(file);
     }
 }
 
-static int is_refused(char *caller) {
-    return caller >= program_start && caller < program_end && ++asked == refused;
+#define MESSAGE (1UL << 50)
+#define MOST_NUMBER (1UL << 20)
+
+static int is_message(size_t *size) {
+    if (*size < MESSAGE || *size - MESSAGE >= MOST_NUMBER)
+        return 0;
+    refused = *size - MESSAGE;
+    asked = 0;
+    *size = 1;
+    return 1;
+}
+
+static int is_refused(char *caller, size_t *size) {
+    if (caller < program_start || caller >= program_end || is_message(size) || ++asked != refused)
+        return 0;
+    refusals++;
+    return 1;
 }
 
 #define CALLER ((char *)__builtin_return_address(0))
@@ -50,23 +67,23 @@ static int is_refused(char *caller) {
 void *malloc(size_t size) {
     static void *(*real_malloc)(size_t);
     REAL(malloc);
-    return is_refused(CALLER) ? NULL : real_malloc(size);
+    return is_refused(CALLER, &size) ? NULL : real_malloc(size);
 }
 
 void *realloc(void *old, size_t size) {
     static void *(*real_realloc)(void *, size_t);
     REAL(realloc);
-    return is_refused(CALLER) ? NULL : real_realloc(old, size);
+    return is_refused(CALLER, &size) ? NULL : real_realloc(old, size);
 }
 
 void *aligned_alloc(size_t to, size_t size) {
     static void *(*real_aligned_alloc)(size_t, size_t);
     REAL(aligned_alloc);
-    return is_refused(CALLER) ? NULL : real_aligned_alloc(to, size);
+    return is_refused(CALLER, &size) ? NULL : real_aligned_alloc(to, size);
 }
 
 int posix_memalign(void **found, size_t to, size_t size) {
     static int (*real_posix_memalign)(void **, size_t, size_t);
     REAL(posix_memalign);
-    return is_refused(CALLER) ? ENOMEM : real_posix_memalign(found, to, size);
+    return is_refused(CALLER, &size) ? ENOMEM : real_posix_memalign(found, to, size);
 }

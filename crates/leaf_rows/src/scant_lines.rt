@@ -3,6 +3,7 @@
 use crate::found::{Probe, all_are_found};
 use crate::stream_calls::answers_told;
 use row_texts::ballast::{ROOM, take_all};
+use row_texts::refusing::refuse_none;
 use row_texts::scarce::{Ending, MOST_TRIES, Scarce, Shortage, Tries};
 use row_texts::texts::{parted, say, type_in};
 use sample_core::{Memory, Ty};
@@ -28,6 +29,7 @@ pub fn lines_told(alloc: Global, given: &str, out: &mut String) {
 /// No shortage: there is no such read.
 const NEVER: Shortage = Shortage {
     at_read: usize::MAX,
+    number: 0,
     spare: 0,
 };
 
@@ -50,6 +52,7 @@ fn call_tried(alloc: Global, ty: &Ty, stream: &str, whole: &str, shortage: Short
     say(&mut told, whole);
     told.clear();
     calls_told(alloc, ty, stream, shortage, &mut told);
+    refuse_none(alloc, None);
     calls_ending(told.as_str(), whole)
 }
 
@@ -96,7 +99,7 @@ fn all_ended(told: &str) -> bool {
 
 /// Types, streams, what is answered, and how calls with little memory end.
 static LINES: &str = "
-§ Memory is taken at each read in turn: numbers take none, once there is a reader; other values do.
+§ Memory is refused from each read on in turn: numbers take none, once there is a reader; other values do.
 Int | 5␤+1 6␤+1 7 => + 0 5;+ 1 6;+ 1 7;end;end;end;end;end;end;end; refused at first
 Int | 0␤+4 0␤+5 1␤+6 0␤+7 2␤+1 0 => + 0 0;+ 4 0;+ 5 1;+ 6 0;+ 7 2;+ 1 0;end;end;end;end; refused at first
 (Pair Int (Event Int)) | (pair 5 none)␤+2 (pair 6 (event 9)) => + 0 (pair 5 none);+ 2 (pair 6 (event 9));end;end;end;end;end;end;end;end; refused, also behind lines

@@ -15,6 +15,16 @@ pub struct Ballast {
 pub fn take_all(alloc: Global, spare: usize) -> Result<Ballast, AllocError> {
     let kept: Vec<u8> = Vec::with_capacity(alloc, spare.saturating_add(LARGE))?;
     let mut blocks = Vec::with_capacity(alloc, 60_000)?;
+    take_halves(alloc, &mut blocks)?;
+    take_small(alloc, &mut blocks)?;
+    drop(kept);
+    let large = Vec::with_capacity(alloc, LARGE)?;
+    blocks.push(large)?;
+    Ok(Ballast { blocks })
+}
+
+/// Takes blocks as large as there are, then half as large, down to one byte.
+fn take_halves(alloc: Global, blocks: &mut Vec<Vec<u8>>) -> Result<(), AllocError> {
     let mut size = 1usize << 46;
     for _ in 0..59_000u32 {
         match Vec::with_capacity(alloc, size) {
@@ -27,10 +37,25 @@ pub fn take_all(alloc: Global, spare: usize) -> Result<Ballast, AllocError> {
             }
         }
     }
-    drop(kept);
-    let large = Vec::with_capacity(alloc, LARGE)?;
-    blocks.push(large)?;
-    Ok(Ballast { blocks })
+    Ok(())
+}
+
+/// Takes the small blocks that `malloc` sets aside, once they are dropped, for allocations of their
+/// own size, up to 1,032 bytes.
+fn take_small(alloc: Global, blocks: &mut Vec<Vec<u8>>) -> Result<(), AllocError> {
+    let mut size = 24usize;
+    for _ in 0..900u32 {
+        match Vec::with_capacity(alloc, size) {
+            Ok(block) => blocks.push(block)?,
+            Err(_) => {
+                if size >= 1_032 {
+                    break;
+                }
+                size += 16;
+            }
+        }
+    }
+    Ok(())
 }
 
 /// Lets the stack grow by a megabyte or more, as dropping so deep an expression does. Once all

@@ -1,22 +1,25 @@
 // A reader that leaves no memory, and the tries of what reads from it.
 
-use crate::ballast::{Ballast, take_all};
+use crate::ballast::Ballast;
 use crate::devices::Pieces;
+use crate::refusing::refuse;
 use crate::texts::say;
 use std::alloc::Global;
 use std::io::Read;
 use std::{io, mem};
 
-/// When all memory is taken, and how much is left.
+/// From when on memory is refused, and how: see `refuse`.
 #[derive(Clone, Copy)]
 pub struct Shortage {
-    /// The read that takes it, counted from 1; 0 where it is taken before the first one.
+    /// The read from which on it is, counted from 1; 0 where it is before the first one.
     pub at_read: usize,
+    /// The growth that is refused.
+    pub number: usize,
     /// The bytes that are left.
     pub spare: usize,
 }
 
-/// Gives its bytes one at a time, and takes all memory but what is to be left.
+/// Gives its bytes one at a time, and has memory refused from some read on.
 #[derive(Drop)]
 pub struct Scarce<'a> {
     alloc: Global,
@@ -27,7 +30,7 @@ pub struct Scarce<'a> {
 }
 
 impl<'a> Scarce<'a> {
-    /// Gives the bytes, and takes the memory at its turn.
+    /// Gives the bytes, and has memory refused at its turn.
     pub fn new(alloc: Global, bytes: &'a [u8], shortage: Shortage) -> Scarce<'a> {
         let mut reader = Scarce {
             alloc,
@@ -36,14 +39,14 @@ impl<'a> Scarce<'a> {
             shortage,
             ballast: None,
         };
-        reader.seize();
+        reader.refuse_at_turn();
         reader
     }
 
-    /// Takes the memory where it is the turn of this read.
-    fn seize(&mut self) {
+    /// Has memory refused where it is the turn of this read.
+    fn refuse_at_turn(&mut self) {
         if self.reads == self.shortage.at_read {
-            let taken = take_all(self.alloc, self.shortage.spare).ok();
+            let taken = refuse(self.alloc, self.shortage.number, self.shortage.spare);
             drop(mem::replace(&mut self.ballast, taken));
         }
     }
@@ -52,7 +55,7 @@ impl<'a> Scarce<'a> {
 impl Read for Scarce<'_> {
     fn read(&mut self, buf: &mut [u8]) -> io::Result<usize> {
         self.reads = self.reads.saturating_add(1);
-        self.seize();
+        self.refuse_at_turn();
         self.pieces.read(buf)
     }
 }
@@ -68,8 +71,8 @@ pub enum Ending {
     Other,
 }
 
-/// Tries with memory that is short at each read in turn, and at each with more and more bytes left,
-/// until one ends as with ample memory.
+/// Tries with memory that is short at each read in turn, and at each with a later growth refused, or
+/// with more bytes left, until one ends as with ample memory.
 #[derive(Clone, Copy)]
 pub struct Tries {
     last_read: usize,
@@ -86,6 +89,7 @@ impl Tries {
             last_read: reads,
             next: Shortage {
                 at_read: 0,
+                number: 1,
                 spare: 0,
             },
             refused: false,
@@ -108,6 +112,7 @@ impl Tries {
         match ending {
             Ending::Whole => {
                 self.next.at_read = self.next.at_read.saturating_add(1);
+                self.next.number = 1;
                 self.next.spare = 0;
                 return;
             }
@@ -117,6 +122,7 @@ impl Tries {
             }
             Ending::Other => self.other = true,
         }
+        self.next.number = self.next.number.saturating_add(1);
         self.next.spare = more_than(self.next.spare);
     }
 

@@ -96,9 +96,9 @@ fn count_of(byte: u8, bytes: &[u8]) -> usize {
 
 /// Networks, streams, what is written, and how runs with little memory end.
 static RUNS: &str = "
-§ Memory is taken at each read in turn, with more and more bytes left: a number's line leaves enough.
-‹increment› | 5␤+1 6␤+1 7 => 0␤6␤7␤refused at first
-§ Networks that switch need more.
+§ Memory is refused from each read on in turn.
+‹increment› | 5␤+1 6␤+1 7 => 0␤6␤7␤refused, also behind lines
+§ Networks that switch.
 yampa 1 input Int ‹resumed› | 0␤+4 0␤+5 1␤+6 0␤+7 2␤+1 0 => 0␤4␤-1␤-1␤9␤10␤refused, also behind lines
 yampa 1 input Int ‹routed› | 2␤+3 2␤+4 7␤+1 0 => (list 0 0)␤(list 3 6)␤(list 14 7)␤(list 21 8)␤refused, also behind lines
 ";
