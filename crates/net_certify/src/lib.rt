@@ -3,10 +3,12 @@
 //!     let ways = ways_between(&means, &first, &second, with_loops)?;
 //!     let formed = normal_form(&means, &net, 0)?;
 //!     let difference = first_difference(alloc, &first, &second)?;
+//!     let moves = loops_made_one(&means, &net)?;
 //!
 //! The two are walked together from the root; what is the same in both is left alone, and where they
 //! differ steps are looked for that make it the same, at the smallest places first, by normal forms at
-//! last (`src/places.rt`). Nothing is proved but that the search is safe and ends; it visits at most so
+//! last (`src/places.rt`). Loops of one network are made one where that costs less
+//! (`src/cheaper_loops.rt`). Nothing is proved but that the search is safe and ends; it visits at most so
 //! many nodes (`Means`). Who takes the steps checks each again (`net_search`).
 //!
 //! First `src/places.rt`, then `src/forming.rt` and `src/table.rt`, then `src/one_loop.rt`.
@@ -14,6 +16,7 @@
 
 mod alike;
 mod arr_forms;
+mod cheaper_loops;
 mod difference;
 mod forming;
 mod loop_forms;
@@ -26,6 +29,7 @@ mod shaping;
 mod table;
 
 pub use alike::{MOST_CHILDREN, inner_at};
+pub use cheaper_loops::loops_made_one;
 pub use difference::{Difference, first_difference};
 pub use forming::{Formed, normal_form};
 pub use places::{Ways, ways_between};

@@ -49,17 +49,22 @@ fn behind_steps(trail: Trail, sketch: Sketch) -> Trail {
 fn looped(means: &Means, trail: &Trail) -> Result<Sketch, NoMove> {
     let start = trail.start.try_copy()?;
     let mut sketch = Sketch::new(means, start, trail.olds, Clearing::Always)?;
-    let mut states = 0u32;
-    for way in places(&mut sketch)?.iter().rev() {
-        if has_state(sketch.net_at(way)?) {
-            states = states.saturating_add(1);
-        }
-        loop_at(&mut sketch, way)?;
-    }
-    if states == 0 {
+    if join_loops(&mut sketch)? == 0 {
         return Err(NoMove::Unfit);
     }
     Ok(sketch)
+}
+
+/// Makes the loops of the network as few as they get, and returns how many loops and cells it had.
+pub(crate) fn join_loops(w: &mut Sketch) -> Result<u32, NoMove> {
+    let mut states = 0u32;
+    for way in places(w)?.iter().rev() {
+        if has_state(w.net_at(way)?) {
+            states = states.saturating_add(1);
+        }
+        loop_at(w, way)?;
+    }
+    Ok(states)
 }
 
 /// Whether the network is a loop or a cell that can be one.

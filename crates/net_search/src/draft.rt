@@ -117,7 +117,7 @@ impl Draft {
 
     /// Goes on by what another draft did from this one's network, where that is at most 10,000
     /// steps in all, and returns whether it did; else all is as before.
-    fn go_on(&mut self, more: Draft) -> Result<bool, Memory>
+    pub(crate) fn go_on(&mut self, more: Draft) -> Result<bool, Memory>
         requires { more.source ≡ self.old.net }
         ensures source { self.new.source ≡ self.old.source }
         ensures taken { IfOk result (λ b. MatchBool b
