@@ -1,11 +1,12 @@
-// Loops and cells made one loop, where that costs less.
+// Loops and cells made one loop, where that costs much less.
 
 use crate::alike::MOST_CHILDREN;
 use crate::one_loop::join_loops;
 use expr_improve::{Means, joined};
 use leaf_core::Expr;
 use net_improve::{
-    Clearing, NoMove, Sketch, behind, copied, front, is_flat, length, net_cost, rest, stage_way,
+    Clearing, NoMove, Sketch, behind, copied, front, head, is_flat, length, net_cost, rest,
+    stage_way,
 };
 use net_syntax::child;
 use net_tree::{LawStep, Net, TreeRef};
@@ -19,10 +20,16 @@ const MOST_STAGES: usize = 8;
 /// The most networks that are made one loop at once.
 const MOST_NETS: u32 = 40;
 
+/// How many nodes are visited, about, where a law is used.
+const LOOK: u64 = 30;
+
+/// What a state takes, beside two, more than is estimated.
+const STATE_COST: u64 = 300;
+
 /// The most chains that are looked at.
 const MOST_CHAINS: u32 = 10_000;
 
-/// Moves that make loops and cells of the network one loop, where that costs less, each as its steps.
+/// Moves that make loops and cells of the network one loop, where that costs much less, each as its steps.
 /// They are only proposed: types aren't looked at, and a move is made of what those before it leave.
 /// `Memory` if allocation fails.
 pub fn loops_made_one(means: &Means, net: &Net<Expr>) -> Result<Vec<Vec<LawStep>>, Memory> {
@@ -99,7 +106,8 @@ impl Joining {
     /// Makes one loop of the most stages of the chain at the path, from this one on, of which that
     /// costs less.
     fn join_from(&mut self, path: &[u32], stage: usize) -> Result<(), NoMove> {
-        for stages in (1..=MOST_STAGES).rev() {
+        for fewer in 0..MOST_STAGES {
+            let stages = MOST_STAGES - fewer;
             match self.made_one(path, stage, stages) {
                 Ok(Some(made)) => return self.adopt(path, stage, stages, made),
                 Ok(None) | Err(NoMove::Unfit) => {}
@@ -123,16 +131,21 @@ impl Joining {
         let Some(here) = rest(sketch.net_at(path)?, stage) else {
             return Ok(None);
         };
-        let window = front(sketch.alloc, here, stages)?;
-        match parts_of(sketch.alloc, window.get())? {
-            Some(parts) if parts.are_to_join() => {}
-            _ => return Ok(None),
+        if let Some(Net::First(_)) = rest(here, stages).map(head) {
+            return Ok(None);
         }
-        let before = net_cost(window.get());
+        let window = front(sketch.alloc, here, stages)?;
+        let enough = match parts_of(sketch.alloc, window.get())? {
+            Some(parts) if parts.are_to_join() => parts.most_cost(net_cost(window.get())),
+            _ => return Ok(None),
+        };
         let olds = sketch.at(path)?.olds;
         let mut made = Sketch::new(&sketch.means, window, olds, sketch.clearing)?;
         join_loops(&mut made)?;
-        if net_cost(made.net.get()) < before {
+        sketch
+            .means
+            .spend((made.steps.len() as u64).saturating_mul(LOOK));
+        if net_cost(made.net.get()) <= enough {
             Ok(Some(made))
         } else {
             Ok(None)
@@ -166,19 +179,31 @@ struct Parts {
 }
 
 impl Parts {
-    /// Whether one loop may cost less: of a `first` of a loop or a cell, of two loops, or of both.
+    /// Whether one loop may cost less: where a `first` stands beside a loop or a cell.
     fn are_to_join(self) -> bool {
-        let inside = self.firsts.saturating_add(self.loops);
-        inside > 0
-            && self.loops.saturating_add(self.cells) > 0
-            && inside.saturating_add(self.cells) > 1
+        self.firsts > 0 && self.states() > 0
+    }
+
+    /// How many states one loop of them has.
+    fn states(self) -> u32 {
+        self.loops.saturating_add(self.cells)
+    }
+
+    /// What one loop of them may cost at most, where they cost so much: an eighth less, and less for
+    /// each state beyond two, since what pairs of states take is estimated low.
+    fn most_cost(self, cost: u64) -> u64 {
+        let states = u64::from(self.states().saturating_sub(2));
+        cost.saturating_sub(cost / 8)
+            .saturating_sub(states.saturating_mul(STATE_COST))
     }
 }
 
 /// What the network is made of; nothing where there are others in it than `arr`s, `first`s, loops and
 /// cells, or many.
 fn parts_of(alloc: Global, net: &Net<Expr>) -> Result<Option<Parts>, Memory> {
-    let (mut firsts, mut loops, mut cells) = (0u32, 0u32, 0u32);
+    let mut firsts = 0u32;
+    let mut loops = 0u32;
+    let mut cells = 0u32;
     let mut todo = Vec::new(alloc);
     todo.push(net)?;
     for _ in 0..MOST_NETS {
