@@ -1,4 +1,4 @@
-"""Loops and cells of which `improve` makes one loop, as that costs less."""
+"""Loops and cells beside something else, of which `improve` makes one loop, as that costs less."""
 from searching.calls import steps_in
 from searching.families import arr, of_numbers, of_pairs, to_the_right
 
@@ -9,7 +9,6 @@ ADDED = arr("(add (fst x) (snd x))")
 
 def joined():
     """What they are, and the network's text: a loop round one `arr` outputs the same."""
-    yield "two sums behind one another, joined", of_numbers(f"(>>> (loopPre 0 {SUM}) (loopPre 5 {SUM}))")
     yield "two loops beside one another, joined", of_numbers(to_the_right([f"(&&& (loopPre 0 {SUM}) (loopPre 1 {SMOOTHED}))", ADDED]))
     yield "a loop of the left part, joined", of_pairs(to_the_right([f"(first (loopPre 0 {SUM}))", ADDED]))
     yield "a difference to the sample before, joined", of_numbers(to_the_right(["(&&& identity (iPre 0))", arr("(sub (fst x) (snd x))")]))

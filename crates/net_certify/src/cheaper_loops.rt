@@ -23,8 +23,8 @@ const MOST_NETS: u32 = 40;
 /// How many nodes are visited, about, where a law is used.
 const LOOK: u64 = 30;
 
-/// What a state takes, beside two, more than is estimated.
-const STATE_COST: u64 = 300;
+/// What each state beyond two takes, more than is estimated.
+const STATE_COST: u64 = 250;
 
 /// The most chains that are looked at.
 const MOST_CHAINS: u32 = 10_000;
