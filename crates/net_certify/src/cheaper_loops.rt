@@ -29,9 +29,9 @@ const STATE_COST: u64 = 250;
 /// The most chains that are looked at.
 const MOST_CHAINS: u32 = 10_000;
 
-/// Moves that make loops and cells of the network one loop, where that costs much less, each as its steps.
-/// They are only proposed: types aren't looked at, and a move is made of what those before it leave.
-/// `Memory` if allocation fails.
+/// Moves that make loops and cells of the network, of which some are in a `first`, one loop, where that
+/// costs much less, each as its steps. They are only proposed: types aren't looked at, and a move is made
+/// of what those before it leave. `Memory` if allocation fails.
 pub fn loops_made_one(means: &Means, net: &Net<Expr>) -> Result<Vec<Vec<LawStep>>, Memory> {
     let alloc = means.alloc;
     let mut joining = Joining {
@@ -117,7 +117,8 @@ impl Joining {
         Ok(())
     }
 
-    /// One loop of so many stages of the chain at the path, from this one on, where that costs less.
+    /// One loop of so many stages of the chain at the path, from this one on, where that costs much less;
+    /// not before a `first`, which would have to make the pair anew that a loop keeps.
     fn made_one(
         &self,
         path: &[u32],

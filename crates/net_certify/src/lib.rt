@@ -7,11 +7,12 @@
 //!
 //! The two are walked together from the root; what is the same in both is left alone, and where they
 //! differ steps are looked for that make it the same, at the smallest places first, by normal forms at
-//! last (`src/places.rt`). Loops of one network are made one where that costs less
-//! (`src/cheaper_loops.rt`). Nothing is proved but that the search is safe and ends; it visits at most so
-//! many nodes (`Means`). Who takes the steps checks each again (`net_search`).
+//! last (`src/places.rt`). Of one network, loops and cells are made one loop where that costs much less
+//! (`src/cheaper_loops.rt`). Nothing is proved but that the search is safe and ends; it visits at most
+//! so many nodes (`Means`). Who takes the steps checks each again (`net_search`).
 //!
-//! First `src/places.rt`, then `src/forming.rt` and `src/table.rt`, then `src/one_loop.rt`.
+//! First `src/places.rt`, then `src/forming.rt` and `src/table.rt`, then `src/one_loop.rt` and
+//! `src/cheaper_loops.rt`.
 #![tactic(auto)]
 
 mod alike;
