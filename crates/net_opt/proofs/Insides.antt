@@ -84,7 +84,7 @@ collection_fits fs m t k event_child (at_event i) = omega (arith, i, members_few
 collection_fits fs m t k continuation_child (at_continuation i) = (omega arith, omega (arith, i, members_few fs))
 collection_fits fs m t k no_child at_none = tt
 
-parts_fit : (p : FormParts) (k : ℕ) → IfSome (child_inside p k) (ChildFits (parts_size p) k)
+parts_fit : (p : FormParts Expression) (k : ℕ) → IfSome (child_inside p k) (ChildFits (parts_size p) k)
 parts_fit (leaf e) zero = omega arith
 parts_fit (timed q e) zero = omega arith
 parts_fit (leaves e d) zero = omega arith
@@ -220,7 +220,7 @@ collection_in_a_row (and_member f fs) m t (suc k) =
     (subst (λ o. IfSome (collection_child (p_switch_child fs (suc k)) fs m t (suc k)) (λ a. Present o)) (one_further (p_switch_child fs k) f fs m t k)
     (collection_in_a_row fs m t k))
 
-parts_in_a_row : (p : FormParts) → InARow (child_inside p)
+parts_in_a_row : (p : FormParts Expression) → InARow (child_inside p)
 parts_in_a_row (leaves e d) zero = tt
 parts_in_a_row (leaves e d) (suc k) = tt
 parts_in_a_row (fed e f) zero = tt

@@ -45,7 +45,7 @@ collection_falls fs m t k event_child = omega arith
 collection_falls fs m t k continuation_child = omega arith
 collection_falls fs m t k no_child = tt
 
-inside_falls : (p : FormParts) (k : ℕ) → IfSome (child_inside p k) (Below (parts_size p))
+inside_falls : (p : FormParts Expression) (k : ℕ) → IfSome (child_inside p k) (Below (parts_size p))
 inside_falls (leaf e) zero = omega arith
 inside_falls (timed q e) zero = omega arith
 inside_falls (leaves e d) zero = omega arith

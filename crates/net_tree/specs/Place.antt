@@ -1,7 +1,6 @@
 -- What stands at a position: child numbers lead from the root through networks, and into an
 -- expression.
 use Rattle.std.specs.Prelude.{ℕ, zero, suc, List, [], ◌∷◌, Option, Some, None, option_map}
-use Rattle.leaf_core.specs.Expression.{Expression}
 use Rattle.net_tree.specs.FormParts.{FormParts, leaf, timed, leaves, one, fed, two, three, many, routed, collection, parts_of}
 use Rattle.net_tree.specs.Network.{Network, Networks, no_members, and_member}
 
@@ -55,7 +54,7 @@ collection_child continuation_child fs m n k = Some (a_network n)
 collection_child no_child fs m n k = None
 
 -- child k of what stands inside a network, from 0
-abbrev pub child_inside : FormParts → ℕ → Option (Tree Expression)
+abbrev pub child_inside : {L : Type 0} → FormParts L → ℕ → Option (Tree L)
 child_inside (leaf e) zero = Some (a_leaf e)
 child_inside (timed q e) zero = Some (a_leaf e)
 child_inside (leaves e d) zero = Some (a_leaf e)
@@ -76,11 +75,11 @@ child_inside (collection fs m t) k = collection_child (p_switch_child fs k) fs m
 child_inside _ k = None
 
 -- child k, from 0
-abbrev pub child : Network Expression → ℕ → Option (Tree Expression)
+abbrev pub child : {L : Type 0} → Network L → ℕ → Option (Tree L)
 child f k = child_inside (parts_of f) k
 
 -- the network, or the whole expression with what is left of the position inside it
-abbrev pub at : Tree Expression → List ℕ → Option (Tree Expression × List ℕ)
+abbrev pub at : {L : Type 0} → Tree L → List ℕ → Option (Tree L × List ℕ)
 at (a_leaf e) p = Some (a_leaf e, p)
 at (a_network f) [] = Some (a_network f, [])
 at (a_network f) (k ∷ p) = do
