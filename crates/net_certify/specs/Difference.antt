@@ -18,7 +18,7 @@ tree_child (a_network f) k = child f k
 tree_child (a_leaf e) k = option_map a_leaf (part e k)
 
 -- the number in a network's node: of a frozen network, of a delay or a timer, or how many members
-abbrev pub number_in : FormParts → ℕ
+abbrev pub number_in : FormParts Expression → ℕ
 number_in (F.index k) = k
 number_in (F.timed q e) = q
 number_in (F.many fs) = members fs

@@ -5,13 +5,12 @@ use Rattle.leaf_core.specs.Expression.{Expression, Expressions, no_more, and_the
 use Rattle.leaf_core.specs.Inside.{Inside, one, two, three, many, inside_of, inside_nodes}
 use Rattle.leaf_core.specs.Parts.{element, part_inside, part}
 use Rattle.leaf_core.proofs.InsideLaws.{nodes_inside}
-use Rattle.net_tree.specs.Network.{Network, Networks, network_size, networks_size, arr, seq, first, par, loop_pre, i_pre, delay, hold, accum_by, after, repeatedly, switch, r_switch, k_switch, p_switch, initial_out, initial_in, rp_switch, no_members, and_member}
+use Rattle.net_tree.specs.Network.{Network, Networks, network_size, networks_size, no_members, and_member}
 use Rattle.net_meaning.specs.Typing.{members}
-use Rattle.net_tree.specs.Place.{Tree, a_network, a_leaf, member, child, child_network, collection_child, PSwitchChild, p_switch_child, member_child, event_child, continuation_child, no_child}
-use Rattle.net_tree.specs.FormParts.{FormParts, leaves, fed, routed, collection, parts_of}
+use Rattle.net_tree.specs.Place.{Tree, a_network, a_leaf, member, child_inside, child, child_network, collection_child, PSwitchChild, p_switch_child, member_child, event_child, continuation_child, no_child}
+use Rattle.net_tree.specs.FormParts.{FormParts, leaf, timed, leaves, fed, routed, collection, parts_of, parts_size}
 use Rattle.net_tree.specs.FormParts as F
-use Rattle.net_syntax.specs.ChildParts.{child_inside}
-use Rattle.net_syntax.proofs.ChildNumbers.{child_is}
+use Rattle.net_tree.proofs.FormLaws.{size_inside}
 use Rattle.net_syntax.proofs.Children.{members_few}
 
 -- child k of a network, part k of an expression
@@ -85,36 +84,27 @@ collection_fits fs m t k event_child (at_event i) = omega (arith, i, members_few
 collection_fits fs m t k continuation_child (at_continuation i) = (omega arith, omega (arith, i, members_few fs))
 collection_fits fs m t k no_child at_none = tt
 
+parts_fit : (p : FormParts Expression) (k : ℕ) → IfSome (child_inside p k) (ChildFits (parts_size p) k)
+parts_fit (leaf e) zero = omega arith
+parts_fit (timed q e) zero = omega arith
+parts_fit (leaves e d) zero = omega arith
+parts_fit (leaves e d) (suc zero) = omega arith
+parts_fit (F.one f) zero = (omega arith, omega arith)
+parts_fit (fed e f) zero = omega arith
+parts_fit (fed e f) (suc zero) = (omega arith, omega arith)
+parts_fit (F.two f g) zero = (omega arith, omega arith)
+parts_fit (F.two f g) (suc zero) = (omega arith, omega arith)
+parts_fit (F.three f g h) zero = (omega arith, omega arith)
+parts_fit (F.three f g h) (suc zero) = (omega arith, omega arith)
+parts_fit (F.three f g h) (suc (suc zero)) = (omega arith, omega arith)
+parts_fit (F.many fs) k = par_fits fs k (member fs k) (member_fits fs k)
+parts_fit (routed r fs e t) zero = omega arith
+parts_fit (routed r fs e t) (suc k) = behind_fits fs e t k (p_switch_child fs k) (behind fs k)
+parts_fit (collection fs m t) k = collection_fits fs m t k (p_switch_child fs k) (behind fs k)
+parts_fit _ k = tt
+
 pub child_fits : (f : Network Expression) (k : ℕ) → IfSome (child f k) (ChildFits (network_size f) k)
-child_fits (arr e) zero = omega arith
-child_fits (seq f g) zero = (omega arith, omega arith)
-child_fits (seq f g) (suc zero) = (omega arith, omega arith)
-child_fits (first f) zero = (omega arith, omega arith)
-child_fits (par fs) k = par_fits fs k (member fs k) (member_fits fs k)
-child_fits (loop_pre c f) zero = omega arith
-child_fits (loop_pre c f) (suc zero) = (omega arith, omega arith)
-child_fits (i_pre c) zero = omega arith
-child_fits (delay q c) zero = omega arith
-child_fits (hold c) zero = omega arith
-child_fits (accum_by g z) zero = omega arith
-child_fits (accum_by g z) (suc zero) = omega arith
-child_fits (after q c) zero = omega arith
-child_fits (repeatedly q c) zero = omega arith
-child_fits (switch tm f t) zero = (omega arith, omega arith)
-child_fits (switch tm f t) (suc zero) = (omega arith, omega arith)
-child_fits (r_switch tm f t) zero = (omega arith, omega arith)
-child_fits (r_switch tm f t) (suc zero) = (omega arith, omega arith)
-child_fits (k_switch f e t) zero = (omega arith, omega arith)
-child_fits (k_switch f e t) (suc zero) = (omega arith, omega arith)
-child_fits (k_switch f e t) (suc (suc zero)) = (omega arith, omega arith)
-child_fits (p_switch r fs e t) zero = omega arith
-child_fits (p_switch r fs e t) (suc k) = behind_fits fs e t k (p_switch_child fs k) (behind fs k)
-child_fits (initial_out c f) zero = omega arith
-child_fits (initial_out c f) (suc zero) = (omega arith, omega arith)
-child_fits (initial_in c f) zero = omega arith
-child_fits (initial_in c f) (suc zero) = (omega arith, omega arith)
-child_fits (rp_switch fs m t) k = collection_fits fs m t k (p_switch_child fs k) (behind fs k)
-child_fits _ k = tt
+child_fits f k = subst (λ n. IfSome (child f k) (ChildFits n k)) (sym (size_inside f)) (parts_fit (parts_of f) k)
 
 -- a part of an expression is smaller, and its number is low
 abbrev pub PartFits : ℕ → ℕ → Expression → Type 0
@@ -230,7 +220,7 @@ collection_in_a_row (and_member f fs) m t (suc k) =
     (subst (λ o. IfSome (collection_child (p_switch_child fs (suc k)) fs m t (suc k)) (λ a. Present o)) (one_further (p_switch_child fs k) f fs m t k)
     (collection_in_a_row fs m t k))
 
-parts_in_a_row : (p : FormParts) → InARow (child_inside p)
+parts_in_a_row : (p : FormParts Expression) → InARow (child_inside p)
 parts_in_a_row (leaves e d) zero = tt
 parts_in_a_row (leaves e d) (suc k) = tt
 parts_in_a_row (fed e f) zero = tt
@@ -262,7 +252,7 @@ insides_in_a_row _ k = tt
 
 -- where nothing is inside at a number, nothing is at a later one
 pub no_later_child : (f : Network Expression) (k d j : ℕ) → child f k ≡ None → j ≡ d + k → child f j ≡ None
-no_later_child f k d j h e = child_is f j ∙ none_from (child_inside (parts_of f)) (parts_in_a_row (parts_of f)) k (sym (child_is f k) ∙ h) d j e
+no_later_child f k d j h e = none_from (child_inside (parts_of f)) (parts_in_a_row (parts_of f)) k h d j e
 
 pub no_later_part : (e : Expression) (k d j : ℕ) → part e k ≡ None → j ≡ d + k → part e j ≡ None
 no_later_part e k d j h i = none_from (part_inside (inside_of e)) (insides_in_a_row (inside_of e)) k h d j i

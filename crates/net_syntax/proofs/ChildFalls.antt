@@ -1,13 +1,11 @@
 -- A child of a network is smaller than it.
-use Rattle.std.proofs.Common.{◌≡◌, ℕ, zero, suc, ◌+◌, ◌*◌, ◌<◌, Option, Some, None, option_map, sym, ◌∙◌, subst, arith}
+use Rattle.std.proofs.Common.{◌≡◌, ℕ, zero, suc, ◌+◌, ◌*◌, ◌<◌, Option, Some, None, option_map, sym, subst, arith}
 use Rattle.std.specs.Prelude.{IfSome}
 use Rattle.leaf_core.specs.Expression.{Expression}
 use Rattle.net_tree.specs.Network.{Network, Networks, network_size, networks_size, no_members, and_member}
-use Rattle.net_tree.specs.Place.{Tree, a_network, a_leaf, member, child, child_network, collection_child, PSwitchChild, p_switch_child, member_child, event_child, continuation_child, no_child}
+use Rattle.net_tree.specs.Place.{Tree, a_network, a_leaf, member, child_inside, child, child_network, collection_child, PSwitchChild, p_switch_child, member_child, event_child, continuation_child, no_child}
 use Rattle.net_tree.specs.FormParts.{FormParts, leaf, timed, leaves, one, fed, two, three, many, routed, collection, parts_of, parts_size}
 use Rattle.net_tree.proofs.FormLaws.{size_inside}
-use Rattle.net_syntax.specs.ChildParts.{child_inside}
-use Rattle.net_syntax.proofs.ChildNumbers.{child_is}
 
 -- by what a walk over children falls
 abbrev pub fall : Tree Expression → ℕ
@@ -47,7 +45,7 @@ collection_falls fs m t k event_child = omega arith
 collection_falls fs m t k continuation_child = omega arith
 collection_falls fs m t k no_child = tt
 
-inside_falls : (p : FormParts) (k : ℕ) → IfSome (child_inside p k) (Below (parts_size p))
+inside_falls : (p : FormParts Expression) (k : ℕ) → IfSome (child_inside p k) (Below (parts_size p))
 inside_falls (leaf e) zero = omega arith
 inside_falls (timed q e) zero = omega arith
 inside_falls (leaves e d) zero = omega arith
@@ -68,4 +66,4 @@ inside_falls _ k = tt
 
 pub child_falls : (f : Network Expression) (k : ℕ) (c : Tree Expression) → child f k ≡ Some c → fall c < 2 * network_size f + 2
 child_falls f k c q =
-    subst (λ n. Below n c) (sym (size_inside f)) (subst (λ o. IfSome o (Below (parts_size (parts_of f)))) (sym (child_is f k) ∙ q) (inside_falls (parts_of f) k))
+    subst (λ n. Below n c) (sym (size_inside f)) (subst (λ o. IfSome o (Below (parts_size (parts_of f)))) q (inside_falls (parts_of f) k))

@@ -5,63 +5,12 @@ use Rattle.std.specs.List.{HoldsAt}
 use denote.Bor.{Bor}
 use Rattle.leaf_core.specs.Expression.{Expression}
 use Rattle.leaf_core.specs.declared.expr.Expr.{Expr}
-use Rattle.net_tree.specs.Network.{Network, Networks, arr, seq, first, par, loop_pre, i_pre, delay, hold, accum_by, after, repeatedly, time, integral, switch, r_switch, k_switch, p_switch, old, initial_out, initial_in, rp_switch, no_members, and_member}
+use Rattle.net_tree.specs.Network.{Network, Networks, p_switch, no_members, and_member}
 use Rattle.net_tree.specs.NetworkView.{members_of, tree_of, trees}
-use Rattle.net_tree.specs.Place.{child, member, member_child, continuation_child, p_switch_child}
+use Rattle.net_tree.specs.Place.{member, member_child, continuation_child, p_switch_child}
 use Rattle.net_syntax.specs.Placed.{bound, bound_behind, bound_in}
 use Rattle.net_meaning.specs.Typing.{members}
-use Rattle.net_tree.specs.FormParts.{parts_of}
-use Rattle.net_syntax.specs.ChildParts.{child_inside}
 use Rattle.net_tree.specs.declared.net.Net.{Net}
-
--- a child is one of what stands inside
-pub child_is : (f : Network Expression) (k : ℕ) → child f k ≡ child_inside (parts_of f) k
-child_is (arr e) zero = refl
-child_is (arr e) (suc k) = refl
-child_is (seq f g) zero = refl
-child_is (seq f g) (suc zero) = refl
-child_is (seq f g) (suc (suc k)) = refl
-child_is (first f) zero = refl
-child_is (first f) (suc k) = refl
-child_is (par fs) k = refl
-child_is (loop_pre c f) zero = refl
-child_is (loop_pre c f) (suc zero) = refl
-child_is (loop_pre c f) (suc (suc k)) = refl
-child_is (i_pre c) zero = refl
-child_is (i_pre c) (suc k) = refl
-child_is (delay q c) zero = refl
-child_is (delay q c) (suc k) = refl
-child_is (hold c) zero = refl
-child_is (hold c) (suc k) = refl
-child_is (accum_by g z) zero = refl
-child_is (accum_by g z) (suc zero) = refl
-child_is (accum_by g z) (suc (suc k)) = refl
-child_is (after q c) zero = refl
-child_is (after q c) (suc k) = refl
-child_is (repeatedly q c) zero = refl
-child_is (repeatedly q c) (suc k) = refl
-child_is time k = refl
-child_is integral k = refl
-child_is (switch tm f t) zero = refl
-child_is (switch tm f t) (suc zero) = refl
-child_is (switch tm f t) (suc (suc k)) = refl
-child_is (r_switch tm f t) zero = refl
-child_is (r_switch tm f t) (suc zero) = refl
-child_is (r_switch tm f t) (suc (suc k)) = refl
-child_is (k_switch f e t) zero = refl
-child_is (k_switch f e t) (suc zero) = refl
-child_is (k_switch f e t) (suc (suc zero)) = refl
-child_is (k_switch f e t) (suc (suc (suc k))) = refl
-child_is (p_switch r fs e t) zero = refl
-child_is (p_switch r fs e t) (suc k) = refl
-child_is (old j) k = refl
-child_is (initial_out c f) zero = refl
-child_is (initial_out c f) (suc zero) = refl
-child_is (initial_out c f) (suc (suc k)) = refl
-child_is (initial_in c f) zero = refl
-child_is (initial_in c f) (suc zero) = refl
-child_is (initial_in c f) (suc (suc k)) = refl
-child_is (rp_switch fs m t) k = refl
 
 pub counted : (all : List (Net Expr)) → members (trees (members_of all)) ≡ length all
 counted [] = refl

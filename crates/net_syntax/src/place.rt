@@ -72,7 +72,6 @@ pub fn place_below<'n>(place: Place<'n>, path: &[u32]) -> Option<Place<'n>>
 }
 
 /// Child k of the network, from 0.
-#[tactic(auto, using(std::proofs::lemmas::Grind::common_steps, crate::proofs::ChildNumbers::child_is))]
 pub fn child(net: &Net<Expr>, k: u32) -> Option<TreeRef<'_>>
     ensures { option_map seen result ≡ child (tree_of net.now) k }
 {

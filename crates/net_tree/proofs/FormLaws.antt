@@ -8,7 +8,7 @@ use Rattle.net_tree.specs.FormParts.{FormParts, nothing, index, leaf, timed, lea
 use Rattle.net_tree.specs.declared.net.Net.{Net}
 
 -- the network of a form with these parts
-abbrev form_with : ℕ → FormParts → Network Expression
+abbrev form_with : ℕ → FormParts Expression → Network Expression
 form_with n nothing = if nat_eq n 11 then time else integral
 form_with n (index k) = old k
 form_with n (leaf e) = if nat_eq n 0 then arr e else if nat_eq n 5 then i_pre e else hold e

@@ -14,24 +14,24 @@ use Rattle.net_tree.specs.declared.equal.Parts.TheVariants as V
 abbrev pub form_number : Network Expression → ℕ
 form_number f = tag_of (to_code expression_code f)
 
--- nothing, a frozen network's number, expressions with or without a number, networks, members, and
--- what some of these are together, in their order
-pub data FormParts : Type 0 where
-  nothing : FormParts
-  index : ℕ → FormParts
-  leaf : Expression → FormParts
-  timed : ℕ → Expression → FormParts
-  leaves : Expression → Expression → FormParts
-  one : Network Expression → FormParts
-  fed : Expression → Network Expression → FormParts
-  two : Network Expression → Network Expression → FormParts
-  three : Network Expression → Network Expression → Network Expression → FormParts
-  many : Networks Expression → FormParts
-  routed : Expression → Networks Expression → Network Expression → Network Expression → FormParts
-  collection : Networks Expression → Expression → Network Expression → FormParts
+-- nothing, a frozen network's number, leaves with or without a number, networks, members, and what
+-- some of these are together, in their order
+pub data FormParts (L : Type 0) : Type 0 where
+  nothing : FormParts L
+  index : ℕ → FormParts L
+  leaf : L → FormParts L
+  timed : ℕ → L → FormParts L
+  leaves : L → L → FormParts L
+  one : Network L → FormParts L
+  fed : L → Network L → FormParts L
+  two : Network L → Network L → FormParts L
+  three : Network L → Network L → Network L → FormParts L
+  many : Networks L → FormParts L
+  routed : L → Networks L → Network L → Network L → FormParts L
+  collection : Networks L → L → Network L → FormParts L
 
 -- what stands inside a network; with the number of its form it is the network
-abbrev pub parts_of : Network Expression → FormParts
+abbrev pub parts_of : {L : Type 0} → Network L → FormParts L
 parts_of (arr e) = leaf e
 parts_of (seq f g) = two f g
 parts_of (first f) = one f
@@ -55,7 +55,7 @@ parts_of (initial_in c f) = fed c f
 parts_of (rp_switch fs m t) = collection fs m t
 
 -- what the code's `Parts` say
-abbrev pub parts_in : Parts → FormParts
+abbrev pub parts_in : Parts → FormParts Expression
 parts_in V.Nothing = nothing
 parts_in (V.Index k) = index k
 parts_in (V.Leaf e) = leaf (expression_of e.now)
@@ -70,7 +70,7 @@ parts_in (V.Routed r fs e t) = routed (expression_of r.now) (trees fs.now) (tree
 parts_in (V.Collection fs m t) = collection (trees fs.now) (expression_of m.now) (tree t.now)
 
 -- how many networks stand inside one another, by what stands inside a network
-abbrev pub parts_size : FormParts → ℕ
+abbrev pub parts_size : {L : Type 0} → FormParts L → ℕ
 parts_size (one f) = suc (network_size f)
 parts_size (fed e f) = suc (network_size f)
 parts_size (two f g) = suc (network_size f + network_size g)

@@ -1,7 +1,8 @@
 -- What stands at a position: child numbers lead from the root through networks, and into an
 -- expression.
 use Rattle.std.specs.Prelude.{ℕ, zero, suc, List, [], ◌∷◌, Option, Some, None, option_map}
-use Rattle.net_tree.specs.Network.{Network, Networks, arr, seq, first, par, loop_pre, initial_out, initial_in, i_pre, delay, hold, accum_by, after, repeatedly, switch, r_switch, rp_switch, k_switch, p_switch, no_members, and_member}
+use Rattle.net_tree.specs.FormParts.{FormParts, leaf, timed, leaves, one, fed, two, three, many, routed, collection, parts_of}
+use Rattle.net_tree.specs.Network.{Network, Networks, no_members, and_member}
 
 infixl 20 ◌>>=◌
 -- the next step, where there is something
@@ -52,38 +53,30 @@ collection_child event_child fs m n k = Some (a_leaf m)
 collection_child continuation_child fs m n k = Some (a_network n)
 collection_child no_child fs m n k = None
 
+-- child k of what stands inside a network, from 0
+abbrev pub child_inside : {L : Type 0} → FormParts L → ℕ → Option (Tree L)
+child_inside (leaf e) zero = Some (a_leaf e)
+child_inside (timed q e) zero = Some (a_leaf e)
+child_inside (leaves e d) zero = Some (a_leaf e)
+child_inside (leaves e d) (suc zero) = Some (a_leaf d)
+child_inside (one f) zero = Some (a_network f)
+child_inside (fed e f) zero = Some (a_leaf e)
+child_inside (fed e f) (suc zero) = Some (a_network f)
+child_inside (two f g) zero = Some (a_network f)
+child_inside (two f g) (suc zero) = Some (a_network g)
+child_inside (three f g h) zero = Some (a_network f)
+child_inside (three f g h) (suc zero) = Some (a_network g)
+child_inside (three f g h) (suc (suc zero)) = Some (a_network h)
+child_inside (many fs) k = option_map a_network (member fs k)
+child_inside (routed r fs e t) zero = Some (a_leaf r)
+child_inside (routed r fs e t) (suc k) =
+    option_map a_network (child_network (p_switch_child fs k) fs e t k)
+child_inside (collection fs m t) k = collection_child (p_switch_child fs k) fs m t k
+child_inside _ k = None
+
 -- child k, from 0
 abbrev pub child : {L : Type 0} → Network L → ℕ → Option (Tree L)
-child (arr e) zero = Some (a_leaf e)
-child (seq f g) zero = Some (a_network f)
-child (seq f g) (suc zero) = Some (a_network g)
-child (first f) zero = Some (a_network f)
-child (par fs) k = option_map a_network (member fs k)
-child (loop_pre c f) zero = Some (a_leaf c)
-child (loop_pre c f) (suc zero) = Some (a_network f)
-child (i_pre c) zero = Some (a_leaf c)
-child (delay q c) zero = Some (a_leaf c)
-child (hold c) zero = Some (a_leaf c)
-child (accum_by g z) zero = Some (a_leaf g)
-child (accum_by g z) (suc zero) = Some (a_leaf z)
-child (after q c) zero = Some (a_leaf c)
-child (repeatedly q c) zero = Some (a_leaf c)
-child (switch tm f n) zero = Some (a_network f)
-child (switch tm f n) (suc zero) = Some (a_network n)
-child (r_switch tm f n) zero = Some (a_network f)
-child (r_switch tm f n) (suc zero) = Some (a_network n)
-child (k_switch f e n) zero = Some (a_network f)
-child (k_switch f e n) (suc zero) = Some (a_network e)
-child (k_switch f e n) (suc (suc zero)) = Some (a_network n)
-child (p_switch r fs e n) zero = Some (a_leaf r)
-child (p_switch r fs e n) (suc k) =
-    option_map a_network (child_network (p_switch_child fs k) fs e n k)
-child (initial_out c f) zero = Some (a_leaf c)
-child (initial_out c f) (suc zero) = Some (a_network f)
-child (initial_in c f) zero = Some (a_leaf c)
-child (initial_in c f) (suc zero) = Some (a_network f)
-child (rp_switch fs m n) k = collection_child (p_switch_child fs k) fs m n k
-child _ _ = None
+child f k = child_inside (parts_of f) k
 
 -- the network, or the whole expression with what is left of the position inside it
 abbrev pub at : {L : Type 0} → Tree L → List ℕ → Option (Tree L × List ℕ)
