@@ -194,8 +194,11 @@ impl Sketch {
         }
     }
 
-    /// The network with the tree at the position.
+    /// The network with the tree at the position. The nodes on the way there are visited.
     fn with_tree(&self, position: &Position, new: &Tree) -> Result<NetChild<Expr>, NoMove> {
+        if !self.means.spend(position.path().len() as u64) {
+            return Err(NoMove::Unfit);
+        }
         match replace(self.alloc, self.net.get(), position, new)? {
             Some(net) => Ok(NetChild::new(self.alloc, net)?),
             None => Err(NoMove::Unfit),
