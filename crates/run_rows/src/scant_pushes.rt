@@ -7,14 +7,16 @@ use crate::found::{Probe, all_are_found};
 use crate::running::WatchedRunner;
 use leaf_table::LeafTable;
 use row_texts::ballast::{ROOM, take_all};
+use row_texts::refusing::{refuse, refuse_none};
 use row_texts::texts::{answer_told, say, say_at};
 use sample_core::{Memory, Sample};
 use std::alloc::Global;
 use step_core::Bound;
 
 /// Says what the network answers to each sample of the stream, and how many nodes that visits,
-/// where each is pushed with no memory left, and after each refusal again with a little more; and
-/// whether any push was refused, or one that was changed what is told of the samples before.
+/// where each is pushed again after each refusal, with a later growth refused or a little more
+/// memory left; and whether any push was refused, or one that was changed what is told of the
+/// samples before.
 pub fn scant_stream_told(
     alloc: Global,
     bound: &Bound,
@@ -61,9 +63,9 @@ fn scant_push(
     sample: &Sample,
 ) -> Result<Sample, Memory> {
     for attempt in 0..ATTEMPTS {
-        let ballast = take_all(alloc, attempt.saturating_mul(16));
+        let ballast = refuse(alloc, attempt + 1, attempt.saturating_mul(16));
         let answer = running.push(step, sample);
-        drop(ballast);
+        refuse_none(alloc, ballast);
         if answer.is_ok() {
             return answer;
         }

@@ -6,6 +6,7 @@ ghost use Rattle.step_core.specs.Binding.{FitsTable};
 use crate::found::{Probe, all_are_found};
 use leaf_table::LeafTable;
 use row_texts::ballast::{ROOM, take_all};
+use row_texts::refusing::refuse_none;
 use row_texts::scarce::{Ending, MOST_TRIES, Scarce, Shortage, Tries};
 use row_texts::texts::say;
 use std::alloc::Global;
@@ -65,6 +66,7 @@ fn run_tried(alloc: Global, given: Given<'_>, shortage: Shortage) -> Ending
     let mut reader = Counted::new(Scarce::new(alloc, given.stream.as_bytes(), shortage));
     let ended = run(alloc, given.bound, given.table, &mut reader, &mut writer);
     drop(reader);
+    refuse_none(alloc, None);
     let written = writer.into_inner();
     run_ending(&ended, &written, given.whole)
 }
