@@ -36,7 +36,8 @@ pub use feed::tag;
 pub use key::LeafKey;
 pub use laws::{part_laws, typing_laws};
 pub use limits::{
-    MOST_EXPR_HEIGHT, MOST_EXPR_NODES, MOST_TYPE_DEPTH, MOST_TYPE_NODES, expr_fits, type_fits,
+    MOST_EXPR_HEIGHT, MOST_EXPR_NODES, MOST_TYPE_DEPTH, MOST_TYPE_NODES, expr_fits,
+    expr_nodes_left, type_fits,
 };
 pub use literal::Literal;
 pub use part_types::part_type;

@@ -35,7 +35,7 @@ pub fn type_fits(ty: &Ty) -> bool
 pub fn expr_fits(expr: &Expr) -> bool
     ensures { result ≡ expression_fits (expression_of expr.now) }
 {
-    nodes_left(expr, MOST_EXPR_HEIGHT, MOST_EXPR_NODES).is_some()
+    expr_nodes_left(expr, MOST_EXPR_HEIGHT, MOST_EXPR_NODES).is_some()
 }
 
 /// How many of `nodes` are left after those of the type, whose depth is at most `depth`; `None` if
@@ -58,7 +58,7 @@ fn type_nodes_left(ty: &Ty, depth: u32, nodes: u32) -> Option<u32>
 /// How many of `nodes` are left after those of the expression, whose height is at most `height`;
 /// `None` if it is taller, or has more. It stops at the first expression too many.
 #[cycle(left)]
-fn nodes_left(expr: &Expr, height: u32, nodes: u32) -> Option<u32>
+pub fn expr_nodes_left(expr: &Expr, height: u32, nodes: u32) -> Option<u32>
     ensures { NodesLeft result (height_of (expression_of expr.now))
         (nodes_in (expression_of expr.now)) height nodes }
 {
@@ -68,7 +68,7 @@ fn nodes_left(expr: &Expr, height: u32, nodes: u32) -> Option<u32>
         Contents::Nothing | Contents::Index(_) | Contents::Number(_) | Contents::Type(_) => Some(
             nodes,
         ),
-        Contents::One(a) => nodes_left(a.get(), height, nodes),
+        Contents::One(a) => expr_nodes_left(a.get(), height, nodes),
         Contents::Two(a, b) => nodes_left_of_two(a, b, height, nodes),
         Contents::Three(a, b, c) => nodes_left_of_three(a, b, c, height, nodes),
         Contents::Elements(_, all) => nodes_left_of_all(all, height, nodes),
@@ -81,8 +81,8 @@ fn nodes_left_of_two(a: &ExprChild, b: &ExprChild, height: u32, nodes: u32) -> O
     ensures { NodesLeft result (max (height_of a.now) (height_of b.now))
         (nodes_in a.now + nodes_in b.now) height nodes }
 {
-    let nodes = nodes_left(a.get(), height, nodes)?;
-    nodes_left(b.get(), height, nodes)
+    let nodes = expr_nodes_left(a.get(), height, nodes)?;
+    expr_nodes_left(b.get(), height, nodes)
 }
 
 /// How many of `nodes` three parts leave.
@@ -98,7 +98,7 @@ fn nodes_left_of_three(
         (nodes_in a.now + nodes_in b.now + nodes_in c.now) height nodes }
 {
     let nodes = nodes_left_of_two(a, b, height, nodes)?;
-    nodes_left(c.get(), height, nodes)
+    expr_nodes_left(c.get(), height, nodes)
 }
 
 /// How many of `nodes` the elements of a list expression leave.
@@ -110,7 +110,7 @@ fn nodes_left_of_all(all: &Exprs, height: u32, nodes: u32) -> Option<u32>
 {
     let mut left = nodes;
     for element in all.as_slice() {
-        left = nodes_left(element, height, left)?;
+        left = expr_nodes_left(element, height, left)?;
     }
     Some(left)
 }

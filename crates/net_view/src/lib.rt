@@ -17,7 +17,6 @@ mod cut;
 mod forms;
 mod inner;
 mod may_stand;
-mod nodes;
 mod positions;
 mod possible;
 mod rows;

@@ -9,9 +9,8 @@ ghost use Rattle.net_meaning.specs.NetworkLimits.{WithinLimits};
 ghost use Rattle.net_opt.specs.Walk.{Reached};
 ghost use Rattle.net_view.specs.Spots.{GrowsLittle, IsAround, IsRoomy, MayStand, fits_there};
 
-use crate::nodes::nodes_left;
 use crate::spot::Spot;
-use leaf_core::{Expr, MOST_EXPR_HEIGHT, MOST_EXPR_NODES};
+use leaf_core::{Expr, MOST_EXPR_HEIGHT, MOST_EXPR_NODES, expr_nodes_left};
 use net_syntax::{Standing, TypedNet};
 use net_tree::{
     MOST_HEIGHT, MOST_SIZE, MOST_WEIGHT, Measures, Net, Position, Tree, TreeRef, measured,
@@ -83,10 +82,10 @@ fn fits_there(height: u32, more: u32, before: &Expr, after: &Expr) -> bool
     ensures { result
         ≡ fits_there height more (expression_of before.now) (expression_of after.now) }
 {
-    let Some(others) = nodes_left(before, MOST_EXPR_HEIGHT, MOST_EXPR_NODES) else {
+    let Some(others) = expr_nodes_left(before, MOST_EXPR_HEIGHT, MOST_EXPR_NODES) else {
         unreachable!()
     };
-    nodes_left(after, height, MOST_EXPR_NODES - others + more).is_some()
+    expr_nodes_left(after, height, MOST_EXPR_NODES - others + more).is_some()
 }
 
 /// Whether the network may stand for the other one, with no frozen networks in scope: the whole gets

@@ -6,8 +6,7 @@ ghost use Rattle.net_tree.specs.LawStep.{seen};
 ghost use Rattle.net_syntax.specs.{ChildParts.seen_place};
 ghost use Rattle.net_view.specs.Spots.{IsNewRoom, IsRoomBelow};
 
-use crate::nodes::nodes_left;
-use leaf_core::{MOST_EXPR_HEIGHT, MOST_EXPR_NODES};
+use leaf_core::{MOST_EXPR_HEIGHT, MOST_EXPR_NODES, expr_nodes_left};
 use net_syntax::Place;
 use net_tree::TreeRef;
 
@@ -40,7 +39,7 @@ fn room_of(tree: TreeRef<'_>) -> u32
 {
     match tree {
         TreeRef::Net(_) => 0,
-        TreeRef::Expr(expr) => match nodes_left(expr, MOST_EXPR_HEIGHT, MOST_EXPR_NODES) {
+        TreeRef::Expr(expr) => match expr_nodes_left(expr, MOST_EXPR_HEIGHT, MOST_EXPR_NODES) {
             Some(left) => left,
             None => 0,
         },

@@ -11,8 +11,8 @@ invariant-nodes_left_of_all-loop-element l =
     × (nodes_in_all (expressions_of (map expression_of l.element-items))
     + l.left ≡ nodes_in_all (expressions_of (map expression_of (drop l.element-index l.element-items))) + l.initial.left)
 
-abbrev pub decreases-nodes_left : goal.decreases-nodes_left
-decreases-nodes_left l = 3 * l.height + 1
+abbrev pub decreases-expr_nodes_left : goal.decreases-expr_nodes_left
+decreases-expr_nodes_left l = 3 * l.height + 1
 
 abbrev pub decreases-nodes_left_of_all : goal.decreases-nodes_left_of_all
 decreases-nodes_left_of_all l = 3 * l.height + 2
