@@ -192,7 +192,14 @@ impl Former {
 
     /// Drops the stage, where the one behind it hears nothing, and returns whether.
     fn drop_stage(&mut self, path: &[u32], stage: usize) -> Result<bool, NoMove> {
-        match self.made_by(&SOURCE, path, stage)? {
+        let spot = self.sketch.at(path)?;
+        let TreeRef::Net(chain) = spot.tree else {
+            return Err(NoMove::Unfit);
+        };
+        let Some(here) = rest(chain, stage) else {
+            return Ok(false);
+        };
+        match self.made_by(&SOURCE, here, spot.olds)? {
             Some(made) => {
                 self.put(path, stage, made)?;
                 Ok(true)
@@ -232,15 +239,18 @@ impl Former {
 
     /// What the first move makes that fits at the stage of the chain at the path.
     fn found(&self, path: &[u32], stage: usize) -> Result<Option<Made>, NoMove> {
-        let chain = self.sketch.net_at(path)?;
+        let spot = self.sketch.at(path)?;
+        let TreeRef::Net(chain) = spot.tree else {
+            return Err(NoMove::Unfit);
+        };
         let Some(here) = rest(chain, stage) else {
             return Ok(None);
         };
         let loops = has_loop(chain, stage);
         let arr = stage > 0 && is_arr(chain, stage - 1);
         for row in TABLE {
-            if row.0.fits_behind(loops, arr) && row_fits(&row, here) {
-                if let Some(made) = self.made_by(&row, path, stage)? {
+            if row.0.fits_behind(loops, arr) {
+                if let Some(made) = self.made_by(&row, here, spot.olds)? {
                     return Ok(Some(made));
                 }
             }
@@ -248,20 +258,14 @@ impl Former {
         Ok(None)
     }
 
-    /// What the row's move makes at the stage of the chain at the path, where it fits.
-    fn made_by(&self, row: &MoveRow, path: &[u32], stage: usize) -> Result<Option<Made>, NoMove> {
-        let spot = self.sketch.at(path)?;
-        let TreeRef::Net(whole) = spot.tree else {
-            return Err(NoMove::Unfit);
-        };
-        let Some(chain) = rest(whole, stage) else {
-            return Ok(None);
-        };
+    /// What the row's move makes of the chain's first stages, where it fits, with so many frozen
+    /// networks in scope.
+    fn made_by(&self, row: &MoveRow, chain: &Net<Expr>, olds: u32) -> Result<Option<Made>, NoMove> {
         if !row_fits(row, chain) || !self.sketch.means.spend(row.1 as u64) {
             return Ok(None);
         }
         let window = front(self.sketch.alloc, chain, row.1)?;
-        tried(&self.sketch.means, row, &window, spot.olds)
+        tried(&self.sketch.means, row, &window, olds)
     }
 
     /// Puts what was made of some stages in their place, and what it built is to be formed.
