@@ -371,7 +371,7 @@ fn at_forms(
 }
 
 /// Steps from two normal forms to where they are one: none of forms that are the same, else at the
-/// places where they differ.
+/// places where they differ, then with loops made one there.
 fn between_forms(
     alloc: Global,
     there: &Formed,
@@ -384,10 +384,15 @@ fn between_forms(
             back: Vec::new(alloc),
         }));
     }
-    let means = Means::new(alloc, MOST_BETWEEN)?;
-    let ways = ways_between(&means, there.net.get(), back.net.get(), false)?;
-    add_spent(nodes, MOST_BETWEEN, &means);
-    Ok(ways)
+    for with_loops in [false, true] {
+        let means = Means::new(alloc, MOST_BETWEEN)?;
+        let ways = ways_between(&means, there.net.get(), back.net.get(), with_loops)?;
+        add_spent(nodes, MOST_BETWEEN, &means);
+        if ways.is_some() {
+            return Ok(ways);
+        }
+    }
+    Ok(None)
 }
 
 /// Whether the steps to the normal form may be taken: not where they are many and it is large.
