@@ -1,5 +1,5 @@
 -- How many members and elements the code's networks and expressions have.
-use Rattle.std.proofs.Common.{◌≡◌, ℕ, suc, List, [], ◌∷◌, length, map, refl, sym, ap, ◌∙◌}
+use Rattle.std.proofs.Common.{◌≡◌, suc, List, [], ◌∷◌, length, map, refl, sym, ap, ◌∙◌}
 use Rattle.std.proofs.lemmas.List.{length-map}
 use Rattle.leaf_core.specs.Expression.{Expression, expressions_of}
 use Rattle.leaf_core.specs.ExpressionView.{expression_of}

@@ -1,2 +1,4 @@
 pub mod Differing
 pub mod Counting
+pub mod Falling
+pub mod Numbered

@@ -194,11 +194,10 @@ impl Sketch {
         }
     }
 
-    /// The network with the tree at the position. The nodes on the way there are visited.
+    /// The network with the tree at the position. The nodes on the way there are visited, also where
+    /// none are left: what was found is kept.
     fn with_tree(&self, position: &Position, new: &Tree) -> Result<NetChild<Expr>, NoMove> {
-        if !self.means.spend(position.path().len() as u64) {
-            return Err(NoMove::Unfit);
-        }
+        self.means.spend(position.path().len() as u64);
         match replace(self.alloc, self.net.get(), position, new)? {
             Some(net) => Ok(NetChild::new(self.alloc, net)?),
             None => Err(NoMove::Unfit),
