@@ -14,10 +14,10 @@ const LINE: usize = 100;
 /// How deep in brackets a part may be that is shown of a text that is cut.
 const DEEPEST: usize = 8;
 
-/// How many bytes of a text are shown where its difference from another is to be seen, and how many
-/// of them before that.
+/// The most bytes that are shown of a text of which only a part is.
 const PART: usize = LINE - 4;
 
+/// The most of them that stand before what differs.
 const FRONT: usize = 20;
 
 /// Adds the text; one of over 100 bytes with two dots for each part that is too deep in brackets,
