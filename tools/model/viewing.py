@@ -1,14 +1,18 @@
 """What the model says of the commands that look at a network: its outline, the steps that may be taken, where two differ."""
 import re
+from os.path import commonprefix
 
 from model.laws import StepFault, answer, taken
 from model.texts import LAWS, Step, step_text
 from model.trees import at_text, is_network, shown
 from model.typed import WEIGHT, weight
 
-# How long a line of a tree is at most, and how deep in brackets what it shows of a longer one.
+# How long a line of a tree is at most, and how deep in brackets what it shows of a longer one; and of a part of a tree how much it
+# shows, and how much of that before what differs.
 LINE = 100
 DEEPEST = 8
+PART = 96
+FRONT = 20
 
 
 def outline_lines(typed):
@@ -39,7 +43,22 @@ def possible_steps(typed, top):
 
 def possible_lines(found):
     """The lines of steps that can be taken."""
-    return [f"{step_text(step)}\n- {cut(shown(before))}\n+ {cut(shown(after))}\n" for step, before, after in found]
+    return [step_text(step) + "\n- {}\n+ {}\n".format(*cut_pair(shown(before), shown(after))) for step, before, after in found]
+
+
+def cut_pair(first, second):
+    """Two texts, cut; where they differ and that leaves no difference to see, what stands in each around their first difference."""
+    cuts = cut(first), cut(second)
+    if cuts[0] != cuts[1] or first == second:
+        return cuts
+    start = max(0, len(commonprefix([first, second])) - FRONT)
+    return part_from(start, first), part_from(start, second)
+
+
+def part_from(start, text):
+    """So much of a text from a place on, and two dots for what stands before and behind it."""
+    end = start + PART
+    return (".." if start else "") + text[start:end] + (".." if end < len(text) else "")
 
 
 def cut(text):

@@ -1,5 +1,6 @@
 -- A text that is cut to a line: what is deep in brackets is left out.
-use Rattle.std.specs.Prelude.{ℕ, zero, suc, ◌-◌, nat_eq, nat_lt, ◌&&◌, List, [], ◌∷◌, ◌++◌, length, codes, if◌then◌else◌}
+use Rattle.std.specs.Prelude.{ℕ, zero, suc, ◌-◌, nat_eq, nat_lt, Bool, not, ◌&&◌, List, [], ◌∷◌, ◌++◌, length, take, drop, filter, bytes_eq, codes, if◌then◌else◌}
+use Rattle.std.specs.List.{common_prefix_len}
 
 -- how many brackets are open behind a byte, where d are open before it
 abbrev pub open_behind : ℕ → ℕ → ℕ
@@ -31,3 +32,32 @@ fitting (suc n) text =
 -- the text, cut where it has over 100 bytes
 abbrev pub cut : List ℕ → List ℕ
 cut text = if nat_lt 100 (length text) then fitting 8 text else text
+
+-- whether two texts that differ are the same where they are cut
+abbrev pub is_cut_alike : List ℕ → List ℕ → Bool
+is_cut_alike a b = bytes_eq (cut a) (cut b) && not (bytes_eq a b)
+
+-- how many bytes both texts begin with
+abbrev pub same_front : List ℕ → List ℕ → ℕ
+same_front a b = common_prefix_len nat_eq a b
+
+-- two dots, if something is left out there
+abbrev pub dots : Bool → List ℕ
+dots is_left_out = if is_left_out then codes ".." else []
+
+-- the first 96 bytes of a text, of ASCII alone, and two dots for what stands behind
+abbrev pub beginning : List ℕ → List ℕ
+beginning text = filter (λ c. nat_lt c 128) (take 96 text) ++ dots (nat_lt 96 (length text))
+
+-- two dots for the first n bytes of a text, and the beginning of the rest
+abbrev pub part_behind : ℕ → List ℕ → List ℕ
+part_behind n text = dots (nat_lt 0 n) ++ beginning (drop n text)
+
+-- the part of a text from 20 bytes before place n on
+abbrev pub around : ℕ → List ℕ → List ℕ
+around n text = part_behind (n - 20) text
+
+-- both texts, cut; where that leaves no difference to see, the part of each around their first one
+unfoldable pub cut_pair : List ℕ → List ℕ → List ℕ × List ℕ
+cut_pair a b =
+    if is_cut_alike a b then (around (same_front a b) a, around (same_front a b) b) else (cut a, cut b)

@@ -10,7 +10,7 @@ use Rattle.net_meaning.specs.TypedNetwork.{TypedNetwork}
 use Rattle.net_text.specs.CertificatePrinting.{tree_sexpr}
 use Rattle.net_view.specs.Rows.{OutlinedRow, IsOutline}
 use Rattle.net_view.specs.Possible.{Possible, ArePossible}
-use Rattle.net_view.specs.TraceText.{step_line, cut_line}
+use Rattle.net_view.specs.TraceText.{step_line, cut_lines}
 
 -- the word that a part begins with, or is
 abbrev pub first_word : Sexpr → List ℕ
@@ -49,8 +49,7 @@ OutlineText t bytes = (rows : List OutlinedRow) × IsOutline t rows × (bytes �
 
 -- three lines: the step as certificates have it, what stands at its position, what stands there then
 abbrev pub possible_spelling : Possible → List ℕ
-possible_spelling x = step_line x.step
-    ++ (cut_line (codes "- ") x.change.before ++ cut_line (codes "+ ") x.change.after)
+possible_spelling x = step_line x.step ++ cut_lines x.change.before x.change.after
 
 -- the same of steps
 abbrev pub possibles_spelling : List Possible → List ℕ

@@ -7,7 +7,7 @@ use Rattle.net_tree.specs.LawStep.{Step}
 use Rattle.net_meaning.specs.TypedNetwork.{TypedNetwork}
 use Rattle.net_text.specs.CertificatePrinting.{step_sexpr, tree_sexpr}
 use Rattle.net_view.specs.Trace.{Changed, Stopped, IsTrace}
-use Rattle.net_view.specs.Cut.{cut}
+use Rattle.net_view.specs.Cut.{cut, cut_pair}
 
 -- a step's line
 abbrev pub step_line : Step → List ℕ
@@ -20,6 +20,15 @@ marked_line mark tree = mark ++ (sexpr_spelling (tree_sexpr tree) ++ 10 ∷ [])
 -- the same, cut where the tree is long
 abbrev pub cut_line : List ℕ → Tree Expression → List ℕ
 cut_line mark tree = mark ++ (cut (sexpr_spelling (tree_sexpr tree)) ++ 10 ∷ [])
+
+-- the lines of two texts, of what was there and of what is there now
+abbrev pub pair_lines : List ℕ × List ℕ → List ℕ
+pair_lines texts = codes "- " ++ (texts.0 ++ (codes "\n+ " ++ (texts.1 ++ 10 ∷ [])))
+
+-- the lines of two trees, each cut, so that what differs is seen
+abbrev pub cut_lines : Tree Expression → Tree Expression → List ℕ
+cut_lines before after =
+    pair_lines (cut_pair (sexpr_spelling (tree_sexpr before)) (sexpr_spelling (tree_sexpr after)))
 
 -- the line of a tree, if there is one
 abbrev pub marked_lines : List ℕ → Option (Tree Expression) → List ℕ

@@ -8,7 +8,7 @@ ghost use Rattle.net_view.specs.Texts.{OutlineText, PossibleText, indent, possib
 use crate::forms::push_form;
 use crate::possible::{PossibleStep, possible_steps};
 use crate::rows::{OutlineRow, outline};
-use crate::told::push_cut_line;
+use crate::told::push_cut_lines;
 use itoa::Buffer;
 use net_syntax::TypedNet;
 use net_text::push_step;
@@ -33,7 +33,9 @@ pub fn outline_text(alloc: Global, net: &TypedNet) -> Result<String, Memory>
 /// The steps forward at or below the position that a check would accept, as a new text of three
 /// lines a step: the step as a certificate has it, behind `- ` what stands at its position, and
 /// behind `+ ` what stands there then. A tree of over 100 bytes is cut: as deep as 100 bytes hold,
-/// two dots stand for each part that is deeper in brackets. `Memory` if allocation fails.
+/// two dots stand for each part that is deeper in brackets; where that leaves no difference to see,
+/// 96 bytes of each from 20 before the first difference on stand there, and two dots for what is
+/// before and behind. `Memory` if allocation fails.
 pub fn possible_text(alloc: Global, net: &TypedNet, position: &Position) -> Result<String, Memory>
     ensures { IfOk result (λ text. PossibleText net.now position.now (string_bytes text)) }
 {
@@ -51,8 +53,7 @@ fn push_possible(alloc: Global, text: &mut String, step: &PossibleStep) -> Resul
         (possible_spelling (possible_of step.now)) }
 {
     push_step(text, &step.step)?;
-    push_cut_line(alloc, text, "- ", &step.change.before)?;
-    push_cut_line(alloc, text, "+ ", &step.change.after)
+    push_cut_lines(alloc, text, &step.change.before, &step.change.after)
 }
 
 /// A row of the outline.

@@ -6,9 +6,9 @@ ghost use Rattle.leaf_expr.specs.Sexpr.{sexpr_spelling};
 ghost use Rattle.net_tree.specs.LawStep.{part_of, step_of};
 ghost use Rattle.net_text.specs.CertificatePrinting.{tree_sexpr};
 ghost use Rattle.net_view.specs.Trace.{changed_of, stopped_of};
-ghost use Rattle.net_view.specs.TraceText.{change_lines, cut_line, marked_line, marked_lines, stop_lines, trace_lines};
+ghost use Rattle.net_view.specs.TraceText.{change_lines, cut_line, cut_lines, marked_line, marked_lines, stop_lines, trace_lines};
 
-use crate::cut::push_cut;
+use crate::cut::{push_cut, push_pair};
 use crate::trace::{Change, RefusedStep, Trace};
 use net_text::{push_step, push_tree};
 use net_tree::{LawStep, Tree};
@@ -101,4 +101,23 @@ pub fn push_cut_line(
     push_cut(alloc, text, whole.as_str())?;
     text.push_str("\n")?;
     Ok(())
+}
+
+/// Adds `- ` and the first tree, and `+ ` and the second, a line each, both cut as by
+/// `push_cut_line`; where that leaves no difference to see, the part of each around the first byte
+/// at which they differ. `Memory` if allocation fails; the text then begins as before.
+pub(crate) fn push_cut_lines(
+    alloc: Global,
+    text: &mut String,
+    before: &Tree,
+    after: &Tree,
+) -> Result<(), Memory>
+    ensures { Adds result (string_bytes text.old) (string_bytes text.new)
+        (cut_lines (part_of before.now) (part_of after.now)) }
+{
+    let mut first = String::new(alloc);
+    push_tree(&mut first, before)?;
+    let mut second = String::new(alloc);
+    push_tree(&mut second, after)?;
+    push_pair(alloc, text, first.as_str(), second.as_str())
 }
