@@ -318,9 +318,14 @@ class Case:
             self.told_apart(told, files[:2], stream)
 
     def told_apart(self, told, files, stream):
-        """The first position at which the normal forms differ is told, with what each has there; or that the search gave up, or how long a certificate would be.
-        Of a form that is too long for a line nothing is known."""
-        if re.fullmatch(rb"gave up: \d+ nodes visited\n|too long: \d+ steps, \d+ bytes\n", told.output):
+        """The first position at which the normal forms differ is told, with what each has there; or that the search gave up, and the first
+        position at which the networks differ as they are given; or how long a certificate would be. Of a form that is too long for a line nothing is known."""
+        if re.fullmatch(rb"too long: \d+ steps, \d+ bytes\n", told.output):
+            return
+        if gave_up := re.match(rb"gave up: \d+ nodes visited\n", told.output):
+            wanted = gave_up[0] + difference_text(*difference(*[typed_of(text).places[()].tree for text in files])).encode()
+            if told.output != wanted:
+                raise Find(Command("certify", files), "the networks differ elsewhere", told, wanted)
             return
         forms = [self.normal_form(text, stream) for text in files]
         if None in forms:

@@ -1,5 +1,6 @@
 """Calls of the program, what each takes, and what certificates it finds."""
 import os
+import re
 import resource
 import subprocess
 import tempfile
@@ -13,7 +14,9 @@ HANGS = 900
 SECONDS = 2
 TIMES = 3
 NONE_FOUND = "certificate: none found\n"
-REASONS = "(at", "too long: ", "gave up: "
+# Why none is found: where two networks differ, with what each has there, the two as they are given where the search gave up; or how long one
+# would be.
+REASON = re.compile(r"(gave up: \d+ nodes visited\n)?\(at( \d+)*\)\n- .+\n\+ .+\n|too long: \d+ steps, \d+ bytes\n")
 
 
 class Caller:
@@ -44,8 +47,8 @@ class Caller:
     def certified(self, source, target):
         """How many steps `certify` finds, or why it finds none, and what is wrong with what it prints."""
         status, output, error = self.call("certify", source, target)
-        if (status, error) == (1, NONE_FOUND) and output.startswith(REASONS):
-            return output.splitlines()[0], None
+        if (status, error) == (1, NONE_FOUND) and REASON.fullmatch(output):
+            return reason_in(output), None
         if status:
             return None, f"certify: status {status}, {error!r}, {len(output)} bytes printed"
         told = self.call("check", source, target, self.file(output))
@@ -61,6 +64,13 @@ def limit():
     """Limits the memory of what this process starts, and ends what hangs."""
     resource.setrlimit(resource.RLIMIT_AS, (GUARD, GUARD))
     resource.setrlimit(resource.RLIMIT_CPU, (HANGS, HANGS))
+
+
+def reason_in(text):
+    """Why none is found, in few words: the first line, and the position before how much was done where the search gave up."""
+    first, *more = text.splitlines()
+    gave_up, found, nodes = first.partition("gave up: ")
+    return f"{found}{more[0]}, {nodes}" if found else gave_up
 
 
 def steps_in(text):

@@ -2,7 +2,7 @@
 from searching.families import arr, balanced, of_numbers, repeated, to_the_left, to_the_right
 
 # What may be told of networks that aren't one: too many steps are none.
-APART = ("(at", "gave up: ")
+APART = ("(at", "gave up: (at")
 TOO_LONG = ("too long: ",)
 
 
@@ -42,6 +42,9 @@ def networks():
     yield "a list of 70,001", list_with("(then x (neg x))"), list_with("(neg x)"), TOO_LONG
     yield "lists of 1,500 inputs, one negated", inputs, tripled(1200, 1500), ("(at 0 1200)",)
     yield "doubled 12 times and 16 times as much", doubled, arr("(mul x 16)"), APART
+    staged = [arr("(if (less x 9) x (add x 1))")] * 14
+    other = [*staged[:3], arr("(if (less x 9) x (add x 7))"), *staged[4:]]
+    yield "14 stages of ifs, one of another number", to_the_right(staged), to_the_right(other), ("(at", "gave up: (at 1 1 1 0 0 2 1), ")
     yield from looped()
     for name, net in hostile().items():
         yield f"{name}, and time", net, "time", APART

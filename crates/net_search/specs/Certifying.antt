@@ -39,6 +39,10 @@ pub record DifferAt (source target : TypedNetwork) (p : List ℕ) (first second 
   pub from_target : Reaches target back
   pub differ : DifferFirst (a_network there.net) (a_network back.net) p first second
 
+-- source and target, as they are given, differ first at this position, where they have these
+abbrev pub DifferAsGiven : TypedNetwork → TypedNetwork → List ℕ → Tree Expression → Tree Expression → Type 0
+DifferAsGiven source target = DifferFirst (a_network source.net) (a_network target.net)
+
 -- steps lead from the source to the target, so many, and their certificate would have so many bytes:
 -- they are more than 10,000, or it isn't read back
 pub record LeadTooLong (source target : TypedNetwork) (count bytes : ℕ) : Type 0 where
@@ -49,7 +53,8 @@ pub record LeadTooLong (source target : TypedNetwork) (count bytes : ℕ) : Type
   pub over : (MOST_STEPS < length steps) ⊎ (IsReadBack steps → ⊥)
 
 -- steps that are found derive the target, and their certificate is read back; else the input types
--- differ, or the networks do, and it is told where, or how long the certificate would be
+-- differ, or the networks do, and it is told where, or how long the certificate would be; where the
+-- search gives up, it is told where the two differ first as they are given
 abbrev pub CertifyAnswer : TypedNetwork → TypedNetwork → Certified → Type 0
 CertifyAnswer source target (Found steps) =
     Derives source target (map step_of steps.items) × IsReadBack (map step_of steps.items)
@@ -58,4 +63,5 @@ CertifyAnswer source target (Differ d) = AreApart source target
     × DifferAt source target d.position (part_of d.first) (part_of d.second)
 CertifyAnswer source target (TooLong count bytes) =
     AreApart source target × LeadTooLong source target count bytes
-CertifyAnswer source target (GaveUp nodes) = AreApart source target
+CertifyAnswer source target (GaveUp nodes d) = AreApart source target
+    × DifferAsGiven source target d.position (part_of d.first) (part_of d.second)

@@ -29,8 +29,9 @@ pub enum Certified {
     /// So many steps lead from the source to the target, more than a certificate may have; or it would
     /// be over the limits of files, with so many bytes.
     TooLong { steps: usize, bytes: usize },
-    /// None was found: the search gave up, behind so many nodes that it visited.
-    GaveUp { nodes: u64 },
+    /// None was found: the search gave up, behind so many nodes that it visited; the networks as they
+    /// are given differ first here.
+    GaveUp { nodes: u64, difference: Difference },
 }
 
 /// Looks for a certificate: steps that lead from the source to exactly the target's network, as
@@ -85,7 +86,7 @@ fn found(
 }
 
 /// That nothing was found: where the two normal forms differ, first, where both were come to; else
-/// how many nodes were visited.
+/// that the search gave up.
 fn none_found(
     alloc: Global,
     source: &TypedNet,
@@ -97,7 +98,7 @@ fn none_found(
     ensures { IfOk result (CertifyAnswer source.now target.now) }
 {
     let Some((there, back)) = tried.into_forms() else {
-        return Ok(Certified::GaveUp { nodes });
+        return gave_up(alloc, source, target, nodes);
     };
     let forms = (
         form_of(alloc, source, there)?,
@@ -108,7 +109,23 @@ fn none_found(
             return Ok(Certified::Differ(difference));
         }
     }
-    Ok(Certified::GaveUp { nodes })
+    gave_up(alloc, source, target, nodes)
+}
+
+/// That the search gave up behind so many nodes, and where the two networks differ first.
+fn gave_up(
+    alloc: Global,
+    source: &TypedNet,
+    target: &TypedNet,
+    nodes: u64,
+) -> Result<Certified, Memory>
+    requires { AreApart source.now target.now }
+    ensures { IfOk result (CertifyAnswer source.now target.now) }
+{
+    match first_difference(alloc, source.net(), target.net())? {
+        Some(difference) => Ok(Certified::GaveUp { nodes, difference }),
+        None => unreachable!(),
+    }
 }
 
 /// The network's normal form as it was found, where the search came to it and all steps to it may be

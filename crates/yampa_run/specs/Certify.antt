@@ -10,7 +10,7 @@ use Rattle.net_text.specs.CertificateLaws.{IsCertificate}
 use Rattle.net_text.specs.CertificatePrinting.{certificate_spelling}
 use Rattle.cert_check.specs.Derives.{Derives}
 use Rattle.cert_check.specs.declared.answer.CheckFault.TheVariants as C
-use Rattle.net_search.specs.Certifying.{AreApart, DifferAt, LeadTooLong}
+use Rattle.net_search.specs.Certifying.{AreApart, DifferAsGiven, DifferAt, LeadTooLong}
 use Rattle.net_view.specs.TraceText.{cut_line}
 use Rattle.yampa_run.specs.RefusalLines.{none_found_words}
 use Rattle.yampa_run.specs.declared.refused.Role.TheVariants as R
@@ -44,14 +44,17 @@ abbrev pub gave_up_line : ℕ → List ℕ
 gave_up_line nodes = codes "gave up: " ++ (decimal nodes ++ codes " nodes visited\n")
 
 -- what is printed where no certificate is found: where two networks differ to which steps lead; how
--- long the certificate would be; or after how much work the search gave up
+-- long the certificate would be; or after how much work the search gave up, and where the source and
+-- the target differ as they are given
 pub data TellsNone (source target : TypedNetwork) (text : List ℕ) : Type 0 where
   at_position : (p : List ℕ) (first second : Tree Expression)
       → DifferAt source target p first second → text ≡ difference_lines p first second
       → TellsNone source target text
   over_limits : (count bytes : ℕ) → LeadTooLong source target count bytes
       → text ≡ too_long_line count bytes → TellsNone source target text
-  gave_up : (nodes : ℕ) → text ≡ gave_up_line nodes → TellsNone source target text
+  gave_up : (nodes : ℕ) (p : List ℕ) (first second : Tree Expression)
+      → DifferAsGiven source target p first second
+      → text ≡ gave_up_line nodes ++ difference_lines p first second → TellsNone source target text
 
 -- the text is the certificate file of steps that derive the target from the source
 pub record PrintsCertificate (source target : TypedNetwork) (text : List ℕ) : Type 0 where

@@ -1,6 +1,6 @@
 // The command `certify`: certificates between the networks of two files, and where none is found.
 
-ghost use Rattle.std.specs.Prelude.{◌≡◌, IfErr, IfOk, string_bytes};
+ghost use Rattle.std.specs.Prelude.{◌≡◌, ◌++◌, IfErr, IfOk, string_bytes};
 ghost use Rattle.net_meaning.specs.TypedNetwork.{TypedNetwork};
 ghost use Rattle.net_tree.specs.LawStep.{part_of};
 ghost use Rattle.net_search.specs.Certifying.{AreApart};
@@ -56,7 +56,10 @@ fn certified_of(alloc: Global, source: &TypedNet, target: &TypedNet) -> Result<J
         Certified::TooLong { steps, bytes } => {
             Ok(none_found(alloc, too_long(alloc, *steps, *bytes)?)?)
         }
-        Certified::GaveUp { nodes } => Ok(none_found(alloc, gave_up(alloc, *nodes)?)?),
+        Certified::GaveUp {
+            nodes,
+            difference: found,
+        } => Ok(none_found(alloc, gave_up(alloc, *nodes, found)?)?),
     }
 }
 
@@ -94,12 +97,14 @@ fn too_long(alloc: Global, steps: usize, bytes: usize) -> Result<String, Memory>
     Ok(text)
 }
 
-/// The line on a search that gave up.
-fn gave_up(alloc: Global, nodes: u64) -> Result<String, Memory>
-    ensures { IfOk result (λ text. string_bytes text ≡ gave_up_line nodes) }
+/// The line on a search that gave up, and behind it where two networks differ.
+fn gave_up(alloc: Global, nodes: u64, found: &Difference) -> Result<String, Memory>
+    ensures { IfOk result (λ text. string_bytes text ≡ gave_up_line nodes
+        ++ difference_lines found.now.position (part_of found.now.first) (part_of found.now.second)) }
 {
     let mut text = String::from_str(alloc, "gave up: ")?;
     push_number(&mut text, nodes)?;
     push_words(&mut text, " nodes visited\n")?;
+    push_words(&mut text, &difference(alloc, found)?)?;
     Ok(text)
 }

@@ -19,6 +19,7 @@ returns-in-TooLong-clause-told c =
 
 pub returns-clause-told : goal.returns-clause-told
 returns-clause-told c =
-    let told : CertifyAnswer c.args.source.now c.args.target.now (V.GaveUp c.in-GaveUp.nodes) =
+    let told : CertifyAnswer c.args.source.now c.args.target.now (V.GaveUp c.in-GaveUp.nodes c.in-GaveUp.found) =
     subst (CertifyAnswer c.args.source.now c.args.target.now) c.in-GaveUp.is c.in_ok-steps.ensures in
-    c.in_ok-none_found-in-GaveUp.ensures c.args.source.now c.args.target.now told (gave_up c.in-GaveUp.nodes c.in_ok-gave_up-in-GaveUp.ensures)
+    c.in_ok-none_found-in-GaveUp.ensures c.args.source.now c.args.target.now told.0
+    (gave_up c.in-GaveUp.nodes _ _ _ told.1 c.in_ok-gave_up-in-GaveUp.ensures)
