@@ -81,4 +81,4 @@ def to_depth(text, depth):
 
 
 def difference_text(position, first, second):
-    return f"{at_text(position)}\n- {cut(shown(first))}\n+ {cut(shown(second))}\n"
+    return "{}\n- {}\n+ {}\n".format(at_text(position), *cut_pair(shown(first), shown(second)))

@@ -223,8 +223,9 @@ pub const LAWS: HelpText<'static> = HelpText {
     more: "\
 It prints each possible forward step, as a certificate has it, at P and at each position below it,
 then `- ` and what stands at its position, then `+ ` and what stands there after it. In a tree of over
-100 bytes the deepest parts are `..`. A step is possible if its law fits what stands there and the
-resulting network is typed within the limits.
+100 bytes the deepest parts are `..`; where both lines would then be the same, each shows its tree
+around their first difference. A step is possible if its law fits what stands there and the resulting
+network is typed within the limits.
 
 Example: if the file `net` holds `yampa 1 input Int (>>> (arr (add x 1)) (arr (mul x 2)))`,
 

@@ -7,7 +7,7 @@ use Rattle.net_tree.specs.LawStep.{Step}
 use Rattle.net_meaning.specs.TypedNetwork.{TypedNetwork}
 use Rattle.net_text.specs.CertificatePrinting.{step_sexpr, tree_sexpr}
 use Rattle.net_view.specs.Trace.{Changed, Stopped, IsTrace}
-use Rattle.net_view.specs.Cut.{cut, cut_pair}
+use Rattle.net_view.specs.Cut.{cut_pair}
 
 -- a step's line
 abbrev pub step_line : Step → List ℕ
@@ -16,10 +16,6 @@ step_line s = sexpr_spelling (step_sexpr s) ++ 10 ∷ []
 -- the line of a tree behind a mark
 abbrev pub marked_line : List ℕ → Tree Expression → List ℕ
 marked_line mark tree = mark ++ (sexpr_spelling (tree_sexpr tree) ++ 10 ∷ [])
-
--- the same, cut where the tree is long
-abbrev pub cut_line : List ℕ → Tree Expression → List ℕ
-cut_line mark tree = mark ++ (cut (sexpr_spelling (tree_sexpr tree)) ++ 10 ∷ [])
 
 -- the lines of two texts, of what was there and of what is there now
 abbrev pub pair_lines : List ℕ × List ℕ → List ℕ

@@ -22,7 +22,7 @@ const FRONT: usize = 20;
 
 /// Adds the text; one of over 100 bytes with two dots for each part that is too deep in brackets,
 /// as deep as 100 bytes hold; else its first word, and two dots for the rest.
-pub(crate) fn push_cut(alloc: Global, text: &mut String, whole: &str) -> Result<(), Memory>
+fn push_cut(alloc: Global, text: &mut String, whole: &str) -> Result<(), Memory>
     ensures { Adds result (string_bytes text.old) (string_bytes text.new) (cut whole.now) }
 {
     if whole.len() > LINE {

@@ -30,5 +30,5 @@ pub use positions::has_position;
 pub use possible::{PossibleStep, possible_steps};
 pub use rows::{OutlineRow, outline};
 pub use texts::{outline_text, possible_text};
-pub use told::{push_cut_line, trace_text};
+pub use told::{push_cut_lines, trace_text};
 pub use trace::{Change, RefusedStep, Trace, first_steps, trace_steps};

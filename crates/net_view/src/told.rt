@@ -6,9 +6,9 @@ ghost use Rattle.leaf_expr.specs.Sexpr.{sexpr_spelling};
 ghost use Rattle.net_tree.specs.LawStep.{part_of, step_of};
 ghost use Rattle.net_text.specs.CertificatePrinting.{tree_sexpr};
 ghost use Rattle.net_view.specs.Trace.{changed_of, stopped_of};
-ghost use Rattle.net_view.specs.TraceText.{change_lines, cut_line, cut_lines, marked_line, marked_lines, stop_lines, trace_lines};
+ghost use Rattle.net_view.specs.TraceText.{change_lines, cut_lines, marked_line, marked_lines, stop_lines, trace_lines};
 
-use crate::cut::{push_cut, push_pair};
+use crate::cut::push_pair;
 use crate::trace::{Change, RefusedStep, Trace};
 use net_text::{push_step, push_tree};
 use net_tree::{LawStep, Tree};
@@ -83,30 +83,11 @@ pub(crate) fn push_marked(text: &mut String, mark: &str, tree: &Tree) -> Result<
     Ok(())
 }
 
-/// Adds a tree behind a mark, and the end of its line. A tree of over 100 bytes is cut: as deep as
-/// 100 bytes hold, two dots stand for each part that is deeper in brackets. `Memory` if allocation
-/// fails; the text then begins as before.
-pub fn push_cut_line(
-    alloc: Global,
-    text: &mut String,
-    mark: &str,
-    tree: &Tree,
-) -> Result<(), Memory>
-    ensures { Adds result (string_bytes text.old) (string_bytes text.new)
-        (cut_line mark.now (part_of tree.now)) }
-{
-    let mut whole = String::new(alloc);
-    push_tree(&mut whole, tree)?;
-    text.push_str(mark)?;
-    push_cut(alloc, text, whole.as_str())?;
-    text.push_str("\n")?;
-    Ok(())
-}
-
-/// Adds `- ` and the first tree, and `+ ` and the second, a line each, both cut as by
-/// `push_cut_line`; where that leaves no difference to see, the part of each around the first byte
-/// at which they differ. `Memory` if allocation fails; the text then begins as before.
-pub(crate) fn push_cut_lines(
+/// Adds `- ` and the first tree, and `+ ` and the second, a line each. A tree of over 100 bytes is
+/// cut: as deep as 100 bytes hold, two dots stand for each part that is deeper in brackets; where that
+/// leaves no difference to see, each line has the part of its tree around the first byte at which they
+/// differ. `Memory` if allocation fails; the text then begins as before.
+pub fn push_cut_lines(
     alloc: Global,
     text: &mut String,
     before: &Tree,

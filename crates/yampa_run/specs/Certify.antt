@@ -11,7 +11,7 @@ use Rattle.net_text.specs.CertificatePrinting.{certificate_spelling}
 use Rattle.cert_check.specs.Derives.{Derives}
 use Rattle.cert_check.specs.declared.answer.CheckFault.TheVariants as C
 use Rattle.net_search.specs.Certifying.{AreApart, DifferAsGiven, DifferAt, LeadTooLong}
-use Rattle.net_view.specs.TraceText.{cut_line}
+use Rattle.net_view.specs.TraceText.{cut_lines}
 use Rattle.yampa_run.specs.RefusalLines.{none_found_words}
 use Rattle.yampa_run.specs.declared.refused.Role.TheVariants as R
 use Rattle.yampa_run.specs.declared.preparation.Job.{Job}
@@ -31,8 +31,7 @@ pub record ArePair (told : KnownFiles) (from to : List ℕ) (source target : Typ
 -- what is printed of two networks that have these trees at a position where they differ, cut where
 -- they are long
 abbrev pub difference_lines : List ℕ → Tree Expression → Tree Expression → List ℕ
-difference_lines p first second = position_spelling p
-    ++ (10 ∷ cut_line (codes "- ") first ++ cut_line (codes "+ ") second)
+difference_lines p first second = position_spelling p ++ (10 ∷ cut_lines first second)
 
 -- the line on a certificate of so many steps, in so many bytes, that would be over the limits
 abbrev pub too_long_line : ℕ → ℕ → List ℕ

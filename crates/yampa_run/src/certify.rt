@@ -18,7 +18,7 @@ use net_search::{Certified, Difference, certify};
 use net_syntax::TypedNet;
 use net_text::print_cert;
 use net_tree::push_position;
-use net_view::push_cut_line;
+use net_view::push_cut_lines;
 use sample_core::Memory;
 use std::alloc::Global;
 
@@ -80,8 +80,7 @@ fn difference(alloc: Global, found: &Difference) -> Result<String, Memory>
     let mut text = String::new(alloc);
     push_position(&mut text, &found.position)?;
     push_words(&mut text, "\n")?;
-    push_cut_line(alloc, &mut text, "- ", &found.first)?;
-    push_cut_line(alloc, &mut text, "+ ", &found.second)?;
+    push_cut_lines(alloc, &mut text, &found.first, &found.second)?;
     Ok(text)
 }
 
