@@ -29,10 +29,10 @@ class Caller:
         name.write_text(text)
         return str(name)
 
-    def call(self, *words):
-        """The status of a call, and what it writes on both streams."""
-        with tempfile.TemporaryFile() as output, tempfile.TemporaryFile() as error:
-            child = subprocess.Popen([self.program, *words], stdin=subprocess.DEVNULL, stdout=output, stderr=error)
+    def call(self, *words, stream=os.devnull):
+        """The status of a call that reads the stream, and what it writes on both."""
+        with open(stream, "rb") as samples, tempfile.TemporaryFile() as output, tempfile.TemporaryFile() as error:
+            child = subprocess.Popen([self.program, *words], stdin=samples, stdout=output, stderr=error)
             _, status, used = os.wait4(child.pid, 0)
             child.returncode = os.waitstatus_to_exitcode(status)
             for file in output, error:

@@ -135,12 +135,12 @@ class Reader:
         token = self.take("the word of a form")
         word = token.text
         if word not in forms or word in self.missing:
-            raise self.no_form(token, sort, opened)
-        parts = self.parts(word, forms[word], opened)
-        closed = self.close(word, forms[word], opened, len(parts))
+            raise self.no_form(token, sort)
+        parts = self.parts(word, forms[word])
+        closed = self.close(word, forms[word], opened)
         return Node(word, parts, opened.at, closed.end(), sort)
 
-    def parts(self, word, sorts, opened):
+    def parts(self, word, sorts):
         found = []
         for sort in sorts:
             if sort == "col":
@@ -170,7 +170,7 @@ class Reader:
         closed = self.take("a parenthesis that closes the list of members")
         return Node("col", found, opened.at, closed.end(), "col")
 
-    def close(self, word, sorts, opened, count):
+    def close(self, word, sorts, opened):
         if self.peek() == ")":
             return self.take("")
         if self.ended():
@@ -190,7 +190,7 @@ class Reader:
 
     # ---- what doesn't fit
 
-    def no_form(self, token, sort, opened):
+    def no_form(self, token, sort):
         word, length = token.text, len(token.text)
         words, forms = SORTS[sort]
         if word == ")":

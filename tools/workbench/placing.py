@@ -375,7 +375,7 @@ class PlacedSwitch(Place):
         at = self.x + self.side + min(self.takes.wide, self.runs.wide) / 2
         canvas.text(at + 4, self.y + self.tops[-1] - 6, "event")
 
-    def put_event_of_run(self, canvas: Canvas, _frame: int, runs: int, takes: int) -> None:
+    def put_event_of_run(self, canvas: Canvas, _frame: int, _runs: int, takes: int) -> None:
         right, leaves = self.x + self.side + self.runs.wide + PAD, self.y + self.leaves
         split = canvas.node("split", right, leaves, BAR, 20, "", "a pair: its first part is the output, its second one the event")
         canvas.line(self.into_takes([(right, leaves + 10)]), split, takes, "dashed")

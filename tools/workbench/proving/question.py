@@ -1,5 +1,5 @@
 """A question that is asked of networks: whether something holds of all their recordings."""
-from dataclasses import dataclass, field, replace
+from dataclasses import dataclass, field
 from functools import cached_property
 from typing import Any, Iterator, Optional
 
@@ -87,9 +87,6 @@ class Question:
         for assumed in self.assumed:
             fair = (">>>", ("&&&", fair, assumed), ("arr", ("and", ("fst", "x"), ("snd", "x"))))
         return network_text(self.given, expanded(("&&&", fair, goal)))
-
-    def with_lemma(self, lemma: Any) -> "Question":
-        return replace(self, lemmas=(*self.lemmas, lemma))
 
 
 def words_in(tree: Any) -> list:
