@@ -78,6 +78,7 @@ BAD_SOURCES = [
     ("include there\ninput Int time", "there:2:9: source includes itself, by way of others"),
     ("include whole\ninput Int time", "source:2:9: whole has a network: a file that is included has definitions alone"),
     ("def a 1\n", "source:1:1: this file has no network: it has definitions alone, and can be included"),
+    ("input Int (arr (add x\0 1))", "source:2:21: unknown word x\\x00; did you mean x?"),
     ("hello Int time", "include, record, def or input is wanted"),
 ]
 

@@ -56,10 +56,16 @@ def tools_listed() -> str:
     return "\n".join(["", "Tools beside these commands, not proved; `yampa NAME --help` teaches each:", *lines, ""])
 
 
-def unread(name: str) -> str:
+def as_called(name: str) -> str:
+    """A file's name as the caller has it: `-` for what the wrapper has opened for that."""
+    return "-" if name == os.environ.get("YAMPA_INPUT") else name
+
+
+def unread(path: str) -> str:
     """Why a file can't be read."""
-    if os.path.isdir(name):
+    name = as_called(path)
+    if os.path.isdir(path):
         return f"{name}: this is a folder"
-    if not os.path.exists(name):
+    if not os.path.exists(path):
         return f"{name}: there is no such file"
     return f"{name}: it is there, but may not be read"

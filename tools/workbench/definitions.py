@@ -6,7 +6,7 @@ from dataclasses import dataclass, field
 
 from model.texts import FILE_BYTES, OPEN
 from workbench.ending import UNREADABLE, Refused
-from workbench.written import Node, place, readable
+from workbench.written import Node, decoded, place, readable
 
 TOKENS = re.compile(rb";[^\n]*|[()]|[^ \t\r\n();]+")
 KEYWORDS = ("include", "record", "def", "input")
@@ -331,7 +331,7 @@ def gather(source: Source, above: tuple, items: list, texts: dict) -> None:
         if not isinstance(item, Include):
             items.append(item)
             continue
-        name = os.path.normpath(os.path.join(os.path.dirname(source.text.name), readable(item.file.word)))
+        name = os.path.normpath(os.path.join(os.path.dirname(source.text.name), decoded(item.file.word)))
         path = os.path.realpath(name)
         if path in above:
             raise Fault(item.file, f"{item.file.word} includes itself" + (", by way of others" if path != above[-1] else ""))
