@@ -226,6 +226,7 @@ FAULTS = [
     (CAR + "input Car\n(>>> (arr x) (hold 0))", "source:4:14: hold takes events"),
     (CAR + "input (Event Car)\n(hold 0)", "source:4:1: the constant of hold is what is held before the first event: it is of type Int, and the events carry Car"),
     (CAR + "input Car\noutput Int\n(arr (Car 1 true))", "source:4:8: the network outputs (Pair Int Bool), and not Int, which is Int"),
+    (CAR + "input Car identity\nguarantee safe (arr (pedal (snd y)))", "source:4:33: unknown word y"),
     (CAR + "def f (arr (speed y))\ninput Car f", "source:3:19: unknown word y (in the definition of f)"),
 ]
 
@@ -242,6 +243,27 @@ def faults_stand_in_the_source() -> None:
         want(f"types: {wanted}", wrapped[0] == 1 and wrapped[2].rstrip("\n") == wanted and not wrapped[1], wrapped)
         want(f"draw: {wanted}", drawn[0] == 1 and drawn[2].rstrip("\n") == f"yampa draw: {wanted}" or "outputs" in wanted, drawn)
         want(f"explain: {wanted}", wanted.partition(" (in")[0] in explained[1] and " | " in explained[1] or "outputs" in wanted, explained)
+
+
+STATED = [
+    ("guarantee a (arr (add x true))", "source:4:23: add wants an Int, but x is a (Pair Car Car)"),
+    ("assume a (arr (less 1 (pedal x)))", "source:4:23: less wants an Int, but (pedal x) is a Bool"),
+    ("assume a (arr (less 1 (speed x)))\ninvariant a (arr (fst x))", "source:5:13: invariant a outputs Bool; this one outputs Car"),
+    ("guarantee a (arr (add x))", "source:4:23: add takes two expressions, and has one only"),
+    ("guarantee a (arr true)\nguarantee a (arr true)", "source:5:11: guarantee a is there already: take another name"),
+]
+
+
+def stated_lines_are_typed() -> None:
+    """What is stated of a network is taken by `types` only where the program takes it."""
+    texts = [CAR + "input Car identity\n" + stated for stated, _ in STATED]
+    with own_folder() as room:
+        in_files(room, source=CAR + "input Car identity\nassume a (arr (pedal x))\nguarantee a (arr (equal (fst x) (snd x)))\n")
+        want("stated lines", call_wrapper(room, "types", "source")[:2] == (0, "Car -> Car\nweight 1\nheight 1\n"))
+        for text, (_, wanted) in zip(texts, STATED):
+            in_files(room, source=text)
+            status, output, error = call_wrapper(room, "types", "source")
+            want(wanted, status == 1 and not output and error.startswith(wanted) and error.count("\n") == 1, error)
 
 
 def call_wrapper(room: Path, *words: str, stream: bytes = b"") -> tuple:
@@ -350,6 +372,7 @@ def try_all() -> None:
     comments_are_kept()
     deep_files_end()
     faults_stand_in_the_source()
+    stated_lines_are_typed()
     beginnings_are_seen()
     commands_take_sources()
     sources_are_what_they_mean()

@@ -241,7 +241,10 @@ def network_of(reader: TreeReader, source: Source) -> None:
         source.output.comments = [*comments, *source.output.comments]
     source.net = reader.tree()
     while named and reader.peek() in PROPERTIES:
-        source.properties.append(property_of(reader))
+        one = property_of(reader)
+        if (one.kind, one.name.word) in [(other.kind, other.name.word) for other in source.properties]:
+            raise Fault(one.name, f"{one.kind} {one.name.word} is there already: take another name")
+        source.properties.append(one)
     if not reader.ended():
         raise reader.fault(reader.tokens[reader.read], "the network is whole before this" + (stands_elsewhere(reader.peek()) if named else ""))
 

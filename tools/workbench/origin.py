@@ -72,7 +72,9 @@ class Program:
 
     @cached_property
     def trees(self) -> tuple:
-        """The input type and the network with no names in them."""
+        """The input type and the network with no names in them; of what is said of the network that each word is known."""
+        for one in self.source.properties:
+            self.expansion.check(one.body, self.expansion.top)
         return self.expansion.tree(self.source.input), self.expansion.tree(self.source.net)
 
     @cached_property
@@ -120,7 +122,7 @@ class Program:
 
     def kept_path(self) -> Path:
         told = [text.data for text in self.texts] if self.has_names else [self.data]
-        own = [Path(module.__file__).read_bytes() for module in (definitions, names)]
+        own = [Path(file).read_bytes() for file in (__file__, definitions.__file__, names.__file__)]
         sums = [hashlib.sha256(part).digest() for part in [*own, *told]]
         return cache_folder() / hashlib.sha256(b"".join(sums)).hexdigest()
 

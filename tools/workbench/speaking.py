@@ -11,6 +11,7 @@ from workbench.faults import Files, explained
 from workbench.origin import PROGRAMS, InNames, Program, program_of
 from workbench.outline import read_type
 from workbench.program import again, answered, is_trial
+from workbench.properties import first_fault
 from workbench.records import shown_type
 
 # The files of each command by their roles, and the options behind which a value stands.
@@ -135,6 +136,10 @@ def answer(program: str, words: list) -> int:
         status = run.returncode
         output.seek(0)
         told = output.read().decode()
+    if words[0] == "types" and not status and networks and not is_trial():
+        fault = first_fault(networks["network"], read_type(told.partition("\n")[0].split(" -> ")[1]))
+        if fault:
+            raise Refused(fault)
     write(None, speak(next(iter(networks.values())), told) if speak and not status and networks else told)
     return status if status >= 0 else 128 - status
 
