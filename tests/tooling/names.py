@@ -78,6 +78,9 @@ BAD_SOURCES = [
     ("include there\ninput Int time", "there:2:9: source includes itself, by way of others"),
     ("include whole\ninput Int time", "source:2:9: whole has a network: a file that is included has definitions alone"),
     ("def a 1\n", "source:1:1: this file has no network: it has definitions alone, and can be included"),
+    ("record Car a:Int b:Int\ninput Carr time", "source:3:7: unknown word Carr; did you mean Car?"),
+    ("input Int assume a (arr true)\ntime", "source:2:11: assume stands behind the network"),
+    ("assume a (arr true)\ninput Int time", "source:2:1: assume stands behind the network"),
     ("input Int (arr (add x\0 1))", "source:2:21: unknown word x\\x00; did you mean x?"),
     ("hello Int time", "include, record, def or input is wanted"),
 ]
@@ -225,7 +228,7 @@ FAULTS = [
     (CAR + "def pushed (pedal x)\ndef (over k)\n  (less pushed k)\ninput Car (arr (over 5))", "source:5:9: less wants an Int, but pushed is a Bool"),
     (CAR + "input Car\n(>>> (arr x) (hold 0))", "source:4:14: hold takes events"),
     (CAR + "input (Event Car)\n(hold 0)", "source:4:1: the constant of hold is what is held before the first event: it is of type Int, and the events carry Car"),
-    (CAR + "input Car\noutput Int\n(arr (Car 1 true))", "source:4:8: the network outputs (Pair Int Bool), and not Int, which is Int"),
+    (CAR + "input Car\noutput Int\n(arr (Car 1 true))", "source:4:8: the network outputs (Pair Int Bool), and not Int"),
     (CAR + "input Car identity\nguarantee safe (arr (pedal (snd y)))", "source:4:33: unknown word y"),
     (CAR + "def f (arr (speed y))\ninput Car f", "source:3:19: unknown word y (in the definition of f)"),
 ]

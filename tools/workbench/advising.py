@@ -3,6 +3,7 @@ from __future__ import annotations
 
 import difflib
 import os
+import re
 from pathlib import Path
 
 LIST = Path(__file__).resolve().parents[1] / "list"
@@ -42,8 +43,8 @@ def advice(said: str, words: list[str]) -> str | None:
         places, _ = named_files(words)
         return unread(words[places[PLACES[role]]])
     if "unrecognized subcommand" in said or not words:
-        named = words[1:2] or words if words[:1] == ["help"] else words
-        near = difflib.get_close_matches(named[0], [*FILES, *tools()], 1) if named else []
+        wrong = re.search("subcommand '(.*)'", said)
+        near = difflib.get_close_matches(wrong[1], [*FILES, *tools()], 1) if wrong else []
         meant = f"; did you mean {near[0]}?" if near else ""
         return f"there are tools beside these commands: {', '.join(tools())}{meant}"
     return None

@@ -231,6 +231,8 @@ def network_of(reader: TreeReader, source: Source) -> None:
     named = source.header[1].word == "source"
     source.comments = [*reader.tokens[reader.read].before] if not reader.ended() else []
     word = reader.word("the word input")
+    if named and word.word in PROPERTIES:
+        raise Fault(word, f"{word.word} stands behind the network")
     if word.word != "input":
         raise Fault(word, f"{', '.join(KEYWORDS[:-1])} or input is wanted" if named else "the word input is missing")
     source.comments = [*source.comments, *word.trailing]
@@ -239,6 +241,8 @@ def network_of(reader: TreeReader, source: Source) -> None:
         comments = beside(reader.take(""))
         source.output = reader.tree()
         source.output.comments = [*comments, *source.output.comments]
+    if named and reader.peek() in PROPERTIES:
+        raise reader.fault(reader.tokens[reader.read], f"{reader.peek()} stands behind the network")
     source.net = reader.tree()
     while named and reader.peek() in PROPERTIES:
         one = property_of(reader)

@@ -207,7 +207,8 @@ class Program:
         if self.has_names and self.source.output is not None:
             said = type_of(self.expansion.tree(self.source.output))
             if said != type_:
-                wanted = f"{readable(flat(self.source.output))}, which is {shown(said)}"
+                wanted, means = readable(flat(self.source.output)), shown(said)
+                wanted += f", which is {means}" if wanted != means else ""
                 raise Fault(self.source.output, f"the network outputs {shown(type_)}, and not {wanted}")
             return said
         return self.named_type(type_)

@@ -10,7 +10,7 @@ from workbench.ending import Refused, ended, write
 from workbench.faults import Files, explained
 from workbench.origin import PROGRAMS, InNames, Program, program_of
 from workbench.outline import read_type
-from workbench.program import again, answered, is_trial
+from workbench.program import COPIES, again, answered, is_trial
 from workbench.properties import first_fault
 from workbench.records import shown_type
 
@@ -145,7 +145,9 @@ def answer(program: str, words: list) -> int:
 
 
 def tell(words: list, line: str) -> None:
-    """Tells a line of standard error; one of the wrapper as it is."""
+    """Tells a line of standard error, in which files have the names that they were called by; one of the wrapper as it is."""
+    for path, name in {**COPIES, **{path: program.name for path, program in PROGRAMS.items()}}.items():
+        line = line.replace(f"'{path}'", f"'{name}'")
     print(line.rstrip("\n") if line.startswith("yampa: ") else spoken(words, line.rstrip("\n")), file=sys.stderr, flush=True)
 
 
