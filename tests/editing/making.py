@@ -18,24 +18,9 @@ def word_of(text: str) -> str:
     return text.partition("<")[0].rpartition("::")[2]
 
 
-def word_of_impl(line: str) -> str:
-    """The word that stands for an impl: its type, then its trait and the types given to that, but for the impl's own parameters."""
-    own, trait, given, subject = (part or "" for part in IMPL.match(line).groups())
-    parameters = re.findall(r"(?:^|, )(\w+)", own)
-    types = [word for word in map(word_of, given.split(", ")) if word not in parameters and not word.startswith("'")]
-    return "".join([word_of(subject), word_of(trait), *types])
-
-
-def function_at(lines: list[str], row: int) -> str:
-    """The function of a row, with its impl; nothing, where the row is in none, or in a trait."""
-    head = next((k for k in range(row, -1, -1) if FUNCTION.match(lines[k])), row)
-    found = FUNCTION.match(lines[head])
-    if not found or found[1] + "}" in lines[head:row] or lines[head][-1] == "}" and head < row:
-        return ""
-    if not found[1]:
-        return found[2]
-    around = next(line for line in lines[head::-1] if line[0:1] not in ("", " ", "/", "#"))
-    return f"{word_of_impl(around)}::{found[2]}" if around.startswith("impl") else ""
+def words_of(texts: str, parameters: list[str]) -> list[str]:
+    """The words that stand for types, but for lifetimes and an impl's own parameters."""
+    return [word for word in map(word_of, texts.split(", ")) if word not in ["", *parameters] and not word.startswith("'")]
 
 
 def module_of(file: str) -> str:
@@ -44,14 +29,42 @@ def module_of(file: str) -> str:
     return "" if name in ("lib", "main") else name + "::"
 
 
+def home_of(word: str, file: str) -> str:
+    """The file that defines a type; this one, where none of the crate does."""
+    defined = re.compile(rf"^(?:pub(?:\([a-z]+\))? )?(?:enum|struct) {word}\b", re.M)
+    return next((str(path) for path in Path("src").rglob("*.rt") if defined.search(path.read_text(encoding="utf-8"))), file)
+
+
+def path_of_impl(line: str, file: str) -> str:
+    """What stands before the names of an impl's functions: of a trait's but Drop, `CountedWrite`; of a type's for some parts alone,
+    `Net+Expr`; of a type's else its name, behind the module that defines it."""
+    own, trait, given, subject = (part or "" for part in IMPL.match(line).groups())
+    parameters, word = re.findall(r"(?:^|, )(\w+)", own), word_of(subject)
+    if trait not in ("", "Drop"):
+        return module_of(file) + "".join([word, word_of(trait), *words_of(given, parameters)])
+    parts = words_of(subject[subject.find("<") + 1:-1] if "<" in subject else "", parameters)
+    return module_of(file if parts else home_of(word, file)) + "+".join([word, *parts])
+
+
+def function_at(file: str, lines: list[str], row: int) -> str:
+    """The function of a row; nothing, where the row is in none, or in a trait."""
+    head = next((k for k in range(row, -1, -1) if FUNCTION.match(lines[k])), row)
+    found = FUNCTION.match(lines[head])
+    if not found or found[1] + "}" in lines[head:row] or lines[head][-1] == "}" and head < row:
+        return ""
+    if not found[1]:
+        return module_of(file) + found[2]
+    around = next(line for line in lines[head::-1] if line[0:1] not in ("", " ", "/", "#"))
+    return f"{path_of_impl(around, file)}::{found[2]}" if around.startswith("impl") else ""
+
+
 def change(file: str, old: str, new: str) -> str:
     """Changes text that stands once in a file: the function that it is in, if it is in one."""
     text = Path(file).read_text(encoding="utf-8")
     if text.count(old) != 1:
         sys.exit(f"tests/edits: not once in {file}: {old}")
     Path(file).write_text(text.replace(old, new), encoding="utf-8")
-    name = function_at(text.split("\n"), text[:text.index(old)].count("\n"))
-    return module_of(file) + name if name else ""
+    return function_at(file, text.split("\n"), text[:text.index(old)].count("\n"))
 
 
 def make(name: str) -> list[str]:

@@ -1,23 +1,26 @@
 // An expression is cleared up at its root.
 
-use crate::log::Log;
-use crate::sums::{summed, wants_order};
+use crate::log::{Aim, Log, with_part};
+use crate::order::is_after;
+use crate::terms::{is_literal, ordered, wants_order};
 use crate::weight::DEPTH;
-use leaf_core::{Expr, ExprChild};
+use leaf_core::{Expr, ExprChild, same_expr};
 use sample_core::Memory;
 
-/// What the first law of its form that matches makes of the expression, and of a sum its terms in
-/// order; another expression as it is.
+/// What the first law of its form that matches makes of the expression; of a sum or product its terms
+/// in order, of an `and`, `or` or `equal` what a part decides, and for the normal form of a difference
+/// a sum. Another expression is left as it is.
 pub(crate) fn cleared(log: &mut Log, e: ExprChild) -> Result<ExprChild, Memory> {
     for number in laws_of(e.get()) {
         if let Some(right) = log.take(*number, &e)? {
             return Ok(right);
         }
     }
-    if wants_order(log, e.get()) {
-        summed(log, e, DEPTH)
-    } else {
-        Ok(e)
+    match e.get() {
+        Expr::Sub(..) if log.aim == Aim::Normal => summed(log, e),
+        Expr::And(..) | Expr::Or(..) => decided(log, 23, e),
+        Expr::Equal(..) => decided(log, 26, e),
+        _ => in_order(log, e),
     }
 }
 
@@ -27,19 +30,94 @@ fn laws_of(e: &Expr) -> &'static [u8] {
         Expr::Fst(_) => &[7],
         Expr::Snd(_) => &[8],
         Expr::Pair(..) => &[9],
-        Expr::If(..) => &[10, 11, 12],
+        Expr::If(..) => &[10, 11, 12, 25],
         Expr::On(..) => &[13, 14],
         Expr::Nth(..) => &[18],
+        Expr::Not(_) => &[15, 24],
         Expr::Neg(_)
         | Expr::Add(..)
         | Expr::Sub(..)
         | Expr::Mul(..)
         | Expr::Less(..)
         | Expr::Equal(..)
-        | Expr::Not(_)
         | Expr::And(..)
         | Expr::Or(..) => &[15],
         _ => &[],
+    }
+}
+
+/// The expression; a sum or product with its terms in order, where that is aimed at.
+fn in_order(log: &mut Log, e: ExprChild) -> Result<ExprChild, Memory> {
+    match wants_order(log, e.get()) {
+        Some(operator) => ordered(log, operator, e, DEPTH),
+        None => Ok(e),
+    }
+}
+
+/// The difference as a sum, its terms in order.
+fn summed(log: &mut Log, e: ExprChild) -> Result<ExprChild, Memory> {
+    let Some(sum) = log.take(19, &e)? else {
+        return Ok(e);
+    };
+    let Expr::Add(_, negative) = sum.get() else {
+        return Ok(sum);
+    };
+    log.enter(1);
+    let literal = log.take(15, negative)?;
+    log.leave();
+    match literal {
+        Some(literal) => {
+            let sum = with_part(log, sum, 1, literal)?;
+            in_order(log, sum)
+        }
+        None => in_order(log, sum),
+    }
+}
+
+/// What law E`number` makes of the expression where a part decides it; else it with its parts in
+/// order, where that is aimed at.
+fn decided(log: &mut Log, number: u8, e: ExprChild) -> Result<ExprChild, Memory> {
+    let e = if wants_swap(log.aim, e.get()) {
+        taken(log, number, e)?
+    } else {
+        e
+    };
+    if is_decided(e.get()) {
+        taken(log, number, e)
+    } else {
+        Ok(e)
+    }
+}
+
+/// What law E`number` makes of the expression; as it is where the law doesn't match.
+fn taken(log: &mut Log, number: u8, e: ExprChild) -> Result<ExprChild, Memory> {
+    match log.take(number, &e)? {
+        Some(right) => Ok(right),
+        None => Ok(e),
+    }
+}
+
+/// Whether the second part is to stand first: a literal, and for the normal form what the order puts
+/// first.
+fn wants_swap(aim: Aim, e: &Expr) -> bool {
+    match e {
+        Expr::And(a, b) | Expr::Or(a, b) if is_literal(a.get()) || is_literal(b.get()) => {
+            is_literal(b.get())
+        }
+        Expr::And(a, b) | Expr::Or(a, b) | Expr::Equal(a, b) => {
+            aim == Aim::Normal && is_after(aim, a.get(), b.get())
+        }
+        _ => false,
+    }
+}
+
+/// Whether a part decides the expression: a literal the first of an `and` or `or`, the same on both
+/// sides an `equal`.
+fn is_decided(e: &Expr) -> bool {
+    match e {
+        Expr::And(a, _) | Expr::Or(a, _) => is_literal(a.get()),
+        Expr::Equal(a, b) => same_expr(a.get(), b.get()),
+        _ => false,
     }
 }
 

@@ -16,8 +16,8 @@ pub fn improve_expr(means: &Means, expr: &Expr) -> Result<Rewriting, Memory> {
     searched(means, expr, Aim::Cheap)
 }
 
-/// The expression's normal form, and the steps to it: each `then` carried inwards, the terms of
-/// each sum in order. `Memory` if allocation fails.
+/// The expression's normal form, and the steps to it: each `then` carried inwards, differences as
+/// sums, and what has no order in order. `Memory` if allocation fails.
 pub fn normal_expr(means: &Means, expr: &Expr) -> Result<Rewriting, Memory> {
     searched(means, expr, Aim::Normal)
 }

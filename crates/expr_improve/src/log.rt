@@ -90,7 +90,11 @@ impl Log {
 
     /// Takes off so many nodes, and returns whether it may go on.
     pub(crate) fn spend(&self, nodes: u64) -> bool {
-        self.means.spend(nodes) && self.steps.len() < MOST_STEPS
+        if self.steps.len() >= MOST_STEPS {
+            self.means.cut();
+            return false;
+        }
+        self.means.spend(nodes)
     }
 
     /// Takes off a node for each number of the path to where it is, and so many more.

@@ -1,4 +1,4 @@
-// An order of expressions, for the terms of a sum.
+// An order of expressions, for what has none.
 
 use crate::log::Aim;
 use crate::weight::{DEPTH, part_count};

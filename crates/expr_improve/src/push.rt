@@ -73,9 +73,12 @@ fn pushed_inwards(log: &mut Log, f: &ExprChild, e: &Expr, depth: u32) -> Result<
 /// Whether what becomes of `(then f e)` is within the limits of expressions wherever f goes.
 fn may_be_carried(log: &Log, f: &Expr, e: &Expr) -> bool {
     let (f, e) = (extent_of(f), extent_of(e));
-    log.spend(f.size.saturating_add(e.size))
-        && f.size.saturating_mul(e.size) <= MOST_PRODUCT
-        && f.height.saturating_add(e.height) <= MOST_SUM
+    let fits = f.size.saturating_mul(e.size) <= MOST_PRODUCT
+        && f.height.saturating_add(e.height) <= MOST_SUM;
+    if !fits {
+        log.means.cut();
+    }
+    log.spend(f.size.saturating_add(e.size)) && fits
 }
 
 /// What becomes of `(then f e)` where f goes to each part of e.

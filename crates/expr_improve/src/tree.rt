@@ -83,13 +83,6 @@ pub(crate) fn then_twice(
     then_of(alloc, &before, b)
 }
 
-/// `(add a b)`.
-pub(crate) fn add_of(alloc: Global, a: &ExprChild, b: &ExprChild) -> Result<ExprChild, Memory> {
-    let a = a.try_copy()?;
-    let b = b.try_copy()?;
-    ExprChild::new(alloc, Expr::Add(a, b))
-}
-
 /// The expression with the other one as part k; as it is where it has no such part.
 pub(crate) fn put_part(
     alloc: Global,

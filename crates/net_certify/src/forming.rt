@@ -89,14 +89,19 @@ impl Former {
 
     /// Where it came, with the steps so far.
     fn into_formed(self) -> Formed {
-        let Former { sketch, moves, .. } = self;
+        let Former {
+            sketch,
+            tasks,
+            moves,
+        } = self;
         let Sketch {
             net,
             steps,
             means,
             ..
         } = sketch;
-        let is_done = moves > 0 && means.left() > 0;
+        let is_done = moves > 0 && tasks.is_empty() && means.is_whole();
+        drop(tasks);
         drop(means);
         Formed {
             net,

@@ -25,6 +25,9 @@ const MOST_WORK: u64 = 5_000_000;
 /// The same, where loops are made one.
 const MOST_LOOPING: u64 = 2_000_000;
 
+/// The same, where normal forms are made one.
+const MOST_BETWEEN: u64 = 1_000_000;
+
 /// The same, where steps that lead nowhere are looked for.
 const MOST_SHORTENING: u64 = 10_000_000;
 
@@ -225,14 +228,8 @@ fn steps_by(
             Vec::new(alloc),
         ),
         Looking::AtPlaces => at_places(alloc, source, target, false, nodes)?,
-        Looking::Optimised => (
-            replace(&mut tried.optimised, Vec::new(alloc)),
-            optimised(alloc, target)?,
-        ),
-        Looking::Improved => (
-            replace(&mut tried.improved, Vec::new(alloc)),
-            improved(alloc, target, nodes)?,
-        ),
+        Looking::Optimised => both_optimised(alloc, source, target, tried)?,
+        Looking::Improved => both_improved(alloc, source, target, tried, nodes)?,
         Looking::Formed => at_forms(alloc, source, target, tried, nodes)?,
         Looking::Looped => at_places(alloc, source, target, true, nodes)?,
     };
@@ -304,23 +301,48 @@ fn if_led(
     Vec::new(alloc)
 }
 
-/// The steps of the optimiser.
-fn optimised(alloc: Global, net: &TypedNet) -> Result<Vec<LawStep>, Memory> {
-    let (last, steps) = optimise(alloc, net)?;
+/// The steps of the optimiser from both; none from the source, where those from the target lead to it.
+fn both_optimised(
+    alloc: Global,
+    source: &TypedNet,
+    target: &TypedNet,
+    tried: &mut Tried,
+) -> Result<(Vec<LawStep>, Vec<LawStep>), Memory> {
+    let (last, back) = optimise(alloc, target)?;
+    let is_led = same_net(&last, source.net());
     drop(last);
-    Ok(steps)
+    Ok((unless_led(alloc, is_led, &mut tried.optimised), back))
 }
 
-/// The steps to what costs less.
-fn improved(alloc: Global, net: &TypedNet, nodes: &mut u64) -> Result<Vec<LawStep>, Memory> {
+/// The steps to what costs less from both; none from the source, where those from the target lead to
+/// it.
+fn both_improved(
+    alloc: Global,
+    source: &TypedNet,
+    target: &TypedNet,
+    tried: &mut Tried,
+    nodes: &mut u64,
+) -> Result<(Vec<LawStep>, Vec<LawStep>), Memory> {
     let means = Means::new(alloc, MOST_IMPROVING)?;
-    let (last, steps) = improve_within(&means, net)?;
-    drop(last);
+    let (last, back) = improve_within(&means, target)?;
     add_spent(nodes, MOST_IMPROVING, &means);
-    Ok(steps)
+    let is_led = same_net(&last, source.net());
+    drop(last);
+    Ok((unless_led(alloc, is_led, &mut tried.improved), back))
 }
 
-/// The steps to the normal forms of two networks, where these are one; else the forms are kept.
+/// The steps that were kept; none where others lead there.
+fn unless_led(alloc: Global, is_led: bool, kept: &mut Vec<LawStep>) -> Vec<LawStep> {
+    let steps = replace(kept, Vec::new(alloc));
+    if is_led {
+        drop(steps);
+        return Vec::new(alloc);
+    }
+    steps
+}
+
+/// The steps to the normal forms of two networks, and on to where these are one; where they aren't made
+/// one, the forms are kept.
 fn at_forms(
     alloc: Global,
     source: &TypedNet,
@@ -330,15 +352,42 @@ fn at_forms(
 ) -> Result<(Vec<LawStep>, Vec<LawStep>), Memory> {
     let there = formed(alloc, source, nodes)?;
     let back = formed(alloc, target, nodes)?;
-    if !same_net(there.net.get(), back.net.get()) {
+    let Some(ways) = between_forms(alloc, &there, &back, nodes)? else {
         drop(replace(&mut tried.forms, Some((there, back))));
         return Ok((Vec::new(alloc), Vec::new(alloc)));
+    };
+    if !may_be_taken(alloc, &there)? || !may_be_taken(alloc, &back)? {
+        drop(ways);
+        return Ok((Vec::new(alloc), Vec::new(alloc)));
     }
-    if may_be_taken(alloc, &there)? && may_be_taken(alloc, &back)? {
-        Ok((steps_of(there), steps_of(back)))
-    } else {
-        Ok((Vec::new(alloc), Vec::new(alloc)))
+    let (mut there, mut back) = (steps_of(there), steps_of(back));
+    let Ways {
+        there: mut on,
+        back: mut on_back,
+    } = ways;
+    there.append(&mut on)?;
+    back.append(&mut on_back)?;
+    Ok((there, back))
+}
+
+/// Steps from two normal forms to where they are one: none of forms that are the same, else at the
+/// places where they differ.
+fn between_forms(
+    alloc: Global,
+    there: &Formed,
+    back: &Formed,
+    nodes: &mut u64,
+) -> Result<Option<Ways>, Memory> {
+    if same_net(there.net.get(), back.net.get()) {
+        return Ok(Some(Ways {
+            there: Vec::new(alloc),
+            back: Vec::new(alloc),
+        }));
     }
+    let means = Means::new(alloc, MOST_BETWEEN)?;
+    let ways = ways_between(&means, there.net.get(), back.net.get(), false)?;
+    add_spent(nodes, MOST_BETWEEN, &means);
+    Ok(ways)
 }
 
 /// Whether the steps to the normal form may be taken: not where they are many and it is large.

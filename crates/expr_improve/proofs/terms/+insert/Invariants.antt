@@ -1,5 +1,5 @@
 use Rattle.std.proofs.Common.{◌+◌, ◌*◌}
-use Rattle.expr_improve.proofs.sums.+insert.Given as goal
+use Rattle.expr_improve.proofs.terms.+insert.Given as goal
 
 abbrev pub decreases-inserted : goal.decreases-inserted
 decreases-inserted l = 8 * l.depth + 7
