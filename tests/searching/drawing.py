@@ -1,28 +1,29 @@
 """Draws the random walks that tests/searching/walked holds.
 
-Of each example so many walks, by a seed that is its name and the walk's number: from its network 30 steps forward, or fewer where no
-more are possible, drawn evenly from all those that `laws` prints of the network that the ones before lead to: one, or of many one in
-five, none of them below another. Equal walks are kept once, so an example with few steps has few walks.
+Of each example so many walks by the laws of versions 1 and 2, and so many by all laws, by a seed that is its name and the walk's number:
+from its network 30 steps forward, or fewer where no more are possible, drawn evenly from all those that `laws` prints of the network that
+the ones before lead to: one, or of many one in five, none of them below another. Equal walks are kept once, so an example with few steps
+has few walks.
 """
 import random
 import tempfile
 from pathlib import Path
 
 from searching.calls import Caller
-from searching.walks import EXAMPLES, WALKED, certificate_of
+from searching.walks import EXAMPLES, WALKED, certificate_of, is_older
 
 WALKS = 10
 STEPS = 30
 HEAD = "; A walk a line: the example, and steps forward from its network, each a law and a position; drawn by tests/searches --draw."
 
 
-def possible(caller, net):
-    """The steps that `laws` prints, each a law and the numbers of its position."""
+def possible(caller, net, by_all):
+    """The steps that `laws` prints, each a law and the numbers of its position: by all laws, or by those of versions 1 and 2."""
     status, output, error = caller.call("laws", net)
     if status:
         raise ValueError(f"laws: status {status}, {error!r}")
-    lines = [line[6:-2] for line in output.splitlines() if line.startswith("(step ")]
-    return [line.replace(" forward (at", "") for line in lines]
+    steps = [line[6:-2].replace(" forward (at", "") for line in output.splitlines() if line.startswith("(step ")]
+    return [step for step in steps if by_all or is_older(step)]
 
 
 def drawn(choices, draws, room):
@@ -39,10 +40,10 @@ def beneath(one, other):
     return all(first == second for first, second in zip(one, other))
 
 
-def walk_of(caller, source, draws):
+def walk_of(caller, source, draws, by_all):
     """A walk from a network."""
     steps, net = [], source
-    while len(steps) < STEPS and (choices := possible(caller, net)):
+    while len(steps) < STEPS and (choices := possible(caller, net, by_all)):
         steps += (taken := drawn(choices, draws, STEPS - len(steps)))
         status, output, error = caller.call("apply", net, caller.file(certificate_of(taken)))
         if status:
@@ -57,8 +58,8 @@ def walks_of(job):
     lines = []
     with tempfile.TemporaryDirectory(prefix="walks-") as folder:
         caller = Caller(program, folder)
-        for number in range(WALKS):
-            steps = walk_of(caller, str(EXAMPLES / name / "net"), random.Random(f"{name} {number}"))
+        for number in range(2 * WALKS):
+            steps = walk_of(caller, str(EXAMPLES / name / "net"), random.Random(f"{name} {number}"), by_all=number >= WALKS)
             lines += [f"{name}: {'; '.join(steps)}"] if steps else []
     return list(dict.fromkeys(lines))
 

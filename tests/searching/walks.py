@@ -12,6 +12,16 @@ EXAMPLES = TOP / "examples"
 WALKED = TOP / "tests/searching/walked"
 
 
+# The greatest numbers of the laws of version 2.
+OLDER = {"E": 18, "L": 46}
+
+
+def is_older(step):
+    """Whether the step's law is one of version 1 or 2."""
+    law = step.split()[0]
+    return int(law[1:]) <= OLDER[law[0]]
+
+
 def walks():
     """The walks of each example that has one: lists of steps by its name."""
     found: dict[str, list[list[str]]] = {}
@@ -25,28 +35,31 @@ def walks():
 def certificate_of(steps):
     """The text of a certificate with these steps."""
     told = [f"(step {law} forward (at{''.join(f' {k}' for k in path)}))" for law, *path in map(str.split, steps)]
-    return "\n".join(["laws 2", *told, ""])
+    return "\n".join(["laws 3", *told, ""])
+
+
+def kind_of(steps):
+    """Walks by the laws of versions 1 and 2, or by all laws."""
+    return "walks" if all(map(is_older, steps)) else "walks by all laws"
 
 
 def ends_of(caller, source, taken):
-    """The networks to which steps from the source are known: what they are, their text, and how many steps lead there."""
+    """The networks to which steps from the source are known: what they are, of which kind, their text, and how many steps lead there."""
     for command in "optimise", "improve":
-        yield command, caller.call(command, source)[1], steps_in(caller.call(command, source, "--certificate")[1])
+        yield command, "rewritings", caller.call(command, source)[1], steps_in(caller.call(command, source, "--certificate")[1])
     for number, steps in enumerate(taken):
-        yield f"walk {number}", caller.call("apply", source, caller.file(certificate_of(steps)))[1], len(steps)
+        yield f"walk {number}", kind_of(steps), caller.call("apply", source, caller.file(certificate_of(steps)))[1], len(steps)
 
 
 def example_found(caller, name, taken):
-    """What is wrong with what `certify` prints of an example, what it finds, and how much of it: of rewritings, and of walks."""
+    """What is wrong with what `certify` prints of an example, what it finds, and how much of it: of rewritings, and of walks of both kinds."""
     source = str(EXAMPLES / name / "net")
-    faults, said, counts = [], [], {"rewritings": [0, 0, 0], "walks": [0, 0, 0]}
-    for what, target, known in ends_of(caller, source, taken):
+    faults, said, counts = [], [], {kind: [0, 0, 0] for kind in ("rewritings", "walks", "walks by all laws")}
+    for what, kind, target, known in ends_of(caller, source, taken):
         found, fault = caller.certified(source, caller.file(target)) if target else (None, "nothing is printed")
         faults += [f"{what}: {fault}"] if fault else []
-        walked = what.startswith("walk")
-        said += [] if walked else [f"{what} {told_of(found)} of {known}"]
-        count = counts["walks" if walked else "rewritings"]
+        said += [f"{what} {told_of(found)} of {known}"] if kind == "rewritings" else []
         for place, more in enumerate((True, isinstance(found, int), found_within(found, known))):
-            count[place] += more
-    count = counts["walks"]
-    return faults, ", ".join([*said, *([f"walks {count[1]} of {count[0]}, {count[2]} short"] if count[0] else [])]), counts
+            counts[kind][place] += more
+    told = [f"{kind} {found} of {walked}, {few} short" for kind, (walked, found, few) in counts.items() if walked and kind != "rewritings"]
+    return faults, ", ".join(said + told), counts

@@ -279,10 +279,11 @@ steps of SRC, and after them those of TGT undone: `yampa check` accepts them fro
 output the same on every stream. If it finds none, both may still output the same. It prints
 
   (at 0)                               the first position at which their normal forms differ,
-  - (sub x 1)                          what SRC's has there, and what TGT's has;
-  + (add x -1)
+  - (mul x 2)                          what SRC's has there, and what TGT's has;
+  + (add x x)
   too long: 10120 steps, 902115 bytes  that there are steps, too many for a certificate or a file;
-  gave up: 15000000 nodes visited      or that it came to no normal form.
+  gave up: 15000000 nodes visited      or that it came to no normal form, then the first position
+                                       at which SRC and TGT differ, and what they have there.
 
 Long trees are cut as by `yampa laws`.
 

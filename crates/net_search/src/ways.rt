@@ -60,10 +60,12 @@ enum Looking {
     Formed,
     /// At those places, with loops made one.
     Looped,
+    /// Where their normal forms differ.
+    BehindForms,
 }
 
 /// In this order.
-const WAYS: [Looking; 7] = [
+const WAYS: [Looking; 8] = [
     Looking::Optimising,
     Looking::Improving,
     Looking::AtPlaces,
@@ -71,6 +73,7 @@ const WAYS: [Looking; 7] = [
     Looking::Improved,
     Looking::Formed,
     Looking::Looped,
+    Looking::BehindForms,
 ];
 
 /// What was found and led nowhere, for what is tried later.
@@ -232,6 +235,7 @@ fn steps_by(
         Looking::Improved => both_improved(alloc, source, target, tried, nodes)?,
         Looking::Formed => at_forms(alloc, source, target, tried, nodes)?,
         Looking::Looped => at_places(alloc, source, target, true, nodes)?,
+        Looking::BehindForms => behind_forms(alloc, tried, nodes)?,
     };
     through(alloc, target, there, &back)
 }
@@ -341,8 +345,7 @@ fn unless_led(alloc: Global, is_led: bool, kept: &mut Vec<LawStep>) -> Vec<LawSt
     steps
 }
 
-/// The steps to the normal forms of two networks, and on to where these are one; where they aren't made
-/// one, the forms are kept.
+/// The steps to the normal forms of two networks, where these are one; else the forms are kept.
 fn at_forms(
     alloc: Global,
     source: &TypedNet,
@@ -352,14 +355,31 @@ fn at_forms(
 ) -> Result<(Vec<LawStep>, Vec<LawStep>), Memory> {
     let there = formed(alloc, source, nodes)?;
     let back = formed(alloc, target, nodes)?;
+    if !same_net(there.net.get(), back.net.get()) {
+        drop(replace(&mut tried.forms, Some((there, back))));
+        return Ok((Vec::new(alloc), Vec::new(alloc)));
+    }
+    if may_be_taken(alloc, &there)? && may_be_taken(alloc, &back)? {
+        Ok((steps_of(there), steps_of(back)))
+    } else {
+        Ok((Vec::new(alloc), Vec::new(alloc)))
+    }
+}
+
+/// The steps to the normal forms that were kept, and on to where these are one; where that isn't found,
+/// they stay.
+fn behind_forms(
+    alloc: Global,
+    tried: &mut Tried,
+    nodes: &mut u64,
+) -> Result<(Vec<LawStep>, Vec<LawStep>), Memory> {
+    let Some((there, back)) = replace(&mut tried.forms, None) else {
+        return Ok((Vec::new(alloc), Vec::new(alloc)));
+    };
     let Some(ways) = between_forms(alloc, &there, &back, nodes)? else {
         drop(replace(&mut tried.forms, Some((there, back))));
         return Ok((Vec::new(alloc), Vec::new(alloc)));
     };
-    if !may_be_taken(alloc, &there)? || !may_be_taken(alloc, &back)? {
-        drop(ways);
-        return Ok((Vec::new(alloc), Vec::new(alloc)));
-    }
     let (mut there, mut back) = (steps_of(there), steps_of(back));
     let Ways {
         there: mut on,
@@ -370,24 +390,26 @@ fn at_forms(
     Ok((there, back))
 }
 
-/// Steps from two normal forms to where they are one: none of forms that are the same, else at the
-/// places where they differ.
+/// Steps from two normal forms to where they are one, where all to these may be taken: at the places
+/// where they differ, then with loops made one there.
 fn between_forms(
     alloc: Global,
     there: &Formed,
     back: &Formed,
     nodes: &mut u64,
 ) -> Result<Option<Ways>, Memory> {
-    if same_net(there.net.get(), back.net.get()) {
-        return Ok(Some(Ways {
-            there: Vec::new(alloc),
-            back: Vec::new(alloc),
-        }));
+    if !may_be_taken(alloc, there)? || !may_be_taken(alloc, back)? {
+        return Ok(None);
     }
-    let means = Means::new(alloc, MOST_BETWEEN)?;
-    let ways = ways_between(&means, there.net.get(), back.net.get(), false)?;
-    add_spent(nodes, MOST_BETWEEN, &means);
-    Ok(ways)
+    for with_loops in [false, true] {
+        let means = Means::new(alloc, MOST_BETWEEN)?;
+        let ways = ways_between(&means, there.net.get(), back.net.get(), with_loops)?;
+        add_spent(nodes, MOST_BETWEEN, &means);
+        if ways.is_some() {
+            return Ok(ways);
+        }
+    }
+    Ok(None)
 }
 
 /// Whether the steps to the normal form may be taken: not where they are many and it is large.
