@@ -32,6 +32,8 @@ def is_used(folder: Path, yampa: Path) -> None:
     want("installed run of a source", output == (source.parent / "output").read_bytes(), output[:200])
     told = called(folder, [yampa, "plt"])
     want("installed, a mistyped command", told[0] == 2 and b"did you mean plot?" in told[2], told)
+    told = called(folder, [yampa, "--prove"])
+    want("installed, --prove", told == (2, b"", b"yampa: --prove needs the repository, and this is an installed copy\n"), told)
     want("installed help", b"\n  batch " in called(folder, [yampa, "--help"])[1])
     want("installed help of a tool", b"usage: yampa draw" in called(folder, [yampa, "help", "draw"])[1])
 

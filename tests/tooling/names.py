@@ -78,6 +78,10 @@ BAD_SOURCES = [
     ("include there\ninput Int time", "there:2:9: source includes itself, by way of others"),
     ("include whole\ninput Int time", "source:2:9: whole has a network: a file that is included has definitions alone"),
     ("def a 1\n", "source:1:1: this file has no network: it has definitions alone, and can be included"),
+    ("record Car a:Int b:Int\ninput Carr time", "source:3:7: unknown word Carr; did you mean Car?"),
+    ("input Int assume a (arr true)\ntime", "source:2:11: assume stands behind the network"),
+    ("assume a (arr true)\ninput Int time", "source:2:1: assume stands behind the network"),
+    ("input Int (arr (add x\0 1))", "source:2:21: unknown word x\\x00; did you mean x?"),
     ("hello Int time", "include, record, def or input is wanted"),
 ]
 
@@ -224,7 +228,8 @@ FAULTS = [
     (CAR + "def pushed (pedal x)\ndef (over k)\n  (less pushed k)\ninput Car (arr (over 5))", "source:5:9: less wants an Int, but pushed is a Bool"),
     (CAR + "input Car\n(>>> (arr x) (hold 0))", "source:4:14: hold takes events"),
     (CAR + "input (Event Car)\n(hold 0)", "source:4:1: the constant of hold is what is held before the first event: it is of type Int, and the events carry Car"),
-    (CAR + "input Car\noutput Int\n(arr (Car 1 true))", "source:4:8: the network outputs (Pair Int Bool), and not Int, which is Int"),
+    (CAR + "input Car\noutput Int\n(arr (Car 1 true))", "source:4:8: the network outputs (Pair Int Bool), and not Int"),
+    (CAR + "input Car identity\nguarantee safe (arr (pedal (snd y)))", "source:4:33: unknown word y"),
     (CAR + "def f (arr (speed y))\ninput Car f", "source:3:19: unknown word y (in the definition of f)"),
 ]
 
@@ -241,6 +246,27 @@ def faults_stand_in_the_source() -> None:
         want(f"types: {wanted}", wrapped[0] == 1 and wrapped[2].rstrip("\n") == wanted and not wrapped[1], wrapped)
         want(f"draw: {wanted}", drawn[0] == 1 and drawn[2].rstrip("\n") == f"yampa draw: {wanted}" or "outputs" in wanted, drawn)
         want(f"explain: {wanted}", wanted.partition(" (in")[0] in explained[1] and " | " in explained[1] or "outputs" in wanted, explained)
+
+
+STATED = [
+    ("guarantee a (arr (add x true))", "source:4:23: add wants an Int, but x is a (Pair Car Car)"),
+    ("assume a (arr (less 1 (pedal x)))", "source:4:23: less wants an Int, but (pedal x) is a Bool"),
+    ("assume a (arr (less 1 (speed x)))\ninvariant a (arr (fst x))", "source:5:13: invariant a outputs Bool; this one outputs Car"),
+    ("guarantee a (arr (add x))", "source:4:23: add takes two expressions, and has one only"),
+    ("guarantee a (arr true)\nguarantee a (arr true)", "source:5:11: guarantee a is there already: take another name"),
+]
+
+
+def stated_lines_are_typed() -> None:
+    """What is stated of a network is taken by `types` only where the program takes it."""
+    texts = [CAR + "input Car identity\n" + stated for stated, _ in STATED]
+    with own_folder() as room:
+        in_files(room, source=CAR + "input Car identity\nassume a (arr (pedal x))\nguarantee a (arr (equal (fst x) (snd x)))\n")
+        want("stated lines", call_wrapper(room, "types", "source")[:2] == (0, "Car -> Car\nweight 1\nheight 1\n"))
+        for text, (_, wanted) in zip(texts, STATED):
+            in_files(room, source=text)
+            status, output, error = call_wrapper(room, "types", "source")
+            want(wanted, status == 1 and not output and error.startswith(wanted) and error.count("\n") == 1, error)
 
 
 def call_wrapper(room: Path, *words: str, stream: bytes = b"") -> tuple:
@@ -351,6 +377,7 @@ def try_all() -> None:
     comments_are_kept()
     deep_files_end()
     faults_stand_in_the_source()
+    stated_lines_are_typed()
     beginnings_are_seen()
     commands_take_sources()
     sources_are_what_they_mean()

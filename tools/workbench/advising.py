@@ -3,6 +3,7 @@ from __future__ import annotations
 
 import difflib
 import os
+import re
 from pathlib import Path
 
 LIST = Path(__file__).resolve().parents[1] / "list"
@@ -42,8 +43,8 @@ def advice(said: str, words: list[str]) -> str | None:
         places, _ = named_files(words)
         return unread(words[places[PLACES[role]]])
     if "unrecognized subcommand" in said or not words:
-        named = words[1:2] or words if words[:1] == ["help"] else words
-        near = difflib.get_close_matches(named[0], [*FILES, *tools()], 1) if named else []
+        wrong = re.search("subcommand '(.*)'", said)
+        near = difflib.get_close_matches(wrong[1], [*FILES, *tools()], 1) if wrong else []
         meant = f"; did you mean {near[0]}?" if near else ""
         return f"there are tools beside these commands: {', '.join(tools())}{meant}"
     return None
@@ -56,10 +57,16 @@ def tools_listed() -> str:
     return "\n".join(["", "Tools beside these commands, not proved; `yampa NAME --help` teaches each:", *lines, ""])
 
 
-def unread(name: str) -> str:
+def as_called(name: str) -> str:
+    """A file's name as the caller has it: `-` for what the wrapper has opened for that."""
+    return "-" if name == os.environ.get("YAMPA_INPUT") else name
+
+
+def unread(path: str) -> str:
     """Why a file can't be read."""
-    if os.path.isdir(name):
+    name = as_called(path)
+    if os.path.isdir(path):
         return f"{name}: this is a folder"
-    if not os.path.exists(name):
+    if not os.path.exists(path):
         return f"{name}: there is no such file"
     return f"{name}: it is there, but may not be read"

@@ -6,7 +6,7 @@ from dataclasses import dataclass, field
 
 from model.texts import FILE_BYTES, OPEN
 from workbench.ending import UNREADABLE, Refused
-from workbench.written import Node, place, readable
+from workbench.written import Node, decoded, place, readable
 
 TOKENS = re.compile(rb";[^\n]*|[()]|[^ \t\r\n();]+")
 KEYWORDS = ("include", "record", "def", "input")
@@ -231,6 +231,8 @@ def network_of(reader: TreeReader, source: Source) -> None:
     named = source.header[1].word == "source"
     source.comments = [*reader.tokens[reader.read].before] if not reader.ended() else []
     word = reader.word("the word input")
+    if named and word.word in PROPERTIES:
+        raise Fault(word, f"{word.word} stands behind the network")
     if word.word != "input":
         raise Fault(word, f"{', '.join(KEYWORDS[:-1])} or input is wanted" if named else "the word input is missing")
     source.comments = [*source.comments, *word.trailing]
@@ -239,9 +241,14 @@ def network_of(reader: TreeReader, source: Source) -> None:
         comments = beside(reader.take(""))
         source.output = reader.tree()
         source.output.comments = [*comments, *source.output.comments]
+    if named and reader.peek() in PROPERTIES:
+        raise reader.fault(reader.tokens[reader.read], f"{reader.peek()} stands behind the network")
     source.net = reader.tree()
     while named and reader.peek() in PROPERTIES:
-        source.properties.append(property_of(reader))
+        one = property_of(reader)
+        if (one.kind, one.name.word) in [(other.kind, other.name.word) for other in source.properties]:
+            raise Fault(one.name, f"{one.kind} {one.name.word} is there already: take another name")
+        source.properties.append(one)
     if not reader.ended():
         raise reader.fault(reader.tokens[reader.read], "the network is whole before this" + (stands_elsewhere(reader.peek()) if named else ""))
 
@@ -331,7 +338,7 @@ def gather(source: Source, above: tuple, items: list, texts: dict) -> None:
         if not isinstance(item, Include):
             items.append(item)
             continue
-        name = os.path.normpath(os.path.join(os.path.dirname(source.text.name), readable(item.file.word)))
+        name = os.path.normpath(os.path.join(os.path.dirname(source.text.name), decoded(item.file.word)))
         path = os.path.realpath(name)
         if path in above:
             raise Fault(item.file, f"{item.file.word} includes itself" + (", by way of others" if path != above[-1] else ""))

@@ -71,6 +71,6 @@ def path_of(name: str, reading: Callable[[str], bytes] = read) -> str:
         with open(path, "rb"):
             return path
     except (Refused, OSError) as refused:
-        told = Told(str(refused)) if os.path.isfile(name) else unread(name)
+        told = Told(str(refused)) if name == "-" or os.path.isfile(name) else unread(name)
         told = told_of(refused.fault) if isinstance(refused, InNames) else told
         return tell(told, getattr(refused, "status", UNREADABLE))

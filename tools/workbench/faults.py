@@ -8,7 +8,7 @@ from workbench.ending import read
 from workbench.missteps import nothing_there, of_steps
 from workbench.misread import of_stream
 from workbench.mistyped import of_types
-from workbench.origin import program_of
+from workbench.origin import PROGRAMS, program_from
 from workbench.program import again
 from workbench.source import read_steps
 from workbench.written import SyntaxFault
@@ -24,7 +24,10 @@ class Files:
 
     def program(self, role: str):
         """The network of a role."""
-        return program_of(self.paths[role])
+        path = self.paths[role]
+        if path not in PROGRAMS:
+            PROGRAMS[path] = program_from(self.names[role], read(path))
+        return PROGRAMS[path]
 
     def certificate(self) -> tuple:
         """The certificate's name and bytes."""
@@ -78,8 +81,7 @@ def unread(name):
             file.read(1)
     except OSError as error:
         why = {"No such file or directory": "no such file", "Is a directory": "this is a folder"}.get(error.strerror, error.strerror.lower())
-        note = "write /dev/stdin for standard input" if name == "-" else ""
-        return Told(why, name, notes=[note])
+        return Told(why, name)
     return Told("cannot be read", name)
 
 

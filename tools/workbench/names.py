@@ -179,7 +179,8 @@ class Expansion:
         if word in self.later:
             later = "itself" if word == scope.inside else "a later one"
             raise Fault(node, f"a definition may use those before it, and not {later}", scope.inside)
-        meant = near(word, [*names_in(scope), *FORMS, *WORDS])
+        known = [*names_in(scope), *FORMS, *WORDS]
+        meant = near(word, [other for other in known if other[0].isupper() == word[0].isupper()]) or near(word, known)
         raise Fault(node, f"unknown word {word}" + (f"; did you mean {meant}?" if meant else ""), scope.inside)
 
     def fits(self, node: Written, known, scope: Scope) -> None:

@@ -72,7 +72,9 @@ class Program:
 
     @cached_property
     def trees(self) -> tuple:
-        """The input type and the network with no names in them."""
+        """The input type and the network with no names in them; of what is said of the network that each word is known."""
+        for one in self.source.properties:
+            self.expansion.check(one.body, self.expansion.top)
         return self.expansion.tree(self.source.input), self.expansion.tree(self.source.net)
 
     @cached_property
@@ -120,7 +122,7 @@ class Program:
 
     def kept_path(self) -> Path:
         told = [text.data for text in self.texts] if self.has_names else [self.data]
-        own = [Path(module.__file__).read_bytes() for module in (definitions, names)]
+        own = [Path(file).read_bytes() for file in (__file__, definitions.__file__, names.__file__)]
         sums = [hashlib.sha256(part).digest() for part in [*own, *told]]
         return cache_folder() / hashlib.sha256(b"".join(sums)).hexdigest()
 
@@ -205,7 +207,8 @@ class Program:
         if self.has_names and self.source.output is not None:
             said = type_of(self.expansion.tree(self.source.output))
             if said != type_:
-                wanted = f"{readable(flat(self.source.output))}, which is {shown(said)}"
+                wanted, means = readable(flat(self.source.output)), shown(said)
+                wanted += f", which is {means}" if wanted != means else ""
                 raise Fault(self.source.output, f"the network outputs {shown(type_)}, and not {wanted}")
             return said
         return self.named_type(type_)

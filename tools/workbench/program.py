@@ -8,6 +8,7 @@ from collections.abc import Callable
 from pathlib import Path
 from typing import IO
 
+from workbench.advising import as_called
 from workbench.ending import UNREADABLE, Refused, called, read, unreadable
 from workbench.origin import network_path
 
@@ -118,5 +119,5 @@ def again(name, reading=read):
     stack = contextlib.ExitStack()
     atexit.register(stack.close)
     copy = stack.enter_context(kept(reading(name)))
-    COPIES[copy] = called(name)
-    return network_path(copy, name)
+    COPIES[copy] = called(as_called(name))
+    return network_path(copy, as_called(name))

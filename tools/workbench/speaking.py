@@ -10,7 +10,8 @@ from workbench.ending import Refused, ended, write
 from workbench.faults import Files, explained
 from workbench.origin import PROGRAMS, InNames, Program, program_of
 from workbench.outline import read_type
-from workbench.program import again, answered, is_trial
+from workbench.program import COPIES, again, answered, is_trial
+from workbench.properties import first_fault
 from workbench.records import shown_type
 
 # The files of each command by their roles, and the options behind which a value stands.
@@ -135,12 +136,18 @@ def answer(program: str, words: list) -> int:
         status = run.returncode
         output.seek(0)
         told = output.read().decode()
+    if words[0] == "types" and not status and networks and not is_trial():
+        fault = first_fault(networks["network"], read_type(told.partition("\n")[0].split(" -> ")[1]))
+        if fault:
+            raise Refused(fault)
     write(None, speak(next(iter(networks.values())), told) if speak and not status and networks else told)
     return status if status >= 0 else 128 - status
 
 
 def tell(words: list, line: str) -> None:
-    """Tells a line of standard error; one of the wrapper as it is."""
+    """Tells a line of standard error, in which files have the names that they were called by; one of the wrapper as it is."""
+    for path, name in {**COPIES, **{path: program.name for path, program in PROGRAMS.items()}}.items():
+        line = line.replace(f"'{path}'", f"'{name}'")
     print(line.rstrip("\n") if line.startswith("yampa: ") else spoken(words, line.rstrip("\n")), file=sys.stderr, flush=True)
 
 

@@ -39,6 +39,9 @@ ELSEWHERE = {
     "Maybe": "Event",
 }
 
+# What a word may have and a terminal takes for an order.
+CONTROL = re.compile("[\x00-\x08\x0b-\x1f\x7f-\x9f]")
+
 
 @dataclass
 class Node:
@@ -86,12 +89,17 @@ def tokens_of(data):
     return tokens, comments
 
 
-def readable(text: str) -> str:
+def decoded(text: str) -> str:
     """A text that has words of a file, each byte of which is a character, with these words in UTF-8."""
     try:
         return text.encode("latin-1").decode()
     except UnicodeError:
         return text
+
+
+def readable(text: str) -> str:
+    """The same as it is told: what a terminal would take for an order is escaped."""
+    return CONTROL.sub(lambda found: f"\\x{ord(found.group()):02x}", decoded(text))
 
 
 def place(data, at):
@@ -107,7 +115,7 @@ def excerpt(data, at, length=1):
     start = data.rfind(b"\n", 0, at) + 1
     end = data.find(b"\n", at)
     end = len(data) if end < 0 else end
-    text = data[start:end].decode(errors="replace").replace("\t", " ").rstrip("\r")
+    text = CONTROL.sub("\ufffd", data[start:end].decode(errors="replace").replace("\t", " ").rstrip("\r"))
     cut = max(0, column - 80)
     shown = ("…" if cut else "") + text[cut : cut + 120]
     under = " " * (column - 1 - cut + bool(cut)) + "^" * max(1, min(length, end - at, 120))
