@@ -1,5 +1,6 @@
 // The normal form of a network, by steps.
 
+use crate::one_loop::join_loops;
 use crate::table::{MoveRow, SOURCE, TABLE, row_fits};
 use expr_improve::{Means, joined};
 use leaf_core::Expr;
@@ -63,6 +64,17 @@ pub struct Formed {
 /// comes. It is only proposed: types aren't looked at. `Memory` if allocation fails.
 pub fn normal_form(means: &Means, net: &Net<Expr>, olds: u32) -> Result<Formed, Memory> {
     let mut former = Former::new(means, net, olds)?;
+    former.perform_all()?;
+    Ok(former.into_formed())
+}
+
+/// The normal form of the network with its loops and cells made as few loops as they get, likewise.
+pub fn looped_form(means: &Means, net: &Net<Expr>, olds: u32) -> Result<Formed, Memory> {
+    let mut former = Former::new(means, net, olds)?;
+    match join_loops(&mut former.sketch) {
+        Ok(_) | Err(NoMove::Unfit) => {}
+        Err(NoMove::Memory) => return Err(Memory),
+    }
     former.perform_all()?;
     Ok(former.into_formed())
 }

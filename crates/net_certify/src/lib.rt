@@ -32,5 +32,5 @@ mod table;
 pub use alike::{MOST_CHILDREN, inner_at};
 pub use cheaper_loops::loops_made_one;
 pub use difference::{Difference, first_difference};
-pub use forming::{Formed, normal_form};
+pub use forming::{Formed, looped_form, normal_form};
 pub use places::{Ways, ways_between};

@@ -11,7 +11,7 @@ use crate::shortening::shortened;
 use crate::undoing::undo;
 use cert_check::{CheckFault, take_step};
 use expr_improve::Means;
-use net_certify::{Formed, Ways, normal_form, ways_between};
+use net_certify::{Formed, Ways, looped_form, normal_form, ways_between};
 use net_opt::optimise;
 use net_syntax::TypedNet;
 use net_tree::{LawStep, same_net};
@@ -62,10 +62,12 @@ enum Looking {
     Looped,
     /// Where their normal forms differ.
     BehindForms,
+    /// By their normal forms with loops made one, and where these differ.
+    LoopedForms,
 }
 
 /// In this order.
-const WAYS: [Looking; 8] = [
+const WAYS: [Looking; 9] = [
     Looking::Optimising,
     Looking::Improving,
     Looking::AtPlaces,
@@ -74,6 +76,7 @@ const WAYS: [Looking; 8] = [
     Looking::Formed,
     Looking::Looped,
     Looking::BehindForms,
+    Looking::LoopedForms,
 ];
 
 /// What was found and led nowhere, for what is tried later.
@@ -236,6 +239,7 @@ fn steps_by(
         Looking::Formed => at_forms(alloc, source, target, tried, nodes)?,
         Looking::Looped => at_places(alloc, source, target, true, nodes)?,
         Looking::BehindForms => behind_forms(alloc, tried, nodes)?,
+        Looking::LoopedForms => at_looped_forms(alloc, source, target, nodes)?,
     };
     through(alloc, target, there, &back)
 }
@@ -380,6 +384,30 @@ fn behind_forms(
         drop(replace(&mut tried.forms, Some((there, back))));
         return Ok((Vec::new(alloc), Vec::new(alloc)));
     };
+    gone_on(there, back, ways)
+}
+
+/// The same of their normal forms with loops made one.
+fn at_looped_forms(
+    alloc: Global,
+    source: &TypedNet,
+    target: &TypedNet,
+    nodes: &mut u64,
+) -> Result<(Vec<LawStep>, Vec<LawStep>), Memory> {
+    let there = looped(alloc, source, nodes)?;
+    let back = looped(alloc, target, nodes)?;
+    match between_forms(alloc, &there, &back, nodes)? {
+        Some(ways) => gone_on(there, back, ways),
+        None => Ok((Vec::new(alloc), Vec::new(alloc))),
+    }
+}
+
+/// The steps to two forms, each with those from it on.
+fn gone_on(
+    there: Formed,
+    back: Formed,
+    ways: Ways,
+) -> Result<(Vec<LawStep>, Vec<LawStep>), Memory> {
     let (mut there, mut back) = (steps_of(there), steps_of(back));
     let Ways {
         there: mut on,
@@ -423,6 +451,14 @@ fn formed(alloc: Global, net: &TypedNet, nodes: &mut u64) -> Result<Formed, Memo
     let means = Means::new(alloc, MOST_WORK)?;
     let formed = normal_form(&means, net.net(), 0)?;
     add_spent(nodes, MOST_WORK, &means);
+    Ok(formed)
+}
+
+/// The same with loops made one.
+fn looped(alloc: Global, net: &TypedNet, nodes: &mut u64) -> Result<Formed, Memory> {
+    let means = Means::new(alloc, MOST_LOOPING)?;
+    let formed = looped_form(&means, net.net(), 0)?;
+    add_spent(nodes, MOST_LOOPING, &means);
     Ok(formed)
 }
 
