@@ -4,8 +4,8 @@ import re
 from searching.families import families
 from searching.pairs import APART
 
-# The nodes that the searches may visit together where they find nothing: 10 million twice, 5 three times, 2, and 1 twice.
-MOST_VISITED = 39_000_000
+# The nodes that the searches may visit together where they find nothing: 10 million twice, 5 three times, 2 three times, and 1 four times.
+MOST_VISITED = 45_000_000
 # The shares of weights of 1,500 and of 5,000.
 SHARES = 0.3, 1
 # A number of a stage; not that of a parameter or of a frozen network.
