@@ -41,7 +41,7 @@ pub struct Options<'a> {
     pub weight: u64,
 }
 
-/// A network's code as C. `Memory` where a growth was refused.
+/// A network's code as C. `Memory` if allocation fails.
 pub fn print_c(alloc: Global, program: &Program, options: Options<'_>) -> Result<String, Memory>
     ensures { IfOk result (λ text. string_bytes text ≡ c_of program.now (options_in options.entry)) }
 {
