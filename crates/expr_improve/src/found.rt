@@ -12,7 +12,7 @@ use std::alloc::Global;
 pub struct Rewriting {
     /// The expression that the steps lead to.
     pub result: ExprChild,
-    /// The steps, in their order; positions are told from the expression's own root.
+    /// The steps, in their order; positions are counted from the expression's own root.
     pub steps: Vec<LawStep>,
 }
 
@@ -38,7 +38,11 @@ pub(crate) fn way_back(
 }
 
 /// What the steps lead to, as callers see it.
-pub(crate) fn told(alloc: Global, expr: ExprChild, steps: &[Step]) -> Result<Rewriting, Memory> {
+pub(crate) fn rewriting_by(
+    alloc: Global,
+    expr: ExprChild,
+    steps: &[Step],
+) -> Result<Rewriting, Memory> {
     let steps = law_steps(alloc, steps)?;
     Ok(Rewriting {
         result: expr,
@@ -54,7 +58,7 @@ pub(crate) fn rewriting_of(
     match found {
         Some(found) => {
             let Found { expr, steps } = found;
-            Ok(Some(told(alloc, expr, &steps)?))
+            Ok(Some(rewriting_by(alloc, expr, &steps)?))
         }
         None => Ok(None),
     }

@@ -1,7 +1,7 @@
 // An expression is rewritten from its parts to its root.
 
 use crate::carry::{carried, opened};
-use crate::found::{Rewriting, rewriting_of, told, way_back};
+use crate::found::{Rewriting, rewriting_by, rewriting_of, way_back};
 use crate::log::{Aim, Log, Step, with_part};
 use crate::push::{PUSH_DEPTH, pushed, settled};
 use crate::share::shared;
@@ -26,7 +26,7 @@ pub fn normal_expr(means: &Means, expr: &Expr) -> Result<Rewriting, Memory> {
 fn searched(means: &Means, expr: &Expr, aim: Aim) -> Result<Rewriting, Memory> {
     let mut log = Log::new(means, aim)?;
     let reached = improved(&mut log, expr, DEPTH)?;
-    told(means.alloc, reached, &log.into_steps()?)
+    rewriting_by(means.alloc, reached, &log.into_steps()?)
 }
 
 /// `(then f g)` and the steps to it from e, where f, carried into g, leads to e; where it leads to

@@ -122,7 +122,7 @@ impl Log {
         self.add(number, &[], Some(given));
     }
 
-    /// Adds the steps, which are told from where it is.
+    /// Adds the steps, whose positions are counted from where it is.
     pub(crate) fn add_all(&mut self, steps: &[Step]) {
         for step in steps {
             match given_of(step) {
@@ -206,11 +206,11 @@ pub(crate) fn answer(
 
 /// The steps as a certificate has them.
 pub(crate) fn law_steps(alloc: Global, steps: &[Step]) -> Result<Vec<LawStep>, Memory> {
-    let mut told = Vec::new(alloc);
+    let mut all = Vec::new(alloc);
     for step in steps {
-        told.push(law_step(alloc, step)?)?;
+        all.push(law_step(alloc, step)?)?;
     }
-    Ok(told)
+    Ok(all)
 }
 
 /// The step as a certificate has it.

@@ -1,6 +1,6 @@
 // The shapes that laws of networks want in an `arr`.
 
-use crate::found::{Rewriting, told};
+use crate::found::{Rewriting, rewriting_by};
 use crate::improve::as_then;
 use crate::log::{Aim, Log};
 use crate::tree::{beside_second, first_input, input, on_right, pair_of, put, second_input};
@@ -98,7 +98,7 @@ fn looked_at(
     match seen_at(&mut log, e, path, &look)? {
         Some(whole) => {
             let alloc = log.alloc;
-            Ok(Some(told(alloc, whole, &log.into_steps()?)?))
+            Ok(Some(rewriting_by(alloc, whole, &log.into_steps()?)?))
         }
         None => Ok(None),
     }

@@ -11,14 +11,14 @@ use sample_core::Memory;
 use std::alloc::Global;
 
 /// How many parts of an expression are compared.
-const MOST_PLACES: usize = 200;
+const MOST_PARTS: usize = 200;
 
 /// What a part costs at least that is shared.
 const LEAST_COST: u64 = 60;
 
 /// A part of an expression that stands at its own input.
 #[derive(Drop)]
-struct Place {
+struct CountedPart {
     /// The part.
     expr: ExprChild,
     /// How many expressions it is made of.
@@ -33,11 +33,11 @@ pub fn shared_at(means: &Means, e: &Expr) -> Result<Option<Rewriting>, Memory> {
     let alloc = means.alloc;
     let mut most = 0;
     let mut best = None;
-    let places = places_in(means, e)?;
-    for place in &places {
-        let dear = cost_of(place.expr.get()).saturating_mul(place.count);
-        if place.count > 1 && dear > most {
-            if let Some(found) = looked_through(means, e, &place.expr)? {
+    let parts = parts_in(means, e)?;
+    for counted in &parts {
+        let dear = cost_of(counted.expr.get()).saturating_mul(counted.count);
+        if counted.count > 1 && dear > most {
+            if let Some(found) = looked_through(means, e, &counted.expr)? {
                 most = dear;
                 best = Some(found);
             }
@@ -64,9 +64,9 @@ pub(crate) fn shared(log: &mut Log, e: ExprChild) -> Result<ExprChild, Memory> {
 fn cheapest_share(means: &Means, e: &Expr) -> Result<Option<Found>, Memory> {
     let mut least = cost_of(e);
     let mut best = None;
-    let places = places_in(means, e)?;
-    for place in &places {
-        if let Some(shared) = share_of(means, e, place)? {
+    let parts = parts_in(means, e)?;
+    for counted in &parts {
+        if let Some(shared) = share_of(means, e, counted)? {
             let cost = cost_of(shared.get());
             if cost < least {
                 least = cost;
@@ -81,12 +81,12 @@ fn cheapest_share(means: &Means, e: &Expr) -> Result<Option<Found>, Memory> {
 }
 
 /// `(then h e')` for the part, where it stands more than once and costs something.
-fn share_of(means: &Means, e: &Expr, place: &Place) -> Result<Option<ExprChild>, Memory> {
-    if place.count < 2 || !is_dear(means, place.expr.get()) {
+fn share_of(means: &Means, e: &Expr, counted: &CountedPart) -> Result<Option<ExprChild>, Memory> {
+    if counted.count < 2 || !is_dear(means, counted.expr.get()) {
         return Ok(None);
     }
-    match seen_through(means, e, place.expr.get())? {
-        Some(g) => Ok(Some(then_of(means.alloc, &place.expr, g.get())?)),
+    match seen_through(means, e, counted.expr.get())? {
+        Some(g) => Ok(Some(then_of(means.alloc, &counted.expr, g.get())?)),
         None => Ok(None),
     }
 }
@@ -105,40 +105,50 @@ fn back_to_share(means: &Means, e: &Expr, shared: &ExprChild) -> Result<Option<F
 }
 
 /// The parts of e that stand at its own input, but for paths and constants.
-fn places_in(means: &Means, e: &Expr) -> Result<Vec<Place>, Memory> {
-    let mut places = Vec::new(means.alloc);
-    add_places(means, &mut places, e, DEPTH)?;
-    Ok(places)
+fn parts_in(means: &Means, e: &Expr) -> Result<Vec<CountedPart>, Memory> {
+    let mut parts = Vec::new(means.alloc);
+    add_parts(means, &mut parts, e, DEPTH)?;
+    Ok(parts)
 }
 
 /// Adds these parts.
-fn add_places(means: &Means, places: &mut Vec<Place>, e: &Expr, depth: u32) -> Result<(), Memory> {
-    if depth == 0 || is_simple(e) || is_constant(e) || places.len() >= MOST_PLACES {
+fn add_parts(
+    means: &Means,
+    parts: &mut Vec<CountedPart>,
+    e: &Expr,
+    depth: u32,
+) -> Result<(), Memory> {
+    if depth == 0 || is_simple(e) || is_constant(e) || parts.len() >= MOST_PARTS {
         return Ok(());
     }
     let size = size_of(e);
     if !means.spend(size) {
         return Ok(());
     }
-    add_place(means.alloc, places, e, size)?;
+    add_part(means.alloc, parts, e, size)?;
     for k in 0..own_parts(e) {
         if let Some(inner) = part(e, k) {
-            add_places(means, places, inner, depth - 1)?;
+            add_parts(means, parts, inner, depth - 1)?;
         }
     }
     Ok(())
 }
 
 /// Adds one part, or counts it once more.
-fn add_place(alloc: Global, places: &mut Vec<Place>, e: &Expr, size: u64) -> Result<(), Memory> {
-    for place in places.iter_mut() {
-        if place.size == size && same_expr(place.expr.get(), e) {
-            place.count = place.count.saturating_add(1);
+fn add_part(
+    alloc: Global,
+    parts: &mut Vec<CountedPart>,
+    e: &Expr,
+    size: u64,
+) -> Result<(), Memory> {
+    for counted in parts.iter_mut() {
+        if counted.size == size && same_expr(counted.expr.get(), e) {
+            counted.count = counted.count.saturating_add(1);
             return Ok(());
         }
     }
     let expr = as_part(alloc, e)?;
-    places.push(Place {
+    parts.push(CountedPart {
         expr,
         size,
         count: 1,

@@ -1,4 +1,0 @@
-use Rattle.expr_improve.proofs.share.+add_places.Given as goal
-
-abbrev pub decreases-add_places : goal.decreases-add_places
-decreases-add_places l = l.depth
