@@ -1,7 +1,7 @@
-// Loaded before the C library: counts the growths that the program itself asks for, and refuses one of them.
+// Loaded before the C library: counts the allocations that the program itself asks for, and lets one of them fail.
 // REFUSE_GROWTH names it, counted from 1. A test of a crate (`refusing.rt` of `row_texts`) names it by asking for 2^50 bytes and that
 // many more, of which it gets one; it is then counted from there on.
-// When the program ends, how many were asked for and how many were refused is written to the file that COUNT_GROWTHS names.
+// When the program ends, how many were asked for and how many failed is written to the file that COUNT_GROWTHS names.
 #define _GNU_SOURCE
 #include <dlfcn.h>
 #include <errno.h>
