@@ -4,6 +4,7 @@
     docs/definitions.py NAME..      such as `docs/definitions.py meaning`; a part of a name lists the names that have it
     docs/definitions.py --check     lists names of docs/READING.md that no definition has
 """
+import os
 import re
 import sys
 from pathlib import Path
@@ -94,7 +95,9 @@ def main(words):
 
 if __name__ == "__main__":
     try:
-        sys.exit(main(sys.argv[1:]))
+        status = main(sys.argv[1:])
+        sys.stdout.flush()
     except BrokenPipeError:
-        sys.stderr.close()
-        sys.exit(1)
+        os.dup2(os.open(os.devnull, os.O_WRONLY), sys.stdout.fileno())
+        status = 1
+    sys.exit(status)

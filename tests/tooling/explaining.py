@@ -52,6 +52,8 @@ NETWORK_MISTAKES = [
     ("yampa 7\ninput Int\ntime", "behind yampa stands the version, 1 or 2\n|a file with names, which begins `yampa source 1`, is made one by `yampa expand`"),
     ("yampa source 1\ndef f (arr (not x))\ninput Int f", "net:2:17: not wants a Bool, but x is an Int\n|x here is an Int"),
     ("yampa source 1\nrecord R a:Int b:Bool\ninput R\n(arr (less 5 (b x)))", "net:4:14: less wants an Int, but (b x) is a Bool\n|x here is a R"),
+    ("yampa source 1 input Int identity\nguarantee safe (arr (len (snd x)))", "net:2:26: len wants a list, but (snd x) is an Int"),
+    ("yampa source 1 input Int identity\nassume right (arr (less 0 x))\nguarantee safe (arr (snd x))", "net:3:16: guarantee safe outputs Bool; this one outputs Int"),
     ("5\n+1 6\n", "this looks like a stream"),
     ("laws 1\n", "this is a certificate, and a network is wanted"),
     ("", "the file is empty"),

@@ -41,17 +41,19 @@ def read_all(end: int) -> bytes:
     return found
 
 
-def on_terminal(folder: Path, *words: str, printed: bool) -> tuple[int, bytes, bytes]:
-    """The status of a call that ends once it has told of its time, what its terminal shows, and what it prints elsewhere: the terminal
-    is standard error, and where `printed` standard output too."""
+def on_terminal(folder: Path, *words: str, printed: bool, soon: bool = False) -> tuple[int, bytes, bytes]:
+    """The status of a call that ends once it has told of its time, or soon, what its terminal shows, and what it prints elsewhere: the
+    terminal is standard error, and where `printed` standard output too."""
     ours, theirs = pty.openpty()
     out, into = os.pipe()
     (folder / "go").unlink(missing_ok=True)
+    if soon:
+        (folder / "go").write_text("")
     child = subprocess.Popen([folder / "yampa", *words], cwd=folder, stdin=subprocess.DEVNULL, stdout=theirs if printed else into, stderr=theirs)
     os.close(theirs)
     os.close(into)
     shown = b""
-    while not re.search(TOLD, shown):
+    while not soon and not re.search(TOLD, shown):
         shown += os.read(ours, 65_536)
     (folder / "go").write_text("")
     shown += read_all(ours)
@@ -66,6 +68,8 @@ def seconds_are_told(folder: Path) -> None:
         want(f"{words[0]} prints what it does", (status, elsewhere) == (0, b"" if printed else b"laws 1\n"), (status, elsewhere))
     status, shown, _ = on_terminal(folder, "certify", "refused", "net", printed=True)
     want("certify refused at a terminal", status == 1 and shown.endswith(b"\rlaws 1\r\ncertificate: none found\r\n"), shown)
+    status, shown, _ = on_terminal(folder, "certify", "net", "net", printed=True, soon=True)
+    want("certify soon at a terminal", status == 0 and re.fullmatch(rb"((%b)+\r +\r)?laws 1\r\n" % TOLD, shown), shown)
 
 
 def nothing_is_told_elsewhere(folder: Path) -> None:

@@ -8,7 +8,9 @@ from workbench.ending import REFUSED, UNREADABLE, Refused, Words, read, stream_b
 from workbench.faults import Files, explained, unread
 from workbench.foreseeing import foresee
 from workbench.origin import InNames
+from workbench.outline import read_type
 from workbench.program import again, call, is_trial
+from workbench.properties import first_fault
 from workbench.telling import Told, told_of
 
 ABOUT = """Runs the program on the files, and explains the error that it prints, if any.
@@ -39,6 +41,14 @@ def fault_of(files: Files, stream) -> str:
     return call(["run", files.paths["network"]], stream[1]).line()
 
 
+def property_fault(files: Files, stream) -> str:
+    """Why the program doesn't take what a file with names says of its network, which it takes, or nothing."""
+    if stream is not None or "network" not in files.paths or not files.program("network").has_names:
+        return ""
+    types = call(["types", files.paths["network"]]).output.decode()
+    return first_fault(files.program("network"), read_type(types.partition("\n")[0].split(" -> ")[1]))
+
+
 def main():
     words = Words("explain", ABOUT)
     words.add_argument("--line", help="the error line")
@@ -50,11 +60,12 @@ def main():
     files = Files(names, {role: path_of(name) for role, name in names.items()})
     stream = (stream_name, stream_bytes(path_of(stream_name, stream_bytes))) if stream_name else None
     if is_trial():
-        foresee(lambda: explained(given.line or fault_of(files, stream), files, stream))
+        foresee(lambda: (explained(given.line or fault_of(files, stream), files, stream), property_fault(files, stream)))
     line = given.line or fault_of(files, stream)
     if not line:
-        print("nothing is refused")
-        return
+        fault = property_fault(files, stream)
+        print(fault or "nothing is refused")
+        sys.exit(REFUSED if fault else 0)
     print(line)
     tell(explained(line, files, stream))
 
