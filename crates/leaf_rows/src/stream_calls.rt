@@ -53,7 +53,7 @@ pub fn scant_calls_told(alloc: Global, given: &str, out: &mut String) {
 }
 
 fn scant_told(alloc: Global, ty: &Ty, stream: &str, out: &mut String) {
-    // Room for what is told, so that it isn't refused.
+    // Room for what is told, so that saying it doesn't allocate.
     say(out, "five answers, and what stands between them");
     out.clear();
     match LineReader::new(
@@ -134,7 +134,7 @@ Int | 5  => value 1;ended;ended;ended;ended;
 
 /// What the calls of a reader of lines answer with no memory left.
 static SCANT_CALLS: &str = "
-§ Numbers are answered where no growth is granted.
+§ Numbers are answered where every allocation fails.
 Int | 5␤+1 6␤+1 7 => + 0 5;+ 1 6;+ 1 7;end;end;
 Int | 5␤+1 6␤+0 7 => + 0 5;+ 1 6;step 3;ended;ended;
 ";

@@ -127,7 +127,7 @@ impl LeafTable {
 
     /// What the row's closure answers to the parameters' values, parameter 0 first, and the input
     /// `x`. At arguments of its key's types that is the value of its key's expression. The row must
-    /// be there. `Memory` if the closure was refused an allocation.
+    /// be there. `Memory` if an allocation of the closure fails.
     pub fn call(&self, id: LeafId, params: &[Sample], x: &Sample) -> Result<Sample, Memory>
         requires { id.0 < length (rows_of self.now) }
         ensures { IfOk result (λ v. (key : KeyTree) → slice_get (rows_of self.now) id.0 ≡ Some key →

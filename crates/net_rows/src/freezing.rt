@@ -188,7 +188,7 @@ fn answer_told(frozen: &Result<Frozen<'_>, Memory>, out: &mut String) {
 
 /// States by their names, and what they are frozen to.
 static STATES: &str = "
-§ States of a full delay and of 64 members, frozen without any growth.
+§ States of a full delay and of 64 members, frozen without an allocation.
 a delay => no room, paused with step 3
 64 members => no room, paused with step 3
 ";

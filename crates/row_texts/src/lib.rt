@@ -1,5 +1,5 @@
 //! What the tests of several crates share: texts in short forms, and what is said of what is found;
-//! readers and writers that fail, memory that is taken, and growths that are refused.
+//! readers and writers that fail, memory that is taken, and allocations that fail.
 //!
 //!     first_wrong(alloc, "5 => 6", &told) == "5: wanted 6, found 7"
 //!

@@ -8,18 +8,18 @@ use std::alloc::Global;
 use std::io::Read;
 use std::{io, mem};
 
-/// From when on memory is refused, and how: see `refuse`.
+/// From when on allocation fails, and how: see `refuse`.
 #[derive(Clone, Copy)]
 pub struct Shortage {
     /// The read from which on it is, counted from 1; 0 where it is before the first one.
     pub at_read: usize,
-    /// The growth that is refused.
+    /// The allocation that fails.
     pub number: usize,
     /// The bytes that are left.
     pub spare: usize,
 }
 
-/// Gives its bytes one at a time, and has memory refused from some read on.
+/// Gives its bytes one at a time, and has allocation fail from some read on.
 #[derive(Drop)]
 pub struct Scarce<'a> {
     alloc: Global,
@@ -30,7 +30,7 @@ pub struct Scarce<'a> {
 }
 
 impl<'a> Scarce<'a> {
-    /// Gives the bytes, and has memory refused at its turn.
+    /// Gives the bytes, and has allocation fail at its turn.
     pub fn new(alloc: Global, bytes: &'a [u8], shortage: Shortage) -> Scarce<'a> {
         let mut reader = Scarce {
             alloc,
@@ -43,7 +43,7 @@ impl<'a> Scarce<'a> {
         reader
     }
 
-    /// Has memory refused where it is the turn of this read.
+    /// Has allocation fail where it is the turn of this read.
     fn refuse_at_turn(&mut self) {
         if self.reads == self.shortage.at_read {
             let taken = refuse(self.alloc, self.shortage.number, self.shortage.spare);
@@ -71,8 +71,8 @@ pub enum Ending {
     Other,
 }
 
-/// Tries with memory that is short at each read in turn, and at each with a later growth refused, or
-/// with more bytes left, until one ends as with ample memory.
+/// Tries with memory that is short at each read in turn, and at each with a later allocation that
+/// fails, or with more bytes left, until one ends as with ample memory.
 #[derive(Clone, Copy)]
 pub struct Tries {
     last_read: usize,
@@ -126,8 +126,7 @@ impl Tries {
         self.next.spare = more_than(self.next.spare);
     }
 
-    /// Says whether tries were refused memory, whether also behind lines, and whether each ended as
-    /// it may.
+    /// Says whether tries lacked memory, whether also behind lines, and whether each ended as it may.
     pub fn tell(&self, out: &mut String) {
         let goes_on = self.next().is_some();
         match (self.other || goes_on, self.refused, self.behind_lines) {

@@ -14,8 +14,8 @@ use std::alloc::Global;
 use step_core::Bound;
 
 /// Says what the network answers to each sample of the stream, and how many nodes that visits,
-/// where each is pushed again after each refusal, with a later growth refused or a little more
-/// memory left; and whether any push was refused, or one that was changed what is told of the
+/// where each is pushed again after each failure, with a later allocation that fails or a little
+/// more memory left; and whether any push failed, or one that did changed what is told of the
 /// samples before.
 pub fn scant_stream_told(
     alloc: Global,

@@ -53,7 +53,7 @@ impl Model for Pending {
 }
 
 impl Pending {
-    /// No bytes, and all the room. `Memory` if it is refused.
+    /// No bytes, and all the room. `Memory` if allocation fails.
     pub fn new(alloc: Global) -> Result<Pending, Memory>
         ensures { IfOk result (λ k. k ≡ []) }
     {

@@ -11,7 +11,8 @@
 //! makes the table.
 //!
 //! First `specs/Output` and `Headline`, then `src/stream_run.rt`, `src/preparation.rt`. A command is
-//! in the file of its name, in `src` and in `specs`.
+//! in the file of its name, but `run` in `load`, `network_run` and `stream_run`, and `outline` in
+//! `network_commands`; so too in `specs`, where `optimise` and `improve` are in `NetworkCommands`.
 #![tactic(auto)]
 
 mod apply;
