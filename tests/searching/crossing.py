@@ -4,8 +4,8 @@ import re
 from searching.families import families
 from searching.pairs import APART
 
-# The nodes that the searches may visit together where they find nothing: 10 million twice, 5 three times, 2 three times, and 1 four times.
-MOST_VISITED = 45_000_000
+# The nodes that the searches may visit together where they find nothing: the dearest of these takes 34 million, and 45 are all budgets.
+MOST_VISITED = 40_000_000
 # The shares of weights of 1,500 and of 5,000.
 SHARES = 0.3, 1
 # A number of a stage; not that of a parameter or of a frozen network.
@@ -62,7 +62,7 @@ def crossed_ends(caller, first, second, stream):
     faults = [fault] if fault else []
     if types[0] != types[1] or outputs[0] == outputs[1] or any(status or error for status, _, error in outputs):
         faults.append("wanted: two networks of the same types that output different values")
-    visited = re.fullmatch(r"gave up: (\d+) nodes visited", str(found))
+    visited = re.search(r", (\d+) nodes visited$", str(found))
     if not str(found).startswith(APART) or visited and int(visited[1]) > MOST_VISITED:
         faults.append(f"wanted: {' or '.join(APART)}, at most {MOST_VISITED} nodes visited")
     return faults, str(found)
