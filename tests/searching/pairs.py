@@ -44,7 +44,7 @@ def networks():
     yield "doubled 12 times and 16 times as much", doubled, arr("(mul x 16)"), APART
     staged = [arr("(if (less x 9) x (add x 1))")] * 14
     other = [*staged[:3], arr("(if (less x 9) x (add x 7))"), *staged[4:]]
-    yield "14 stages of ifs, one of another number", to_the_right(staged), to_the_right(other), ("(at", "gave up: (at 1 1 1 0 0 2 1), ")
+    yield "14 stages of ifs, one of another number", to_the_right(staged), to_the_right(other), ("gave up: (at 1 1 1 0 0 2 1), ",)
     yield from looped()
     for name, net in hostile().items():
         yield f"{name}, and time", net, "time", APART
