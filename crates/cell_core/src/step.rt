@@ -111,7 +111,7 @@ fn i_pre_of_any(
 }
 
 /// A `hold` keeps the value of the latest event and answers it.
-#[inline(never)]
+#[inline(always)]
 pub(crate) fn hold(
     alloc: Global,
     kept: &Sample,
@@ -128,7 +128,7 @@ pub(crate) fn hold(
 }
 
 /// An `accumBy` keeps an event's value and answers the event.
-#[inline(never)]
+#[inline(always)]
 pub(crate) fn accum_by(
     alloc: Global,
     kept: &Sample,
@@ -163,7 +163,7 @@ fn put_no_event(out: &mut Sample)
 }
 
 /// An `after`: its event comes where it isn't past, and no more than dt is left.
-#[inline(never)]
+#[inline(always)]
 pub(crate) fn after(
     left: u64,
     value: &SampleChild,
@@ -201,7 +201,7 @@ fn put_after(left: u64, value: &SampleChild, place: &mut Cell) -> Result<(), Mem
 }
 
 /// A `repeatedly`: its event comes where no more than dt is left to a multiple.
-#[inline(never)]
+#[inline(always)]
 pub(crate) fn repeatedly(
     left: u64,
     recurring: &Rc<Recurring>,

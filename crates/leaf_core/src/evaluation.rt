@@ -499,7 +499,33 @@ fn far_number(scope: &Scope<'_>, child: &ExprChild) -> Result<i64, Memory>
             Some(value) => Ok(number(part(form, value))),
             None => look_number(scope, child),
         },
+        Expr::Nth(e, i, d) => nth_number(scope, e, i, d),
         _ => look_number(scope, child),
+    }
+}
+
+/// The number that an element of a list is, which is only looked at.
+#[cycle(eval)]
+#[inline(never)]
+fn nth_number(
+    scope: &Scope<'_>,
+    list: &ExprChild,
+    i: &ExprChild,
+    d: &ExprChild,
+) -> Result<i64, Memory>
+    ensures { IfOk result (λ n. n ≡ int_of (element_at (value_in list.now scope.now)
+        (int_of (value_in i.now scope.now)) (value_in d.now scope.now))) }
+{
+    let at = eval_number(scope, i)?;
+    let all = look(scope, list)?;
+    let found = match element(all.get(), at) {
+        Some(found) => Some(number(found)),
+        None => None,
+    };
+    drop(all);
+    match found {
+        Some(n) => Ok(n),
+        None => eval_number(scope, d),
     }
 }
 

@@ -61,6 +61,16 @@ pub fn push_word(text: &mut String, word: &str) -> Result<(), Memory>
     Ok(())
 }
 
+/// Adds a sign of ASCII to the end of the text.
+#[inline(never)]
+fn push_sign(text: &mut String, sign: u8) -> Result<(), Memory>
+    requires { sign < 128 }
+    ensures { Adds result (string_bytes text.old) (string_bytes text.new) (sign ∷ []) }
+{
+    text.push(char::from(sign))?;
+    Ok(())
+}
+
 /// Adds a number to the end of the text: one below 100, as most are, without a call for its digits.
 #[inline(always)]
 fn push_number(text: &mut String, n: i64) -> Result<(), Memory>
@@ -152,7 +162,7 @@ fn push_last(text: &mut String, word: &str, v: &Sample) -> Result<(), Memory>
 {
     push_word(text, word)?;
     push_part(text, v)?;
-    push_word(text, ")")
+    push_sign(text, b')')
 }
 
 /// A list.
@@ -165,7 +175,7 @@ fn push_list(text: &mut String, all: &Samples) -> Result<(), Memory>
     for v in all.as_slice() {
         push_next(text, v)?;
     }
-    push_word(text, ")")
+    push_sign(text, b')')
 }
 
 /// A value behind a space.
@@ -175,7 +185,7 @@ fn push_next(text: &mut String, v: &Sample) -> Result<(), Memory>
     ensures { Adds result (string_bytes text.old) (string_bytes text.new)
         (codes " " ++ spelling (datum_of v.now)) }
 {
-    push_word(text, " ")?;
+    push_sign(text, b' ')?;
     push_part(text, v)
 }
 

@@ -21,6 +21,9 @@ decreases-eval_on l = 16 * (nodes_in l.e.now + nodes_in l.d.now + nodes_in l.b.n
 abbrev pub decreases-eval_nth : goal.decreases-eval_nth
 decreases-eval_nth l = 16 * (nodes_in l.e.now + nodes_in l.i.now + nodes_in l.d.now) + 8
 
+abbrev pub decreases-nth_number : goal.decreases-nth_number
+decreases-nth_number l = 16 * (nodes_in l.list.now + nodes_in l.i.now + nodes_in l.d.now) + 8
+
 abbrev pub decreases-eval_pair : goal.decreases-eval_pair
 decreases-eval_pair l = 16 * (nodes_in l.a.now + nodes_in l.b.now) + 4
 
