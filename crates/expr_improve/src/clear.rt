@@ -2,8 +2,8 @@
 
 use crate::log::{Aim, Log, with_part};
 use crate::order::is_after;
-use crate::terms::{is_literal, ordered, wants_order};
-use crate::weight::DEPTH;
+use crate::terms::{MOST_ORDERED, is_literal, ordered, wants_order};
+use crate::weight::extent_of;
 use leaf_core::{Expr, ExprChild, same_expr};
 use sample_core::Memory;
 
@@ -17,7 +17,7 @@ pub(crate) fn cleared(log: &mut Log, e: ExprChild) -> Result<ExprChild, Memory> 
         }
     }
     match e.get() {
-        Expr::Sub(..) if log.aim == Aim::Normal => summed(log, e),
+        Expr::Sub(..) if log.aim == Aim::Normal && may_be_sum(log, e.get()) => summed(log, e),
         Expr::And(..) | Expr::Or(..) => decided(log, 23, e),
         Expr::Equal(..) => decided(log, 26, e),
         _ => in_order(log, e),
@@ -49,9 +49,22 @@ fn laws_of(e: &Expr) -> &'static [u8] {
 /// The expression; a sum or product with its terms in order, where that is aimed at.
 fn in_order(log: &mut Log, e: ExprChild) -> Result<ExprChild, Memory> {
     match wants_order(log, e.get()) {
-        Some(operator) => ordered(log, operator, e, DEPTH),
+        Some(operator) => ordered(log, operator, e, MOST_ORDERED),
         None => Ok(e),
     }
+}
+
+/// The greatest height of a difference that becomes a sum: each one in it makes the sum higher by one.
+const MOST_DIFFERENCE: u32 = 100;
+
+/// Whether the difference is low enough to become a sum.
+fn may_be_sum(log: &Log, e: &Expr) -> bool {
+    let extent = extent_of(e);
+    let is_low = extent.height <= MOST_DIFFERENCE;
+    if !is_low {
+        log.means.cut();
+    }
+    log.spend(extent.size) && is_low
 }
 
 /// The difference as a sum, its terms in order.

@@ -17,7 +17,7 @@ pub fn improve_expr(means: &Means, expr: &Expr) -> Result<Rewriting, Memory> {
 }
 
 /// The expression's normal form, and the steps to it: each `then` carried inwards, differences as
-/// sums, and what has no order in order. `Memory` if allocation fails.
+/// sums, and what may stand in any order in one. `Memory` if allocation fails.
 pub fn normal_expr(means: &Means, expr: &Expr) -> Result<Rewriting, Memory> {
     searched(means, expr, Aim::Normal)
 }

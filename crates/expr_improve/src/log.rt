@@ -90,11 +90,12 @@ impl Log {
 
     /// Takes off so many nodes, and returns whether it may go on.
     pub(crate) fn spend(&self, nodes: u64) -> bool {
+        let goes_on = self.means.spend(nodes);
         if self.steps.len() >= MOST_STEPS {
             self.means.cut();
             return false;
         }
-        self.means.spend(nodes)
+        goes_on
     }
 
     /// Takes off a node for each number of the path to where it is, and so many more.

@@ -1,4 +1,4 @@
-// An order of expressions, for what has none.
+// An order of expressions, for terms and parts that may stand in any.
 
 use crate::log::Aim;
 use crate::weight::{DEPTH, part_count};

@@ -7,7 +7,7 @@ use leaf_core::{Expr, ExprChild};
 use sample_core::Memory;
 use std::alloc::Global;
 
-/// What has no order, and may be nested either way.
+/// `add` or `mul`, whose terms may stand in any order and be nested either way.
 #[derive(Clone, Copy)]
 pub(crate) enum Operator {
     /// `add`.
@@ -33,7 +33,7 @@ impl Operator {
         }
     }
 
-    /// Of two terms.
+    /// `(add a b)` or `(mul a b)`.
     fn of_two(self, alloc: Global, a: &ExprChild, b: &ExprChild) -> Result<ExprChild, Memory> {
         let a = a.try_copy()?;
         let b = b.try_copy()?;
@@ -120,6 +120,9 @@ fn literals_in(operator: Operator, e: &Expr) -> u32 {
 pub(crate) fn is_literal(e: &Expr) -> bool {
     matches!(e, Expr::Literal(_))
 }
+
+/// How deep terms are put in order: three levels for each that fits, and more.
+pub(crate) const MOST_ORDERED: u32 = 4 * MOST_NESTED;
 
 /// The sum or product with its terms nested to the right and in order.
 pub(crate) fn ordered(

@@ -12,7 +12,7 @@ pub struct Means {
     /// Where it allocates.
     pub alloc: Global,
     left: Rc<Cell<u64>>,
-    /// Whether something was left as it is, since what comes of it could be too large.
+    /// Whether something was left as it is: what comes of it could be too large, or too many steps.
     cut: Rc<Cell<bool>>,
 }
 
@@ -39,7 +39,7 @@ impl Means {
         left > 0
     }
 
-    /// Notes that something was left as it is, since what comes of it could be too large.
+    /// Notes that something was left as it is: what comes of it could be too large, or too many steps.
     pub fn cut(&self) {
         self.cut.set(true);
     }

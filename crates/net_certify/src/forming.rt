@@ -18,7 +18,7 @@ const MOST_MOVES: u32 = 1_500;
 /// The most tasks of a search.
 const MOST_TASKS: u32 = 1_000_000;
 
-/// The most children of a network that are formed: of one with more nothing is told as its normal form.
+/// The most children of a network that are formed: of one with so many nothing is told as its normal form.
 const MOST_CHILDREN: u32 = 100;
 
 /// What is still to be done.

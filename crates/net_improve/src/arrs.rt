@@ -18,6 +18,7 @@ impl Sketch {
         if expr_fits(found.result.get()) {
             self.rewrite(path, found)
         } else {
+            self.means.cut();
             Err(NoMove::Unfit)
         }
     }

@@ -2,7 +2,7 @@
 
 use crate::build::{copied, first, seq};
 use crate::cost::MOST_DEPTH;
-use crate::sketch::{NoMove, Sketch};
+use crate::sketch::{NoMove, Sketch, depth_of};
 use leaf_core::Expr;
 use net_syntax::child;
 use net_tree::{Net, NetChild, TreeRef};
@@ -160,8 +160,19 @@ fn before_chain(chain: &Net<Expr>) -> Option<usize> {
 }
 
 impl Sketch {
-    /// Nests the chain at the path to the right, by L3.
+    /// Whether the chain at the path is nested to the right, or stays low enough when it is.
+    pub(crate) fn may_flatten(&self, path: &[u32]) -> Result<bool, NoMove> {
+        let chain = self.net_at(path)?;
+        let height = stages_of(chain).height();
+        Ok(is_flat(chain) || height.saturating_add(depth_of(path)) <= self.room)
+    }
+
+    /// Nests the chain at the path to the right, by L3; not where it would be too high.
     pub fn flatten(&mut self, path: &[u32]) -> Result<(), NoMove> {
+        if !self.may_flatten(path)? {
+            self.means.cut();
+            return Err(NoMove::Unfit);
+        }
         let mut way = path.to_vec(self.alloc)?;
         for _ in 0..MOST_STAGES {
             let Some(stages) = before_chain(self.net_at(&way)?) else {

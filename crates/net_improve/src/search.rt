@@ -1,6 +1,6 @@
 // The search: each network's parts, then the chain that it is.
 
-use crate::chain::{MOST_CHILDREN, is_flat, length, stage_way, stages_of};
+use crate::chain::{MOST_CHILDREN, length, stage_way};
 use crate::settle::{Search, settle};
 use crate::sketch::{NoMove, Sketch};
 use net_syntax::child;
@@ -21,21 +21,16 @@ pub(crate) fn improve_net(
     depth: u32,
     tries: &mut u32,
 ) -> Result<(), NoMove> {
+    let is_low = sketch.may_flatten(&[])?;
     match sketch.net.get() {
-        Net::Seq(..) if may_flatten(sketch) => improve_stages(sketch, depth, tries)?,
+        Net::Seq(..) if is_low => improve_stages(sketch, depth, tries)?,
         _ => improve_children(sketch, depth, tries)?,
     }
-    if !may_flatten(sketch) {
+    if !sketch.may_flatten(&[])? {
         return Ok(());
     }
     let depth = MOST_BUILT;
     settle(sketch, Search { in_loop, depth }, tries)
-}
-
-/// Whether the network's stages may be nested to the right: they are, or it stays low enough.
-fn may_flatten(sketch: &Sketch) -> bool {
-    let net = sketch.net.get();
-    is_flat(net) || stages_of(net).height() <= sketch.room
 }
 
 /// Improves the stages of the chain, from the last to the first.

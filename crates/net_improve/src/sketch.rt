@@ -314,7 +314,7 @@ impl Sketch {
 }
 
 /// How many numbers the path has.
-fn depth_of(path: &[u32]) -> u32 {
+pub(crate) fn depth_of(path: &[u32]) -> u32 {
     u32::try_from(path.len()).unwrap_or(MOST_HEIGHT)
 }
 
