@@ -24,8 +24,20 @@ from model.trees import (
 FILE_BYTES = 1_048_576
 LINE_BYTES = 65_536
 OPEN = 600
-LAWS = [f"E{k}" for k in range(1, 27)] + [f"L{k}" for k in range(1, 52)]
-LAWS_SINCE = {"2": ["L43", "L44", "L45", "L46"], "3": [f"E{k}" for k in range(19, 27)] + [f"L{k}" for k in range(47, 52)]}
+# The greatest numbers of the laws of each version.
+LAST_LAWS = {"1": {"E": 18, "L": 42}, "2": {"E": 18, "L": 46}, "3": {"E": 26, "L": 51}}
+
+
+def laws_of(version):
+    """The laws of a version."""
+    return [f"{kind}{k}" for kind, last in LAST_LAWS[version].items() for k in range(1, last + 1)]
+
+
+LAWS = laws_of("3")
+LAWS_SINCE = {
+    "2": [law for law in laws_of("2") if law not in laws_of("1")],
+    "3": [law for law in LAWS if law not in laws_of("2")],
+}
 NEW_LAWS = [*LAWS_SINCE["2"], *LAWS_SINCE["3"]]
 
 

@@ -1,7 +1,7 @@
 """Reads the text of one network or certificate strictly from the left; the first word that doesn't fit is explained."""
 import re
 
-from model.texts import LAWS, LAWS_SINCE, OPEN, SORTS, VERSIONS
+from model.texts import LAST_LAWS, LAWS, LAWS_SINCE, OPEN, SORTS, VERSIONS
 from model.trees import EXPRESSION_WORDS, NETWORK_SUGAR_WORDS, NETWORK_WORDS, NUMBERS
 from workbench.written import Node, SyntaxFault, near, place, tokens_of
 
@@ -281,7 +281,8 @@ class Reader:
         if token.text in self.missing:
             version = next(version for version, laws in LAWS_SINCE.items() if token.text in laws)
             return SyntaxFault(token.at, f"{token.text} is a law of version {version}", f"write `laws {version}` in the first line", length=len(token.text))
-        return SyntaxFault(token.at, f"unknown law {token.text}", "laws are E1 to E26 and L1 to L51", length=len(token.text))
+        ranges = " and ".join(f"{kind}1 to {kind}{last}" for kind, last in LAST_LAWS["3"].items())
+        return SyntaxFault(token.at, f"unknown law {token.text}", f"laws are {ranges}", length=len(token.text))
 
     def word(self, word, mend):
         token = self.take(f"the word {word}")

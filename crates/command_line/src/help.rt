@@ -282,9 +282,9 @@ output the same on every stream. If it finds none, both may still output the sam
   (at 0)                               the first position at which their normal forms differ,
   - (mul x 2)                          what SRC's has there, and what TGT's has;
   + (add x x)
-  too long: 10120 steps, 902115 bytes  that there are steps, too many for a certificate or a file;
-  gave up: 15000000 nodes visited      or that it came to no normal form, then the first position
-                                       at which SRC and TGT differ, and what they have there.
+  too long: 10120 steps, 902115 bytes  that there are steps, but over a certificate's limits;
+  gave up: 15000000 nodes visited      or that it found no steps to a normal form, then the first
+                                       position at which SRC and TGT differ, and what they have there.
 
 Long trees are cut as by `yampa laws`.
 

@@ -35,7 +35,7 @@ word_bytes [] e = absurd (cc)
 word_bytes (b ∷ w) e = e
 
 -- the number of a law
-law_number : (most n : ℕ) → n ≤ 51 → 1 ≤ n → n ≤ most → read_word (natural_at 1 most (decimal n)) ≡ Some n
+law_number : (most n : ℕ) → n ≤ MOST_INDEX → 1 ≤ n → n ≤ most → read_word (natural_at 1 most (decimal n)) ≡ Some n
 law_number most n m l h = ap read_word (natural_spelled 1 most n l h (omega arith))
 
 number_plain : (n : ℕ) → n ≤ MOST_INDEX → all_word_bytes (decimal n) ≡ true
@@ -62,24 +62,24 @@ up_to v most n d a = go (nat_lt most n) refl a
     go true p a = absurd (d (a refl))
     go false p a = ltb-false most n p
 
-law_within : (v : Version) (n : ℕ) → n ≤ 51 → Allows v (nat_lt 42 n) → AllowsThird v (nat_lt 46 n) → n ≤ last_law v
+law_within : (v : Version) (n : ℕ) → n ≤ last_law version_3 → Allows v (nat_lt (last_law version_1) n) → AllowsThird v (nat_lt (last_law version_2) n) → n ≤ last_law v
 law_within version_3 n h a b = h
-law_within version_2 n h a b = up_to version_2 46 n (λ e. cc) b
-law_within version_1 n h a b = go (nat_lt 42 n) refl a
+law_within version_2 n h a b = up_to version_2 (last_law version_2) n (λ e. cc) b
+law_within version_1 n h a b = go (nat_lt (last_law version_1) n) refl a
   where
-    go : (new : Bool) → nat_lt 42 n ≡ new → Allows version_1 new → n ≤ 42
+    go : (new : Bool) → nat_lt (last_law version_1) n ≡ new → Allows version_1 new → n ≤ last_law version_1
     go true p a = absurd (a refl refl)
-    go false p a = ltb-false 42 n p
+    go false p a = ltb-false (last_law version_1) n p
 
-leaf_within : (v : Version) (n : ℕ) → n ≤ 26 → AllowsThird v (nat_lt 18 n) → n ≤ last_leaf_law v
+leaf_within : (v : Version) (n : ℕ) → n ≤ last_leaf_law version_3 → AllowsThird v (nat_lt (last_leaf_law version_2) n) → n ≤ last_leaf_law v
 leaf_within version_3 n h b = h
-leaf_within version_2 n h b = up_to version_2 18 n (λ e. cc) b
-leaf_within version_1 n h b = up_to version_1 18 n (λ e. cc) b
+leaf_within version_2 n h b = up_to version_2 (last_leaf_law version_2) n (λ e. cc) b
+leaf_within version_1 n h b = up_to version_1 (last_leaf_law version_1) n (λ e. cc) b
 
 law_means : (v : Version) (law : Law) → IsLaw law → Allows v (is_new_law law) → AllowsThird v (is_third_law law) → meant (step_parts v) law_sort (atom (law_spelling law)) ≡ Some law
 unfolding step_word_at
 law_means v (Law.E n) h a b = ap (λ o. read_word (fit (option_map Law.E o))) (law_number (last_leaf_law v) n (omega (arith, h.1)) h.0 (leaf_within v n h.1 b))
-law_means v (Law.L n) h a b = ap (λ o. read_word (fit (option_map Law.L o))) (law_number (last_law v) n h.1 h.0 (law_within v n h.1 a b))
+law_means v (Law.L n) h a b = ap (λ o. read_word (fit (option_map Law.L o))) (law_number (last_law v) n (omega (arith, h.1)) h.0 (law_within v n h.1 a b))
 
 law_plain : (law : Law) → IsLaw law → is_word (law_spelling law) ≡ true
 law_plain (Law.E n) h = number_plain n (omega (arith, h.1))

@@ -120,7 +120,7 @@ fn law_named(word: &[u8], version: Version) -> Option<Law>
 }
 
 /// The last law of expressions of the version.
-fn last_leaf_law(version: Version) -> u8
+pub(crate) fn last_leaf_law(version: Version) -> u8
     ensures { result ≡ grammar.last_leaf_law (version_of version) }
 {
     match version {
@@ -130,7 +130,7 @@ fn last_leaf_law(version: Version) -> u8
 }
 
 /// The last law of networks of the version.
-fn last_law(version: Version) -> u8
+pub(crate) fn last_law(version: Version) -> u8
     ensures { result ≡ grammar.last_law (version_of version) }
 {
     match version {

@@ -9,8 +9,10 @@ ghost use Rattle.net_text.specs.CertificatePrinting.{law_spelling, direction_spe
 ghost use Rattle.net_text.specs.Printing.{version_word};
 ghost use Rattle.net_text.specs.CertificatePrinting as printing;
 
+use crate::certificate_reader::{last_law, last_leaf_law};
 use crate::new_forms::{is_new, version_word};
 use crate::print::{push_net, push_next, push_next_expr};
+use crate::text::Version;
 use itoa::Buffer;
 use leaf_expr::push_expr;
 use net_tree::{Direction, Law, LawStep, Tree, push_position};
@@ -76,8 +78,8 @@ fn is_third_law(law: Law) -> bool
     ensures { result ≡ printing.is_third_law law }
 {
     match law {
-        Law::E(number) => number > 18,
-        Law::L(number) => number > 46,
+        Law::E(number) => number > last_leaf_law(Version::Two),
+        Law::L(number) => number > last_law(Version::Two),
     }
 }
 
@@ -99,7 +101,7 @@ fn is_new_law(law: Law) -> bool
 {
     match law {
         Law::E(_) => false,
-        Law::L(number) => number > 42,
+        Law::L(number) => number > last_law(Version::One),
     }
 }
 
