@@ -7,7 +7,7 @@ use Rattle.leaf_core.specs.Expression.{Expression}
 use Rattle.leaf_core.specs.ExpressionValue.{value_of}
 use Rattle.leaf_core.specs.ExpressionTyping.{ExpressionTyped}
 use Rattle.expr_laws.specs.Rows.{ExpressionRow}
-use Rattle.expr_laws.specs.declared.table.TheConstants.{LAST_LAW}
+use Rattle.net_tree.specs.declared.law_step.TheConstants.{LAST_EXPRESSION_LAW}
 
 -- where a row's left side is typed, both sides have one value at all parameters and inputs of those
 -- types
@@ -28,4 +28,4 @@ OneRightSideLaw = (n : ℕ) (l r s : Expression) → ExpressionRow n l r → Exp
 -- there is a row of a number exactly from 1 to the last law's
 abbrev pub RowNumbersLaw : Type 0
 RowNumbersLaw = (n : ℕ)
-    → ((l : Expression) × (r : Expression) × ExpressionRow n l r) ↔ ((1 ≤ n) × (n ≤ LAST_LAW))
+    → ((l : Expression) × (r : Expression) × ExpressionRow n l r) ↔ ((1 ≤ n) × (n ≤ LAST_EXPRESSION_LAW))

@@ -4,7 +4,7 @@ ghost use Rattle.expr_laws.specs.Answer.{AnswerValueLaw, OneAnswerLaw};
 ghost use Rattle.expr_laws.specs.Laws.{OneRightSideLaw, RowNumbersLaw, RowTypeLaw, RowValueLaw};
 
 /// Each row keeps the value and the type of a typed left side; a left side determines its right
-/// side; the laws are numbered from 1 to `LAST_LAW`.
+/// side; the laws are numbered from 1 to `LAST_EXPRESSION_LAW`.
 pub fn row_laws()
     ensures values { RowValueLaw }
     ensures types { RowTypeLaw }

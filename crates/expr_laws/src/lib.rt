@@ -1,4 +1,4 @@
-//! The laws of expressions, E1 to E26: what each makes of an expression, forward and backward, and
+//! The laws of expressions: what each makes of an expression, forward and backward, and
 //! that it keeps the expression's value and type.
 //!
 //!     let right = apply_expr(alloc, law, Direction::Forward, &expr, None)?;
@@ -23,4 +23,3 @@ mod turn;
 
 pub use apply::apply_expr;
 pub use laws::{answer_laws, row_laws};
-pub use table::LAST_LAW;

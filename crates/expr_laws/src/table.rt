@@ -8,6 +8,7 @@ use law_patterns::{
     ADD, EVENT, F, FALSE, FST, G, H, I, IF, LawLine, MUL, NEG, NONE, NOT, ON, PAIR, SND, SUB, Sym,
     THEN, TRUE, X,
 };
+use net_tree::LAST_EXPRESSION_LAW;
 
 /// What a law is.
 #[derive(Clone, Copy)]
@@ -30,11 +31,8 @@ pub enum Rule {
     Compare,
 }
 
-/// The greatest number of a law.
-pub const LAST_LAW: u8 = 26;
-
 /// The laws by number, from 0. In each side a form is written before its parts.
-pub const LAWS: [LawLine<Rule, Sym>; 27] = [
+pub const LAWS: [LawLine<Rule, Sym>; LAST_EXPRESSION_LAW as usize + 1] = [
     (Nothing, &[], &[]),
     (Sides, &[THEN, X, F], &[F]),
     (Sides, &[THEN, F, X], &[F]),

@@ -9,7 +9,7 @@ ghost use Rattle.law_rules.specs.Laws.{
 };
 
 /// Both sides of each row do the same where they are typed alike; a left side has one right side;
-/// and the laws are numbered from 1 to `LAST_LAW`.
+/// and the laws are numbered from 1 to `LAST_NETWORK_LAW`.
 pub fn row_laws()
     ensures same_outputs { SameOutputsLaw }
     ensures same_sides { SameSidesLaw }

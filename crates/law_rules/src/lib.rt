@@ -1,5 +1,4 @@
-//! The laws of networks, L1 to L51: their rows, that both sides of each do the same, and how one
-//! is applied.
+//! The laws of networks: their rows, that both sides of each do the same, and how one is applied.
 //!
 //!     let right = apply_law(alloc, law, Direction::Forward, &net, None, olds)?;
 //!
@@ -19,4 +18,3 @@ mod table;
 
 pub use apply::apply_law;
 pub use laws::{answer_laws, row_laws};
-pub use table::LAST_LAW;

@@ -12,6 +12,7 @@ use Rule::{
     WithoutInput,
 };
 use law_patterns::{LawLine, Letter, NetLetter, NetSym, Sym};
+use net_tree::LAST_NETWORK_LAW;
 
 /// What a law is.
 #[derive(Clone, Copy)]
@@ -67,12 +68,9 @@ const THEN: NetSym = Leaf(Sym::Then);
 
 const ON: NetSym = Leaf(Sym::On);
 
-/// The greatest number of a law.
-pub const LAST_LAW: u8 = 51;
-
 /// The laws by number, from 0. In each side a form is written before its expressions, and these
 /// before its networks.
-pub const LAWS: [LawLine<Rule, NetSym>; 52] = [
+pub const LAWS: [LawLine<Rule, NetSym>; LAST_NETWORK_LAW as usize + 1] = [
     (Nothing, &[], &[]),
     (Sides, &[Seq, Arr, X, NET_F], &[NET_F]),
     (Sides, &[Seq, NET_F, Arr, X], &[NET_F]),

@@ -9,7 +9,9 @@ use crate::shaping::{gather_all, shaped};
 use expr_improve::{Means, joined};
 use leaf_core::Expr;
 use net_improve::{Clearing, MOST_DEPTH, NoMove, Sketch, Spot, copied};
-use net_tree::{LawStep, Net, NetChild, Position, TreeRef, same_net};
+use net_tree::{
+    LAST_EXPRESSION_LAW, LAST_NETWORK_LAW, LawStep, Net, NetChild, Position, TreeRef, same_net,
+};
 use sample_core::Memory;
 
 /// Two ways that meet.
@@ -191,8 +193,8 @@ impl Pair {
     /// The number of the last law of what stands at the path.
     fn last_law(&self, path: &[u32]) -> Result<u8, NoMove> {
         match self.first.at(path)?.tree {
-            TreeRef::Expr(_) => Ok(expr_laws::LAST_LAW),
-            TreeRef::Net(_) => Ok(law_rules::LAST_LAW),
+            TreeRef::Expr(_) => Ok(LAST_EXPRESSION_LAW),
+            TreeRef::Net(_) => Ok(LAST_NETWORK_LAW),
         }
     }
 

@@ -19,7 +19,7 @@ use leaf_expr::{
     ExprTextFault, MOST_OPEN, Read, TreeFront, closing_at, form_end, form_head, front_at,
     natural_named, read_index, token_at,
 };
-use net_tree::{Direction, Law, LawStep, Position, Tree};
+use net_tree::{Direction, LAST_EXPRESSION_LAW, LAST_NETWORK_LAW, Law, LawStep, Position, Tree};
 use sample_core::word_is;
 use std::alloc::Global;
 
@@ -125,7 +125,7 @@ pub(crate) fn last_leaf_law(version: Version) -> u8
 {
     match version {
         Version::One | Version::Two => 18,
-        Version::Three => 26,
+        Version::Three => LAST_EXPRESSION_LAW,
     }
 }
 
@@ -136,7 +136,7 @@ pub(crate) fn last_law(version: Version) -> u8
     match version {
         Version::One => 42,
         Version::Two => 46,
-        Version::Three => 51,
+        Version::Three => LAST_NETWORK_LAW,
     }
 }
 

@@ -10,8 +10,14 @@ use leaf_core::Expr;
 use sample_core::Memory;
 use std::alloc::Global;
 
-/// A law by its number: `E1` to `E26` are of expressions, `L1` to `L51` of networks. Any other
-/// number is that of no law.
+/// The greatest number of a law of expressions.
+pub const LAST_EXPRESSION_LAW: u8 = 26;
+
+/// The greatest number of a law of networks.
+pub const LAST_NETWORK_LAW: u8 = 51;
+
+/// A law by its number, from 1 to `LAST_EXPRESSION_LAW` or to `LAST_NETWORK_LAW`. Any other number
+/// is that of no law.
 #[derive(Clone, Copy, PartialEq, Eq, Debug)]
 pub enum Law {
     /// A law of expressions.

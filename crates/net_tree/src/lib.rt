@@ -22,7 +22,7 @@ mod position;
 
 pub use equal::{Parts, form_number, parts_inside, same_net};
 pub use forms::{FedForm, LeafForm, PairForm};
-pub use law_step::{Direction, Law, LawStep, Tree, TreeRef};
+pub use law_step::{Direction, LAST_EXPRESSION_LAW, LAST_NETWORK_LAW, Law, LawStep, Tree, TreeRef};
 pub use limits::{MOST_DELAY, MOST_MEMBERS, MOST_WAIT};
 pub use measure::{MOST_HEIGHT, MOST_SIZE, MOST_WEIGHT, Measures, height, measured, weight};
 pub use net::{Members, Net, NetChild};

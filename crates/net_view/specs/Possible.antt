@@ -5,10 +5,10 @@ use Rattle.leaf_core.specs.Expression.{Expression}
 use Rattle.net_tree.specs.Place.{Tree}
 use Rattle.net_tree.specs.LawStep.{Step, step_of}
 use Rattle.net_meaning.specs.TypedNetwork.{TypedNetwork}
+use Rattle.net_tree.specs.declared.law_step.TheConstants.{LAST_EXPRESSION_LAW}
 use Rattle.net_tree.specs.declared.law_step.Law.{Law}
 use Rattle.net_tree.specs.declared.law_step.Law.TheVariants as L
 use Rattle.net_tree.specs.declared.law_step.Direction.TheVariants.{Forward}
-use Rattle.expr_laws.specs.declared.table.TheConstants.{LAST_LAW}
 use Rattle.cert_check.specs.Derives.{Next}
 use Rattle.net_opt.specs.Optimising.{NoStepBy, forward_step}
 use Rattle.net_opt.specs.Order.{Before}
@@ -39,7 +39,7 @@ pub record MayBeTaken (t : TypedNetwork) (s : Step) : Type 0 where
 -- the laws by number, those of expressions before those of networks
 abbrev pub law_rank : Law → ℕ
 law_rank (L.E n) = n
-law_rank (L.L n) = LAST_LAW + n
+law_rank (L.L n) = LAST_EXPRESSION_LAW + n
 
 -- the first step is at an earlier position in preorder, or at the same one by an earlier law
 pub data EarlierStep (s r : Step) : Type 0 where

@@ -18,12 +18,14 @@ use crate::spot::{Spot, spot_at, spot_below};
 use crate::trace::Change;
 use cert_check::answer_at;
 use net_syntax::{Place, Standing, TypedNet, place_below};
-use net_tree::{Direction, Law, LawStep, Position, Tree, TreeRef};
+use net_tree::{
+    Direction, LAST_EXPRESSION_LAW, LAST_NETWORK_LAW, Law, LawStep, Position, Tree, TreeRef,
+};
 use sample_core::Memory;
 use std::alloc::Global;
 
 /// How many laws there are, of expressions and of networks.
-const LAWS: u8 = expr_laws::LAST_LAW + law_rules::LAST_LAW;
+const LAWS: u8 = LAST_EXPRESSION_LAW + LAST_NETWORK_LAW;
 
 /// A step that a check would accept.
 #[derive(Drop)]
@@ -157,10 +159,10 @@ fn law_number(k: u8) -> Law
     ensures rank { law_rank result ≡ k + 1 }
     ensures law { IsLaw result }
 {
-    if k < expr_laws::LAST_LAW {
+    if k < LAST_EXPRESSION_LAW {
         Law::E(k + 1)
     } else {
-        Law::L(k + 1 - expr_laws::LAST_LAW)
+        Law::L(k + 1 - LAST_EXPRESSION_LAW)
     }
 }
 

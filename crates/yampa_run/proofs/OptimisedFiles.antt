@@ -16,6 +16,8 @@ use Rattle.net_tree.specs.declared.law_step.Law.TheVariants as L
 use Rattle.net_text.specs.CertificateLaws.{IsCertificate}
 use Rattle.net_text.specs.CertificatePrinting.{ChildrenFit, GivenFits, IsLaw, PrintedCertificateLaw, StepFits, StepsFit, certificate_spelling, child_sexprs}
 use Rattle.net_text.specs.FileLaws.{IsFile, PrintedFileLaw}
+use Rattle.net_text.specs.Grammar.{version_3}
+use Rattle.net_text.specs.StepGrammar.{last_law, last_leaf_law}
 use Rattle.net_text.specs.Printing.{file_spelling}
 use Rattle.cert_check.specs.Derives.{Steps, no_step, step_then}
 use Rattle.net_opt.specs.Laws.{OptimisedDerivesLaw, OneOptimisedLaw}
@@ -39,8 +41,8 @@ passes test ns n all c = go (test n) refl
 
 -- a law that is tried has a number that files may have
 is_law : (law : Law) → IsTried law → IsLaw law
-is_law (L.L n) tried = (leb-true 1 n (passes (leb 1) network_laws n refl tried), leb-true n 51 (passes (λ k. leb k 51) network_laws n refl tried))
-is_law (L.E n) tried = (leb-true 1 n (passes (leb 1) expression_laws n refl tried), leb-true n 26 (passes (λ k. leb k 26) expression_laws n refl tried))
+is_law (L.L n) tried = (leb-true 1 n (passes (leb 1) network_laws n refl tried), leb-true n (last_law version_3) (passes (λ k. leb k (last_law version_3)) network_laws n refl tried))
+is_law (L.E n) tried = (leb-true 1 n (passes (leb 1) expression_laws n refl tried), leb-true n (last_leaf_law version_3) (passes (λ k. leb k (last_leaf_law version_3)) expression_laws n refl tried))
 
 flat : (p : List ℕ) → depths (child_sexprs p) ≡ 0
 flat [] = refl
