@@ -3,7 +3,7 @@ use Rattle.std.proofs.Common.{◌≡◌, ℕ, zero, suc, ◌+◌, ◌≤◌, Boo
 use Rattle.sample_core.specs.Number.{is_number_word}
 use Rattle.leaf_expr.specs.Token.{opening, closing, word, PlacedToken}
 use Rattle.leaf_expr.specs.Sexpr.{Sexprs, form, last, more, SpellAll, form_spells, last_spells, more_spells, depth}
-use Rattle.leaf_expr.specs.Language.{Language, Places, Maker, Row, no_place, place, places, make_tree}
+use Rattle.leaf_expr.specs.Language.{Language, Places, Maker, Production, no_place, place, places, make_tree}
 use Rattle.leaf_expr.specs.TreeReader.{unfit_token}
 use Rattle.leaf_expr.specs.ReadLaws.{OpensAtMost, Completes, ViablePrefix, Whole, TokensLeadIn, at_tree, at_word, in_form, at_end, in_part, behind, in_item, behind_item, fault_at, Misfit}
 use Rattle.leaf_expr.proofs.Opened.{opens_both}
@@ -97,7 +97,7 @@ module _ (L : Language) where
   passed_many room {q = q} make t front us p w d =
       passed_to room (places q) (places q) make (λ xs. make (t ∷ xs)) t front us p w d (rw p.means d.means)
 
-  completes_form : (room : ℕ) (s : L.Sort) (n m : ℕ) (w : List ℕ) (r : Row L.Sort L.Tree (L.Tree s)) (us : List PlacedToken) → L.row_at s w ≡ Some r
+  completes_form : (room : ℕ) (s : L.Sort) (n m : ℕ) (w : List ℕ) (r : Production L.Sort L.Tree (L.Tree s)) (us : List PlacedToken) → L.production_at s w ≡ Some r
       → ViableParts room s r.takes r.makes us → Completes L s ((n, opening) ∷ (m, word w) ∷ us)
   completes_form room s n m w r us a d =
       record {
@@ -110,12 +110,12 @@ module _ (L : Language) where
         means = rw a d.means;
       }
 
-  pub viable_form : (room : ℕ) (s : L.Sort) (n m : ℕ) (w : List ℕ) (r : Row L.Sort L.Tree (L.Tree s)) (us : List PlacedToken) → L.row_at s w ≡ Some r
+  pub viable_form : (room : ℕ) (s : L.Sort) (n m : ℕ) (w : List ℕ) (r : Production L.Sort L.Tree (L.Tree s)) (us : List PlacedToken) → L.production_at s w ≡ Some r
       → ViableParts room s r.takes r.makes us → ViablePrefix L (suc room) s ((n, opening) ∷ (m, word w) ∷ us)
   viable_form room s n m w r us a d = record { opens = d.opens; completes = completes_form room s n m w r us a d }
 
-  pub misfit_form : (room : ℕ) (s : L.Sort) (n m : ℕ) (w : List ℕ) (r : Row L.Sort L.Tree (L.Tree s)) (us : List PlacedToken) (x : PlacedToken)
-      (e : ExprTextFault) → L.has_form s ≡ true → L.row_at s w ≡ Some r → MisfitIn room r.takes us x e
+  pub misfit_form : (room : ℕ) (s : L.Sort) (n m : ℕ) (w : List ℕ) (r : Production L.Sort L.Tree (L.Tree s)) (us : List PlacedToken) (x : PlacedToken)
+      (e : ExprTextFault) → L.has_form s ≡ true → L.production_at s w ≡ Some r → MisfitIn room r.takes us x e
       → Misfit L (suc room) s ((n, opening) ∷ (m, word w) ∷ us) x e
   misfit_form room s n m w r us x e f a i = record {
     next = i.next;

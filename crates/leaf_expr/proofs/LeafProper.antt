@@ -7,13 +7,13 @@ use Rattle.leaf_expr.specs.WordReading.{WordReading, reads, misspelt, unfit, map
 use Rattle.leaf_expr.specs.Token.{opening, closing, word}
 use Rattle.leaf_expr.specs.Sexpr.{atom, form, last, more, atom_spells, form_spells, last_spells, more_spells}
 use Rattle.leaf_core.specs.Expression.{input, fst, int_expr}
-use Rattle.leaf_expr.specs.Grammar.{leaf, LeafSort, type_sort, expression_sort, index_sort, words, rows, word_at, row_at, word_among, leaf_number_at, has_form, takes_number}
+use Rattle.leaf_expr.specs.Grammar.{leaf, LeafSort, type_sort, expression_sort, index_sort, words, productions, word_at, production_at, word_among, leaf_number_at, has_form, takes_number}
 use Rattle.leaf_expr.specs.ReadLaws.{Completes}
 use Rattle.leaf_expr.specs.Language.{meant}
 use Rattle.leaf_expr.proofs.Proper.{Proper}
 
-formless : (s : LeafSort) (w : List ℕ) → has_form s ≡ false → row_at s w ≡ None
-unfolding row_at rows
+formless : (s : LeafSort) (w : List ℕ) → has_form s ≡ false → production_at s w ≡ None
+unfolding production_at productions
 formless type_sort w h = absurd (cc)
 formless expression_sort w h = absurd (cc)
 formless index_sort w h = refl
@@ -61,7 +61,7 @@ foreign expression_sort w e = chosen_unfit (is_number_word w) _ _
 foreign index_sort w e = chosen_unfit (is_number_word w) _ _ (among_unread w (words index_sort) _ unfit (λ x q. cc) e)
 
 filler : (s : LeafSort) → Completes leaf s []
-unfolding word_at words row_at rows
+unfolding word_at words production_at productions
 filler type_sort =
     record { end = (0, word (codes "Unit")) ∷ []; stop = 4; part = atom (codes "Unit"); tree = unit_ty; spells = λ ts. atom_spells; means = refl }
 filler expression_sort = record { end = (0, word (codes "x")) ∷ []; stop = 1; part = atom (codes "x"); tree = input; spells = λ ts. atom_spells; means = refl }
@@ -82,7 +82,7 @@ form_behind s n name inner t means =
     }
 
 opener : (s : LeafSort) (n : ℕ) → has_form s ≡ true → Completes leaf s ((n, opening) ∷ [])
-unfolding word_at words row_at rows
+unfolding word_at words production_at productions
 opener type_sort n h = form_behind type_sort n (codes "Event") (codes "Unit") (event_ty unit_ty) refl
 opener expression_sort n h = form_behind expression_sort n (codes "fst") (codes "x") (fst input) refl
 opener index_sort n h = absurd (cc)

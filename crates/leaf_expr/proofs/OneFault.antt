@@ -3,7 +3,7 @@ use Rattle.std.proofs.Common.{◌≡◌, ◌⊎◌, inl, inr, ℕ, suc, List, []
 use Rattle.std.specs.Prelude.{option_and_then}
 use Rattle.leaf_expr.specs.Token.{Token, closing, word, PlacedToken}
 use Rattle.leaf_expr.specs.Sexpr.{Sexpr, Sexprs, Spells, SpellAll, atom_spells, form_spells, last_spells, more_spells, depth}
-use Rattle.leaf_expr.specs.Language.{Language, Begins, Places, Maker, Row, places, meant, make_tree}
+use Rattle.leaf_expr.specs.Language.{Language, Begins, Places, Maker, Production, places, meant, make_tree}
 use Rattle.leaf_expr.specs.TreeReader.{Read, read}
 use Rattle.leaf_expr.specs.ReadLaws.{Completes, ViablePrefix, Whole, TokensLead, TokensLeadIn, at_tree, at_word, in_form, at_end, in_part, behind, in_item, behind_item, fault_at, Misfit, Stops, too_short, at_token, TokenFaultLaw, OneFaultLaw}
 use Rattle.leaf_expr.proofs.Proper.{Proper}
@@ -56,9 +56,9 @@ module _ (L : Language) where
   none_leads (at_word f) k vs e = apart e (λ p. cc)
   none_leads (in_form f a i) k vs e = apart e (λ p. cc)
 
-  with_row : (s : L.Sort) (ps : Sexprs) (t : L.Tree s) (r : Row L.Sort L.Tree (L.Tree s)) (o : Option (Row L.Sort L.Tree (L.Tree s))) → o ≡ Some r
+  with_production : (s : L.Sort) (ps : Sexprs) (t : L.Tree s) (r : Production L.Sort L.Tree (L.Tree s)) (o : Option (Production L.Sort L.Tree (L.Tree s))) → o ≡ Some r
       → option_and_then (λ z. make_tree L s z.takes z.makes ps) o ≡ Some t → make_tree L s r.takes r.makes ps ≡ Some t
-  with_row s ps t r o e h = rw e at h
+  with_production s ps t r o e h = rw e at h
 
   module _ (proper : Proper L) where
     -- a tree has one end
@@ -83,7 +83,7 @@ module _ (L : Language) where
           let h' : word v ≡ word w = head_is (tail_is e) in
           let c : v ≡ w = cc in
           let b : vs ≡ us = tail_is (tail_is e) in
-          no_parts i s r.makes ps vs ((k, closing) ∷ rest) k rest t h refl b (with_row s ps t r (L.row_at s v) (ap (L.row_at s) c ∙ a) m)
+          no_parts i s r.makes ps vs ((k, closing) ∷ rest) k rest t h refl b (with_production s ps t r (L.production_at s v) (ap (L.production_at s) c ∙ a) m)
 
       -- and tokens of the parts of a form
       no_parts : {qs : Places L.Sort} {us : List PlacedToken} {q : Option L.Sort} {d : ℕ} → TokensLeadIn L qs us q d → (s : L.Sort)
@@ -126,8 +126,8 @@ module _ (L : Language) where
           let h' : word w ≡ word v = head_is (tail_is e) in
           let p : w ≡ v = cc in
           let u : us ≡ vs = tail_is (tail_is e) in
-          let o : y ≡ x = some_is (sym b ∙ (ap (L.row_at s) (sym p) ∙ a)) in
-          let h = one_inside i (subst (λ row. TokensLeadIn L row.takes vs z c) o j) u in
+          let o : y ≡ x = some_is (sym b ∙ (ap (L.production_at s) (sym p) ∙ a)) in
+          let h = one_inside i (subst (λ production. TokensLeadIn L production.takes vs z c) o j) u in
           (h.0, ap suc h.1)
 
       one_inside : {qs : Places L.Sort} {us vs : List PlacedToken} {q r : Option L.Sort} {d c : ℕ} → TokensLeadIn L qs us q d → TokensLeadIn L qs vs r c → us ≡ vs

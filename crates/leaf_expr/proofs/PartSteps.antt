@@ -1,9 +1,9 @@
 -- Forms and their parts, one after the other, in any language.
 use Rattle.std.proofs.Common.{◌≡◌, ℕ, List, [], ◌∷◌, refl, sym, ap, ◌∙◌, subst, Ok, Err, Some, None}
 use Rattle.leaf_expr.specs.Token.{opening, closing, word, PlacedToken}
-use Rattle.leaf_expr.specs.Language.{Language, Places, Maker, Row, no_place, place, places}
+use Rattle.leaf_expr.specs.Language.{Language, Places, Maker, Production, no_place, place, places}
 use Rattle.leaf_expr.specs.Grammar.{leaf}
-use Rattle.leaf_expr.specs.TreeReader.{Read, read, read_form, read_row, read_parts, read_head, read_end}
+use Rattle.leaf_expr.specs.TreeReader.{Read, read, read_form, read_production, read_parts, read_head, read_end}
 use Rattle.leaf_expr.specs.declared.text_fault.ExprTextFault.{ExprTextFault}
 use Rattle.leaf_expr.specs.declared.text_fault.ExprTextFault.TheVariants.{Syntax}
 use Rattle.leaf_expr.proofs.ReadSteps.{Refuses, with, with_bind, passed}
@@ -25,18 +25,18 @@ module _ (L : Language) (size room : ℕ) where
   head_same ((n, word w) ∷ ts) = refl
 
   -- a form by its word
-  pub named : {n : ℕ} {w : List ℕ} {ts : List PlacedToken} (m : ℕ) (s : L.Sort) (us : List PlacedToken) (r : Row L.Sort L.Tree (L.Tree s)) →
-      read_head leaf size room us ≡ Ok (n, w, ts) → Some r ≡ L.row_at s w →
+  pub named : {n : ℕ} {w : List ℕ} {ts : List PlacedToken} (m : ℕ) (s : L.Sort) (us : List PlacedToken) (r : Production L.Sort L.Tree (L.Tree s)) →
+      read_head leaf size room us ≡ Ok (n, w, ts) → Some r ≡ L.production_at s w →
       read_form L size (read L size m) room s us ≡ read_parts L size (read L size m) room r.takes r.makes ts
   named {n = n} {ts = ts} m s us r p q =
-      ap (λ h. h >>= (λ h. read_row L size (read L size m) room h.0 (L.row_at s h.1) h.2)) (head_same us ∙ p)
-      ∙ ap (λ o. read_row L size (read L size m) room n o ts) (sym q)
+      ap (λ h. h >>= (λ h. read_production L size (read L size m) room h.0 (L.production_at s h.1) h.2)) (head_same us ∙ p)
+      ∙ ap (λ o. read_production L size (read L size m) room n o ts) (sym q)
 
   pub unnamed : {n : ℕ} {w : List ℕ} {ts : List PlacedToken} (m : ℕ) (s : L.Sort) (us : List PlacedToken) → read_head leaf size room us ≡ Ok (n, w, ts) →
-      None ≡ L.row_at s w → read_form L size (read L size m) room s us ≡ Err (Syntax n)
+      None ≡ L.production_at s w → read_form L size (read L size m) room s us ≡ Err (Syntax n)
   unnamed {n = n} {ts = ts} m s us p q =
-      ap (λ h. h >>= (λ h. read_row L size (read L size m) room h.0 (L.row_at s h.1) h.2)) (head_same us ∙ p)
-      ∙ ap (λ o. read_row L size (read L size m) room n o ts) (sym q)
+      ap (λ h. h >>= (λ h. read_production L size (read L size m) room h.0 (L.production_at s h.1) h.2)) (head_same us ∙ p)
+      ∙ ap (λ o. read_production L size (read L size m) room n o ts) (sym q)
 
   -- a form without a word
   pub headless : (x : ExprTextFault) (m : ℕ) (s : L.Sort) (us : List PlacedToken) → Refuses x (read_head leaf size room us) →

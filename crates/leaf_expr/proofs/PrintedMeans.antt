@@ -6,7 +6,7 @@ use Rattle.leaf_core.specs.Expression.{Expression, Expressions, input, param, un
 use Rattle.leaf_expr.specs.Sexpr.{atom, plain_sexpr, all_plain}
 use Rattle.leaf_expr.specs.WordReading.{WordReading, reads, map_reading}
 use Rattle.leaf_expr.specs.Language.{meant, make_tree, read_word, places}
-use Rattle.leaf_expr.specs.Grammar.{leaf, word_at, row_at, words, rows, type_sort, expression_sort, index_sort, word_among, leaf_number_at}
+use Rattle.leaf_expr.specs.Grammar.{leaf, word_at, production_at, words, productions, type_sort, expression_sort, index_sort, word_among, leaf_number_at}
 use Rattle.leaf_expr.specs.Printing.{type_sexpr, expression_sexpr, expression_sexprs, InRange, AllInRange}
 use Rattle.std.proofs.lemmas.Bool.{ne_eqb}
 use Rattle.leaf_expr.proofs.Numbers.{natural_spelled, integer_spelled, signed_head, decimal_is_word, signed_is_word}
@@ -14,7 +14,7 @@ use Rattle.leaf_expr.specs.declared.number_reader.TheConstants.{MOST_INDEX}
 
 -- a printed type means the type, and its words are words
 type_printed : (t : TypeTree) → (meant leaf type_sort (type_sexpr t) ≡ Some t) × (plain_sexpr (type_sexpr t) ≡ true)
-unfolding word_at words row_at rows
+unfolding word_at words production_at productions
 type_printed unit_ty = (refl, refl)
 type_printed bool_ty = (refl, refl)
 type_printed int_ty = (refl, refl)
@@ -61,7 +61,7 @@ items_are (and_then e es) = ap (and_then e) (items_are es)
 
 -- a printed expression means the expression, and its words are words
 mutual
-  unfolding word_at words row_at rows items
+  unfolding word_at words production_at productions items
 
   printed : (e : Expression) → InRange e → (meant leaf expression_sort (expression_sexpr e) ≡ Some e) × (plain_sexpr (expression_sexpr e) ≡ true)
   printed input r = (refl, refl)

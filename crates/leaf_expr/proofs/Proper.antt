@@ -7,8 +7,8 @@ use Rattle.leaf_expr.specs.Language.{Language}
 use Rattle.leaf_expr.specs.ReadLaws.{Completes}
 
 pub record Proper (L : Language) : Type 0 where
-  -- a sort without forms has no row
-  pub formless : (s : L.Sort) (w : List ℕ) → L.has_form s ≡ false → L.row_at s w ≡ None
+  -- a sort without forms has no production
+  pub formless : (s : L.Sort) (w : List ℕ) → L.has_form s ≡ false → L.production_at s w ≡ None
   -- a number word that doesn't serve is misspelt exactly where a number may stand
   pub spoilt : (s : L.Sort) (w : List ℕ) → L.word_at s w ≡ misspelt → (L.takes_number s && is_number_word w) ≡ true
   pub foreign : (s : L.Sort) (w : List ℕ) → L.word_at s w ≡ unfit → (L.takes_number s && is_number_word w) ≡ false

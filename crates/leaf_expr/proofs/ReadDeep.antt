@@ -3,8 +3,8 @@ use Rattle.std.proofs.Common.{◌≡◌, ℕ, zero, suc, ◌≤◌, ◌<◌, Boo
 use Rattle.std.specs.Prelude.{option_and_then}
 use Rattle.leaf_expr.specs.Token.{closing, word, PlacedToken}
 use Rattle.leaf_expr.specs.Sexpr.{Sexpr, Sexprs, form, Spells, SpellAll, atom_spells, form_spells, last_spells, more_spells}
-use Rattle.leaf_expr.specs.Language.{Language, Places, Maker, Row, no_place, place, places, meant, make_tree}
-use Rattle.leaf_expr.specs.TreeReader.{Read, read_all, read_parts, read_row, read_form, read}
+use Rattle.leaf_expr.specs.Language.{Language, Places, Maker, Production, no_place, place, places, meant, make_tree}
+use Rattle.leaf_expr.specs.TreeReader.{Read, read_all, read_parts, read_production, read_form, read}
 use Rattle.leaf_expr.proofs.Proper.{Proper}
 use Rattle.leaf_expr.proofs.ReadOnly.{shorter, all_shorter, some_bind, read_all_spelled, formless_means, only_word}
 use Rattle.sample_core.specs.Answer.{◌>>=◌}
@@ -47,16 +47,16 @@ module _ (L : Language) (proper : Proper L) where
         then_deep (reader q ts) (b.0, m, mid) _ (t, suc k, rest) (h q p ts m mid b.0 a b.1) (deep_parts s k qs (make b.0) us mid rest t as1 b.2)
     deep_parts s k (places q) make ps ts rest t a e = deep_all s q (length ts) k make ps ts rest t a e (omega arith)
 
-    deep_row : (s : L.Sort) (m k : ℕ) (ps : Sexprs) (ts rest : List PlacedToken) (t : L.Tree s) (r : Option (Row L.Sort L.Tree (L.Tree s)))
+    deep_production : (s : L.Sort) (m k : ℕ) (ps : Sexprs) (ts rest : List PlacedToken) (t : L.Tree s) (r : Option (Production L.Sort L.Tree (L.Tree s)))
         → SpellAll ps ts ((k, closing) ∷ rest) → option_and_then (λ z. make_tree L s z.takes z.makes ps) r ≡ Some t
-        → ReadOrDeep (read_row L size reader room m r ts) (t, suc k, rest)
-    deep_row s m k ps ts rest t None a e = absurd (cc)
-    deep_row s m k ps ts rest t (Some r) a e = deep_parts s k r.takes r.makes ps ts rest t a e
+        → ReadOrDeep (read_production L size reader room m r ts) (t, suc k, rest)
+    deep_production s m k ps ts rest t None a e = absurd (cc)
+    deep_production s m k ps ts rest t (Some r) a e = deep_parts s k r.takes r.makes ps ts rest t a e
 
     deep_opened : (s : L.Sort) (b : Bool) (n m k : ℕ) (w : List ℕ) (ps : Sexprs) (ts rest : List PlacedToken) (t : L.Tree s) → L.has_form s ≡ b
         → SpellAll ps ts ((k, closing) ∷ rest) → meant L s (form w ps) ≡ Some t
         → ReadOrDeep (if b then read_form L size reader room s ((m, word w) ∷ ts) else Err (Syntax n)) (t, suc k, rest)
-    deep_opened s true n m k w ps ts rest t f a e = deep_row s m k ps ts rest t (L.row_at s w) a e
+    deep_opened s true n m k w ps ts rest t f a e = deep_production s m k ps ts rest t (L.production_at s w) a e
     deep_opened s false n m k w ps ts rest t f a e = absurd (formless_means L proper s w ps t f e)
 
   -- whatever a tree opens, it is read, or a parenthesis of it is one too many

@@ -4,8 +4,8 @@ use Rattle.leaf_expr.specs.WordReading.{WordReading, reads, misspelt, unfit}
 use Rattle.sample_core.specs.Number.{is_number_word}
 use Rattle.leaf_expr.specs.Token.{Token, opening, closing, word, PlacedToken}
 use Rattle.leaf_expr.specs.Sexpr.{Sexpr, Sexprs, Spells, SpellAll, atom_spells, form_spells, last_spells, more_spells, depth}
-use Rattle.leaf_expr.specs.Language.{Language, Begins, Places, Maker, Row, no_place, place, places}
-use Rattle.leaf_expr.specs.TreeReader.{Read, unfit_token, word_read, close, read_all, read_parts, read_row, read_form, read}
+use Rattle.leaf_expr.specs.Language.{Language, Begins, Places, Maker, Production, no_place, place, places}
+use Rattle.leaf_expr.specs.TreeReader.{Read, unfit_token, word_read, close, read_all, read_parts, read_production, read_form, read}
 use Rattle.leaf_expr.specs.ReadLaws.{OpensAtMost, Completes, ViablePrefix, Whole, Misfit, fault_at, Stops, too_short, at_token, OneReadingLaw}
 use Rattle.leaf_expr.proofs.Proper.{Proper}
 use Rattle.leaf_expr.proofs.Fillers.{ViableParts, MisfitIn, viable_none, viable_open, begun, begun_many, passed, passed_many, viable_form, misfit_form, misfit_part, misfit_item, misfit_behind, misfit_behind_item, misfit_end, misfit_head, unfit_word, misfit_word, misfit_closing, misfit_deep, misfit_form_here, fill}
@@ -238,15 +238,15 @@ module _ (L : Language) where
           go (ended a v) = ended a v
           go (halted before x after a b v h) = halted before x after a b v (λ us n l. h us (length (before ++ x ∷ us)) (omega arith))
 
-      halts_row : (s : L.Sort) (k m : ℕ) (w : List ℕ) (r : Option (Row L.Sort L.Tree (L.Tree s))) (ts : List PlacedToken) (e : ExprTextFault)
-          → L.has_form s ≡ true → L.row_at s w ≡ r → read_row L size reader room m r ts ≡ Err e
+      halts_production : (s : L.Sort) (k m : ℕ) (w : List ℕ) (r : Option (Production L.Sort L.Tree (L.Tree s))) (ts : List PlacedToken) (e : ExprTextFault)
+          → L.has_form s ≡ true → L.production_at s w ≡ r → read_production L size reader room m r ts ≡ Err e
           → Halts size (λ us. ViablePrefix L (suc room) s ((k, opening) ∷ us)) (λ us. Misfit L (suc room) s ((k, opening) ∷ us))
           (λ n. read_form L size reader room s)
           ((m, word w) ∷ ts) e
-      halts_row s k m w None ts e f a p = halts_here size _ _ (m, word w) ts _ e (viable_open L room s k (proper.opener s k f))
+      halts_production s k m w None ts e f a p = halts_here size _ _ (m, word w) ts _ e (viable_open L room s k (proper.opener s k f))
           (subst (Misfit L (suc room) s ((k, opening) ∷ []) (m, word w)) (unfit_word L room m w ∙ err_is p) (misfit_head L room s k (m, word w) f))
           (λ us n i. rw a p)
-      halts_row s k m w (Some r) ts e f a p = halts_behind size _ _ (m, word w) ts _ _ e (λ us. ap (λ z. read_row L size reader room m z us) a)
+      halts_production s k m w (Some r) ts e f a p = halts_behind size _ _ (m, word w) ts _ _ e (λ us. ap (λ z. read_production L size reader room m z us) a)
           (halts_more size (ViableParts L room s r.takes r.makes) (λ us. ViablePrefix L (suc room) s ((k, opening) ∷ (m, word w) ∷ us))
           (MisfitIn L room r.takes)
           (λ us. Misfit L (suc room) s ((k, opening) ∷ (m, word w) ∷ us)) _ ts e (λ us c. viable_form L room s k m w r us a c)
@@ -256,7 +256,7 @@ module _ (L : Language) where
           → Halts size (λ us. ViablePrefix L (suc room) s ((k, opening) ∷ us)) (λ us. Misfit L (suc room) s ((k, opening) ∷ us))
           (λ n. read_form L size reader room s) ts e
       halts_form s k [] e f p = ended (sym (err_is p)) (viable_open L room s k (proper.opener s k f))
-      halts_form s k ((m, word w) ∷ ts) e f p = halts_row s k m w (L.row_at s w) ts e f refl p
+      halts_form s k ((m, word w) ∷ ts) e f p = halts_production s k m w (L.production_at s w) ts e f refl p
       halts_form s k ((m, opening) ∷ ts) e f p = halts_here size _ _ (m, opening) ts _ e (viable_open L room s k (proper.opener s k f))
           (subst (Misfit L (suc room) s ((k, opening) ∷ []) (m, opening)) (err_is p) (misfit_head L room s k (m, opening) f)) (λ us n i. p)
       halts_form s k ((m, closing) ∷ ts) e f p = halts_here size _ _ (m, closing) ts _ e (viable_open L room s k (proper.opener s k f))

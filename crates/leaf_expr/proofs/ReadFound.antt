@@ -3,8 +3,8 @@ use Rattle.std.proofs.Common.{◌≡◌, ℕ, zero, suc, ◌≤◌, Bool, true, 
 use Rattle.leaf_expr.specs.WordReading.{WordReading, reads, misspelt, unfit}
 use Rattle.leaf_expr.specs.Token.{opening, closing, word, PlacedToken}
 use Rattle.leaf_expr.specs.Sexpr.{Sexprs, atom, form, last, more, Spells, SpellAll, atom_spells, form_spells, last_spells, more_spells, depth, depths}
-use Rattle.leaf_expr.specs.Language.{Language, Begins, Places, Maker, Row, no_place, place, places, make_tree, read_word}
-use Rattle.leaf_expr.specs.TreeReader.{Read, word_read, close, read_all, read_parts, read_row, read_form, read}
+use Rattle.leaf_expr.specs.Language.{Language, Begins, Places, Maker, Production, no_place, place, places, make_tree, read_word}
+use Rattle.leaf_expr.specs.TreeReader.{Read, word_read, close, read_all, read_parts, read_production, read_form, read}
 use Rattle.sample_core.specs.Answer.{◌>>=◌}
 use Rattle.leaf_expr.specs.declared.text_fault.ExprTextFault.{ExprTextFault}
 use Rattle.leaf_expr.specs.declared.text_fault.ExprTextFault.TheVariants.{Syntax}
@@ -88,10 +88,10 @@ module _ (L : Language) where
         found_more qs make ts y b.0 (h q ts b.0 b.1) (found_parts qs (make b.0.0) b.0.2 y b.2)
     found_parts (places q) make ts y e = found_all q (length ts) make ts y e
 
-    found_row : {s : L.Sort} (n m : ℕ) (w : List ℕ) (r : Option (Row L.Sort L.Tree (L.Tree s))) (ts : List PlacedToken) (y : L.Tree s × ℕ × List PlacedToken)
-        → L.row_at s w ≡ r → read_row L size reader room m r ts ≡ Ok y → Found (suc room) s y ((n, opening) ∷ (m, word w) ∷ ts)
-    found_row n m w None ts y a e = absurd (cc)
-    found_row {s = s} n m w (Some r) ts y a e =
+    found_production : {s : L.Sort} (n m : ℕ) (w : List ℕ) (r : Option (Production L.Sort L.Tree (L.Tree s))) (ts : List PlacedToken) (y : L.Tree s × ℕ × List PlacedToken)
+        → L.production_at s w ≡ r → read_production L size reader room m r ts ≡ Ok y → Found (suc room) s y ((n, opening) ∷ (m, word w) ∷ ts)
+    found_production n m w None ts y a e = absurd (cc)
+    found_production {s = s} n m w (Some r) ts y a e =
         let i : FoundAll room s r.takes r.makes y ts = found_parts r.takes r.makes ts y e in
         let a' : SpellAll i.parts ts ((i.end, closing) ∷ y.2) = i.spell in
         record {
@@ -104,7 +104,7 @@ module _ (L : Language) where
     found_form : (s : L.Sort) (n : ℕ) (ts : List PlacedToken) (y : L.Tree s × ℕ × List PlacedToken) → read_form L size reader room s ts ≡ Ok y
         → Found (suc room) s y ((n, opening) ∷ ts)
     found_form s n [] y e = absurd (cc)
-    found_form s n ((m, word w) ∷ ts) y e = found_row n m w (L.row_at s w) ts y refl e
+    found_form s n ((m, word w) ∷ ts) y e = found_production n m w (L.production_at s w) ts y refl e
     found_form s n ((m, opening) ∷ ts) y e = absurd (cc)
     found_form s n ((m, closing) ∷ ts) y e = absurd (cc)
 

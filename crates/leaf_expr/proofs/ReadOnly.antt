@@ -4,8 +4,8 @@ use Rattle.std.specs.Prelude.{option_and_then}
 use Rattle.leaf_expr.specs.WordReading.{WordReading, reads, misspelt, unfit}
 use Rattle.leaf_expr.specs.Token.{closing, word, PlacedToken}
 use Rattle.leaf_expr.specs.Sexpr.{Sexpr, Sexprs, form, Spells, SpellAll, atom_spells, form_spells, last_spells, more_spells, depth, depths}
-use Rattle.leaf_expr.specs.Language.{Language, Places, Maker, Row, no_place, place, places, meant, make_tree, read_word}
-use Rattle.leaf_expr.specs.TreeReader.{Read, word_read, read_all, read_parts, read_row, read_form, read}
+use Rattle.leaf_expr.specs.Language.{Language, Places, Maker, Production, no_place, place, places, meant, make_tree, read_word}
+use Rattle.leaf_expr.specs.TreeReader.{Read, word_read, read_all, read_parts, read_production, read_form, read}
 use Rattle.leaf_expr.proofs.Proper.{Proper}
 use Rattle.sample_core.specs.Answer.{◌>>=◌}
 use Rattle.leaf_expr.specs.declared.text_fault.ExprTextFault.TheVariants.{Syntax}
@@ -33,11 +33,11 @@ module _ (L : Language) where
   read_all_spelled size reader n make p ts m rest (form_spells h) = refl
 
   module _ (proper : Proper L) where
-    -- a sort without forms has no row
+    -- a sort without forms has no production
     pub formless_means : (s : L.Sort) (w : List ℕ) (ps : Sexprs) (t : L.Tree s) → L.has_form s ≡ false → meant L s (form w ps) ≡ Some t → ⊥
-    formless_means s w ps t f e = go (L.row_at s w) (proper.formless s w f) e
+    formless_means s w ps t f e = go (L.production_at s w) (proper.formless s w f) e
       where
-        go : (r : Option (Row L.Sort L.Tree (L.Tree s))) → r ≡ None → option_and_then (λ z. make_tree L s z.takes z.makes ps) r ≡ Some t → ⊥
+        go : (r : Option (Production L.Sort L.Tree (L.Tree s))) → r ≡ None → option_and_then (λ z. make_tree L s z.takes z.makes ps) r ≡ Some t → ⊥
         go None i j = cc
         go (Some r) i j = cc
 
@@ -68,16 +68,16 @@ module _ (L : Language) where
           rw r (only_parts s k qs (make b.0) ps' mid rest t as1 b.2 (omega arith))
       only_parts s k (places q) make ps ts rest t a e d = only_all s q (length ts) k make ps ts rest t a e d (omega arith)
 
-      only_row : (s : L.Sort) (m k : ℕ) (ps : Sexprs) (ts rest : List PlacedToken) (t : L.Tree s) (r : Option (Row L.Sort L.Tree (L.Tree s)))
+      only_production : (s : L.Sort) (m k : ℕ) (ps : Sexprs) (ts rest : List PlacedToken) (t : L.Tree s) (r : Option (Production L.Sort L.Tree (L.Tree s)))
           → SpellAll ps ts ((k, closing) ∷ rest) → option_and_then (λ z. make_tree L s z.takes z.makes ps) r ≡ Some t → depths ps ≤ room
-          → read_row L size reader room m r ts ≡ Ok (t, suc k, rest)
-      only_row s m k ps ts rest t None a e d = absurd (cc)
-      only_row s m k ps ts rest t (Some r) a e d = only_parts s k r.takes r.makes ps ts rest t a e d
+          → read_production L size reader room m r ts ≡ Ok (t, suc k, rest)
+      only_production s m k ps ts rest t None a e d = absurd (cc)
+      only_production s m k ps ts rest t (Some r) a e d = only_parts s k r.takes r.makes ps ts rest t a e d
 
       only_opened : (s : L.Sort) (b : Bool) (n m k : ℕ) (w : List ℕ) (ps : Sexprs) (ts rest : List PlacedToken) (t : L.Tree s) → L.has_form s ≡ b
           → SpellAll ps ts ((k, closing) ∷ rest) → meant L s (form w ps) ≡ Some t → depths ps ≤ room
           → (if b then read_form L size reader room s ((m, word w) ∷ ts) else Err (Syntax n)) ≡ Ok (t, suc k, rest)
-      only_opened s true n m k w ps ts rest t f a e d = only_row s m k ps ts rest t (L.row_at s w) a e d
+      only_opened s true n m k w ps ts rest t f a e d = only_production s m k ps ts rest t (L.production_at s w) a e d
       only_opened s false n m k w ps ts rest t f a e d =
           absurd (formless_means s w ps t f e)
 

@@ -4,35 +4,35 @@ use Rattle.std.specs.Prelude.{option_and_then}
 use Rattle.sample_core.specs.TypeTree.{TypeTree}
 use Rattle.leaf_core.specs.Expression.{Expression, input, pair_expr, fst, snd, then_expr, if_expr, no_event_expr, event_expr, on}
 use Rattle.leaf_expr.specs.Language.{meant}
-use Rattle.leaf_expr.specs.Grammar.{leaf, type_sort, expression_sort, word_at, row_at, words, rows}
+use Rattle.leaf_expr.specs.Grammar.{leaf, type_sort, expression_sort, word_at, production_at, words, productions}
 use Rattle.leaf_expr.specs.TextRows.{TypeRows, WordRows, UnaryRows, BinaryRows, LongRows, FaultRows, MergeIs, GateIs, TagIs, AttachIs}
 
 pub type_rows : TypeRows
-unfolding word_at words row_at rows
+unfolding word_at words production_at productions
 type_rows = (refl, refl, refl, refl, refl, refl)
 
 pub word_rows : WordRows
-unfolding word_at words row_at rows
+unfolding word_at words production_at productions
 word_rows = (refl, refl, refl, refl, refl, refl, refl)
 
 pub unary_rows : UnaryRows
-unfolding word_at words row_at rows
+unfolding word_at words production_at productions
 unary_rows = (refl, refl, refl, refl, refl, refl, refl)
 
 pub binary_rows : BinaryRows
-unfolding word_at words row_at rows
+unfolding word_at words production_at productions
 binary_rows = (refl, refl, refl, refl, refl, refl, refl, refl, refl)
 
 pub long_rows : LongRows
-unfolding word_at words row_at rows
+unfolding word_at words production_at productions
 long_rows = (refl, refl, refl, refl, refl)
 
 pub fault_rows : FaultRows
-unfolding word_at words row_at rows
+unfolding word_at words production_at productions
 fault_rows = (refl, refl, refl, refl, refl, refl, refl, refl, refl, refl, refl, refl, refl)
 
 pub merge_is : MergeIs
-unfolding word_at words row_at rows
+unfolding word_at words production_at productions
 merge_is a b = refl
 
 gate_parts : (T : Option TypeTree) (a b : Option Expression)
@@ -48,7 +48,7 @@ gate_parts None None (Some y) = refl
 gate_parts None None None = refl
 
 pub gate_is : GateIs
-unfolding word_at words row_at rows
+unfolding word_at words production_at productions
 gate_is T a b = gate_parts (meant leaf type_sort T) (meant leaf expression_sort a) (meant leaf expression_sort b)
 
 tag_parts : (T : Option TypeTree) (a c : Option Expression)
@@ -68,7 +68,7 @@ tag_parts None None (Some y) = refl
 tag_parts None None None = refl
 
 pub tag_is : TagIs
-unfolding word_at words row_at rows
+unfolding word_at words production_at productions
 tag_is T a c = tag_parts (meant leaf type_sort T) (meant leaf expression_sort a) (meant leaf expression_sort c)
 
 attach_parts : (T : Option TypeTree) (a c : Option Expression)
@@ -91,5 +91,5 @@ attach_parts None None (Some y) = refl
 attach_parts None None None = refl
 
 pub attach_is : AttachIs
-unfolding word_at words row_at rows
+unfolding word_at words production_at productions
 attach_is T a c = attach_parts (meant leaf type_sort T) (meant leaf expression_sort a) (meant leaf expression_sort c)

@@ -1,9 +1,9 @@
--- The code's forms as rows of the grammar.
+-- The code's forms as productions of the grammar.
 use Rattle.std.specs.Prelude.{ℕ, List, codes}
 use Rattle.sample_core.specs.TypeTree.{TypeTree, pair_ty, event_ty, list_ty}
 use Rattle.leaf_core.specs.Expression.{Expression, input, param, pair_expr, fst, snd, then_expr, neg, add, sub, mul, less, equal, not_expr, and_expr, or_expr, if_expr, no_event_expr, event_expr, on, list_expr, nth, len, expressions_of}
-use Rattle.leaf_expr.specs.Language.{Row, no_place, places}
-use Rattle.leaf_expr.specs.Grammar.{LeafSort, LeafTree, expression_sort, row, t, e, k}
+use Rattle.leaf_expr.specs.Language.{Production, no_place, places}
+use Rattle.leaf_expr.specs.Grammar.{LeafSort, LeafTree, expression_sort, production, t, e, k}
 use Rattle.leaf_expr.specs.declared.form.TypeForm.{TypeForm}
 use Rattle.leaf_expr.specs.declared.form.TypeForm.TheVariants as T
 use Rattle.leaf_expr.specs.declared.form.Unary.{Unary}
@@ -17,11 +17,11 @@ use Rattle.leaf_expr.specs.declared.form.Typed.TheVariants as Y
 use Rattle.leaf_expr.specs.declared.form.ExprForm.{ExprForm}
 use Rattle.leaf_expr.specs.declared.form.ExprForm.TheVariants as F
 
--- a form of types as its row of the grammar
-abbrev pub type_row : TypeForm → Row LeafSort LeafTree TypeTree
-type_row T.Pair = row (codes "Pair") (t (t no_place)) pair_ty
-type_row T.Event = row (codes "Event") (t no_place) event_ty
-type_row T.List = row (codes "List") (t no_place) list_ty
+-- a form of types as its production of the grammar
+abbrev pub type_production : TypeForm → Production LeafSort LeafTree TypeTree
+type_production T.Pair = production (codes "Pair") (t (t no_place)) pair_ty
+type_production T.Event = production (codes "Event") (t no_place) event_ty
+type_production T.List = production (codes "List") (t no_place) list_ty
 
 -- the word of a form of one expression
 abbrev pub unary_name : Unary → List ℕ
@@ -91,29 +91,30 @@ typed_by Y.Gate = λ n a b. if_expr b a n
 typed_by Y.Tag = λ n a c. on a n (event_expr (then_expr (fst input) c))
 typed_by Y.Attach = λ n a c. on a n (event_expr (pair_expr (snd input) (then_expr (fst input) c)))
 
--- a form of one expression as its row of the grammar
-abbrev pub unary_row : Unary → Row LeafSort LeafTree Expression
-unary_row f = row (unary_name f) (e no_place) (unary_of f)
+-- a form of one expression as its production of the grammar
+abbrev pub unary_production : Unary → Production LeafSort LeafTree Expression
+unary_production f = production (unary_name f) (e no_place) (unary_of f)
 
--- a form of two expressions as its row of the grammar
-abbrev pub binary_row : Binary → Row LeafSort LeafTree Expression
-binary_row f = row (binary_name f) (e (e no_place)) (binary_of f)
+-- a form of two expressions as its production of the grammar
+abbrev pub binary_production : Binary → Production LeafSort LeafTree Expression
+binary_production f = production (binary_name f) (e (e no_place)) (binary_of f)
 
--- a form of three expressions as its row of the grammar
-abbrev pub ternary_row : Ternary → Row LeafSort LeafTree Expression
-ternary_row f = row (ternary_name f) (e (e (e no_place))) (ternary_of f)
+-- a form of three expressions as its production of the grammar
+abbrev pub ternary_production : Ternary → Production LeafSort LeafTree Expression
+ternary_production f = production (ternary_name f) (e (e (e no_place))) (ternary_of f)
 
--- a form of a type and two expressions as its row of the grammar
-abbrev pub typed_row : Typed → Row LeafSort LeafTree Expression
-typed_row f = row (typed_name f) (t (e (e no_place))) (λ T. typed_by f (no_event_expr T))
+-- a form of a type and two expressions as its production of the grammar
+abbrev pub typed_production : Typed → Production LeafSort LeafTree Expression
+typed_production f = production (typed_name f) (t (e (e no_place)))
+    (λ T. typed_by f (no_event_expr T))
 
--- a form of expressions as its row of the grammar
-abbrev pub form_row : ExprForm → Row LeafSort LeafTree Expression
-form_row F.Param = row (codes "p") (k no_place) param
-form_row F.NoEvent = row (codes "none") (t no_place) no_event_expr
-form_row F.List = row (codes "list") (t (places expression_sort))
+-- a form of expressions as its production of the grammar
+abbrev pub form_production : ExprForm → Production LeafSort LeafTree Expression
+form_production F.Param = production (codes "p") (k no_place) param
+form_production F.NoEvent = production (codes "none") (t no_place) no_event_expr
+form_production F.List = production (codes "list") (t (places expression_sort))
     (λ T es. list_expr T (expressions_of es))
-form_row (F.Unary f) = unary_row f
-form_row (F.Binary f) = binary_row f
-form_row (F.Ternary f) = ternary_row f
-form_row (F.Typed f) = typed_row f
+form_production (F.Unary f) = unary_production f
+form_production (F.Binary f) = binary_production f
+form_production (F.Ternary f) = ternary_production f
+form_production (F.Typed f) = typed_production f

@@ -3,7 +3,7 @@ use Rattle.std.specs.Prelude.{ℕ, true, false, Bool, List, [], ◌∷◌, ◌++
 use Rattle.sample_core.specs.TypeTree.{TypeTree, unit_ty, bool_ty, int_ty, pair_ty, event_ty, list_ty}
 use Rattle.leaf_expr.specs.WordReading.{WordReading, reads, unfit, integer_at, natural_at, map_reading}
 use Rattle.leaf_core.specs.Expression.{Expression, input, param, unit_expr, bool_expr, int_expr, pair_expr, fst, snd, then_expr, neg, add, sub, mul, less, equal, not_expr, and_expr, or_expr, if_expr, no_event_expr, event_expr, on, list_expr, nth, len, expressions_of}
-use Rattle.leaf_expr.specs.Language.{Language, Places, Maker, Row, no_place, place, places, row_among}
+use Rattle.leaf_expr.specs.Language.{Language, Places, Maker, Production, no_place, place, places, production_among}
 use Rattle.leaf_expr.specs.declared.number_reader.TheConstants.{MOST_INDEX}
 
 -- what stands at a place: a type, an expression, or the number of a parameter
@@ -37,71 +37,75 @@ words expression_sort = (codes "x", input) ∷ (codes "unit", unit_expr)
     ∷ (codes "true", bool_expr true) ∷ (codes "false", bool_expr false) ∷ []
 words index_sort = []
 
--- a row of the grammar: the word of a form, its parts, and the tree that they make
-abbrev pub row : {R : Type 0} → (w : List ℕ) → (ps : Places LeafSort) → Maker LeafTree ps R
-    → Row LeafSort LeafTree R
-row w ps make = record { name = w; takes = ps; makes = make }
+-- a production of the grammar: the word of a form, its parts, and the tree that they make
+abbrev pub production : {R : Type 0} → (w : List ℕ) → (ps : Places LeafSort) → Maker LeafTree ps R
+    → Production LeafSort LeafTree R
+production w ps make = record { name = w; takes = ps; makes = make }
 
 -- the forms of types
-abbrev pub type_rows : List (Row LeafSort LeafTree TypeTree)
-type_rows = row (codes "Pair") (t (t no_place)) pair_ty ∷ row (codes "Event") (t no_place) event_ty
-    ∷ row (codes "List") (t no_place) list_ty ∷ []
+abbrev pub type_productions : List (Production LeafSort LeafTree TypeTree)
+type_productions = production (codes "Pair") (t (t no_place)) pair_ty
+    ∷ production (codes "Event") (t no_place) event_ty
+    ∷ production (codes "List") (t no_place) list_ty ∷ []
 
 -- a parameter, no event of a type, and a list of elements of a type
-abbrev pub other_rows : List (Row LeafSort LeafTree Expression)
-other_rows =
-    row (codes "p") (k no_place) param
-    ∷ row (codes "none") (t no_place) no_event_expr
-    ∷ row (codes "list") (t (places expression_sort)) (λ T es. list_expr T (expressions_of es))
+abbrev pub other_productions : List (Production LeafSort LeafTree Expression)
+other_productions =
+    production (codes "p") (k no_place) param
+    ∷ production (codes "none") (t no_place) no_event_expr
+    ∷ production (codes "list") (t (places expression_sort))
+    (λ T es. list_expr T (expressions_of es))
     ∷ []
 
 -- the forms of one expression
-abbrev pub unary_rows : List (Row LeafSort LeafTree Expression)
-unary_rows =
-    row (codes "fst") (e no_place) fst
-    ∷ row (codes "snd") (e no_place) snd
-    ∷ row (codes "neg") (e no_place) neg
-    ∷ row (codes "not") (e no_place) not_expr
-    ∷ row (codes "event") (e no_place) event_expr
-    ∷ row (codes "len") (e no_place) len
+abbrev pub unary_productions : List (Production LeafSort LeafTree Expression)
+unary_productions =
+    production (codes "fst") (e no_place) fst
+    ∷ production (codes "snd") (e no_place) snd
+    ∷ production (codes "neg") (e no_place) neg
+    ∷ production (codes "not") (e no_place) not_expr
+    ∷ production (codes "event") (e no_place) event_expr
+    ∷ production (codes "len") (e no_place) len
     ∷ []
 
 -- the forms of two expressions, the sugar last
-abbrev pub binary_rows : List (Row LeafSort LeafTree Expression)
-binary_rows =
-    row (codes "pair") (e (e no_place)) pair_expr
-    ∷ row (codes "then") (e (e no_place)) then_expr
-    ∷ row (codes "add") (e (e no_place)) add
-    ∷ row (codes "sub") (e (e no_place)) sub
-    ∷ row (codes "mul") (e (e no_place)) mul
-    ∷ row (codes "less") (e (e no_place)) less
-    ∷ row (codes "equal") (e (e no_place)) equal
-    ∷ row (codes "and") (e (e no_place)) and_expr
-    ∷ row (codes "or") (e (e no_place)) or_expr
-    ∷ row (codes "lMerge") (e (e no_place)) (λ a b. on a b (event_expr (snd input)))
+abbrev pub binary_productions : List (Production LeafSort LeafTree Expression)
+binary_productions =
+    production (codes "pair") (e (e no_place)) pair_expr
+    ∷ production (codes "then") (e (e no_place)) then_expr
+    ∷ production (codes "add") (e (e no_place)) add
+    ∷ production (codes "sub") (e (e no_place)) sub
+    ∷ production (codes "mul") (e (e no_place)) mul
+    ∷ production (codes "less") (e (e no_place)) less
+    ∷ production (codes "equal") (e (e no_place)) equal
+    ∷ production (codes "and") (e (e no_place)) and_expr
+    ∷ production (codes "or") (e (e no_place)) or_expr
+    ∷ production (codes "lMerge") (e (e no_place)) (λ a b. on a b (event_expr (snd input)))
     ∷ []
 
 -- the forms of three expressions
-abbrev pub ternary_rows : List (Row LeafSort LeafTree Expression)
-ternary_rows = row (codes "if") (e (e (e no_place))) if_expr
-    ∷ row (codes "on") (e (e (e no_place))) on ∷ row (codes "nth") (e (e (e no_place))) nth ∷ []
+abbrev pub ternary_productions : List (Production LeafSort LeafTree Expression)
+ternary_productions = production (codes "if") (e (e (e no_place))) if_expr
+    ∷ production (codes "on") (e (e (e no_place))) on
+    ∷ production (codes "nth") (e (e (e no_place))) nth ∷ []
 
 -- the sugar of a type and two expressions
-abbrev pub typed_rows : List (Row LeafSort LeafTree Expression)
-typed_rows =
-    row (codes "gate") (t (e (e no_place))) (λ T a b. if_expr b a (no_event_expr T))
-    ∷ row (codes "tag") (t (e (e no_place)))
+abbrev pub typed_productions : List (Production LeafSort LeafTree Expression)
+typed_productions =
+    production (codes "gate") (t (e (e no_place))) (λ T a b. if_expr b a (no_event_expr T))
+    ∷ production (codes "tag") (t (e (e no_place)))
     (λ T a c. on a (no_event_expr T) (event_expr (then_expr (fst input) c)))
-    ∷ row (codes "attach") (t (e (e no_place)))
+    ∷ production (codes "attach") (t (e (e no_place)))
     (λ T a c. on a (no_event_expr T)
     (event_expr (pair_expr (snd input) (then_expr (fst input) c))))
     ∷ []
 
 -- forms: the word, the parts, and the tree that they make
-unfoldable pub rows : (s : LeafSort) → List (Row LeafSort LeafTree (LeafTree s))
-rows type_sort = type_rows
-rows expression_sort = other_rows ++ unary_rows ++ binary_rows ++ ternary_rows ++ typed_rows
-rows index_sort = []
+unfoldable pub productions : (s : LeafSort) → List (Production LeafSort LeafTree (LeafTree s))
+productions type_sort = type_productions
+productions expression_sort = other_productions ++ unary_productions ++ binary_productions
+    ++ ternary_productions ++ typed_productions
+productions index_sort = []
 
 -- what a word is that no table has: an expression may be a number of 64 bits, a parameter's number
 -- is at most 65,535
@@ -120,8 +124,9 @@ unfoldable pub word_at : (s : LeafSort) → List ℕ → WordReading (LeafTree s
 word_at s w = word_among w (words s) (leaf_number_at s w)
 
 -- the form of the sort that a word begins
-unfoldable pub row_at : (s : LeafSort) → List ℕ → Option (Row LeafSort LeafTree (LeafTree s))
-row_at s w = row_among w (rows s)
+unfoldable pub production_at : (s : LeafSort) → List ℕ
+    → Option (Production LeafSort LeafTree (LeafTree s))
+production_at s w = production_among w (productions s)
 
 -- whether a tree of the sort may be a form, which begins with a parenthesis
 abbrev pub has_form : LeafSort → Bool
@@ -140,7 +145,7 @@ leaf =
       Sort = LeafSort;
       Tree = LeafTree;
       word_at = word_at;
-      row_at = row_at;
+      production_at = production_at;
       has_form =
           has_form;
       takes_number = takes_number;

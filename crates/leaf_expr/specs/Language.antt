@@ -17,16 +17,16 @@ Maker T (place s qs) R = T s → Maker T qs R
 Maker T (places s) R = List (T s) → R
 
 -- a form: its word, the parts that it takes, and what they make
-pub record Row (S : Type 0) (T : S → Type 0) (R : Type 0) : Type 0 where
+pub record Production (S : Type 0) (T : S → Type 0) (R : Type 0) : Type 0 where
   pub name : List ℕ
   pub takes : Places S
   pub makes : Maker T takes R
 
--- the row of a table that a word begins
-abbrev pub row_among : {S : Type 0} {T : S → Type 0} {R : Type 0} → List ℕ → List (Row S T R)
-    → Option (Row S T R)
-row_among w [] = None
-row_among w (x ∷ xs) = if bytes_eq w x.name then Some x else row_among w xs
+-- the production of a list that a word begins
+abbrev pub production_among : {S : Type 0} {T : S → Type 0} {R : Type 0} → List ℕ
+    → List (Production S T R) → Option (Production S T R)
+production_among w [] = None
+production_among w (x ∷ xs) = if bytes_eq w x.name then Some x else production_among w xs
 
 -- a language: its sorts, their trees, the words that are trees, and the forms
 pub record Language : Type 1 where
@@ -35,7 +35,7 @@ pub record Language : Type 1 where
   -- what a word is where a tree of the sort stands
   pub word_at : (s : Sort) → List ℕ → WordReading (Tree s)
   -- the form that a word begins
-  pub row_at : (s : Sort) → List ℕ → Option (Row Sort Tree (Tree s))
+  pub production_at : (s : Sort) → List ℕ → Option (Production Sort Tree (Tree s))
   pub has_form : Sort → Bool
   pub takes_number : Sort → Bool
 
@@ -49,7 +49,8 @@ module _ (L : Language) where
     -- the tree of the sort that a part means
     pub meant : (s : L.Sort) → Sexpr → Option (L.Tree s)
     meant s (atom w) = read_word (L.word_at s w)
-    meant s (form w ps) = option_and_then (λ r. make_tree s r.takes r.makes ps) (L.row_at s w)
+    meant s (form w ps) =
+        option_and_then (λ r. make_tree s r.takes r.makes ps) (L.production_at s w)
 
     -- what parts make
     pub make_tree : (s : L.Sort) → (qs : Places L.Sort) → Maker L.Tree qs (L.Tree s) → Sexprs

@@ -3,7 +3,7 @@ use Rattle.std.specs.Prelude.{◌≡◌, ◌↔◌, ℕ, zero, suc, ◌+◌, tru
 use Rattle.sample_core.specs.Number.{is_number_word}
 use Rattle.leaf_expr.specs.Token.{opening, closing, word, PlacedToken}
 use Rattle.leaf_expr.specs.Sexpr.{Sexpr, Spells}
-use Rattle.leaf_expr.specs.Language.{Language, Places, Row, no_place, place, places, Begins, meant}
+use Rattle.leaf_expr.specs.Language.{Language, Places, Production, no_place, place, places, Begins, meant}
 use Rattle.leaf_expr.specs.TreeReader.{read}
 use Rattle.leaf_expr.specs.declared.text_fault.ExprTextFault.{ExprTextFault}
 use Rattle.leaf_expr.specs.declared.text_fault.ExprTextFault.TheVariants.{Syntax, Number, TooDeep}
@@ -47,9 +47,9 @@ module _ (L : Language) where
     pub data TokensLead : L.Sort → List PlacedToken → Option L.Sort → ℕ → Type 0 where
       at_tree : {s : L.Sort} → TokensLead s [] (Some s) 0
       at_word : {s : L.Sort} {n : ℕ} → L.has_form s ≡ true → TokensLead s ((n, opening) ∷ []) None 1
-      in_form : {s : L.Sort} {n m : ℕ} {w : List ℕ} {r : Row L.Sort L.Tree (L.Tree s)}
+      in_form : {s : L.Sort} {n m : ℕ} {w : List ℕ} {r : Production L.Sort L.Tree (L.Tree s)}
           {us : List PlacedToken} {q : Option L.Sort} {d : ℕ} → L.has_form s ≡ true
-          → L.row_at s w ≡ Some r → TokensLeadIn r.takes us q d
+          → L.production_at s w ≡ Some r → TokensLeadIn r.takes us q d
           → TokensLead s ((n, opening) ∷ (m, word w) ∷ us) q (suc d)
 
     -- the same of the parts of a form

@@ -13,7 +13,7 @@ use Rattle.leaf_expr.specs.declared.word.WordFault.{WordFault}
 use Rattle.leaf_expr.specs.declared.word.WordFault.TheVariants as W
 use Rattle.leaf_expr.specs.Grammar.{leaf, LeafTree, LeafSort, expression_sort, e, word_at}
 use Rattle.leaf_expr.specs.TreeReader.{Read, word_read, read, read_head, read_form, read_parts, read_all}
-use Rattle.leaf_expr.specs.Language.{Row, no_place, place}
+use Rattle.leaf_expr.specs.Language.{Production, no_place, place}
 use Rattle.leaf_expr.specs.ReadLaws.{Stops}
 use Rattle.leaf_expr.specs.declared.text_fault.ExprTextFault.{ExprTextFault}
 use Rattle.sample_core.specs.Answer.{◌>>=◌, GivesUnless}
@@ -53,8 +53,10 @@ form_at s text room n = read_form leaf (length text) (read leaf (length text) ro
     (tokens_from n text)
 
 -- the parts of a form and its end, in the text from byte n on
-abbrev pub row_parts : {R : Type 0} → Row LeafSort LeafTree R → List ℕ → ℕ → ℕ → Read R
-row_parts r text room n = read_parts leaf (length text) (read leaf (length text) room) room r.takes
+abbrev pub production_parts : {R : Type 0} → Production LeafSort LeafTree R → List ℕ → ℕ → ℕ
+    → Read R
+production_parts r text room n =
+    read_parts leaf (length text) (read leaf (length text) room) room r.takes
     r.makes (tokens_from n text)
 
 -- the last part of a form, a tree of the sort, and the form's end, in the text from byte n on

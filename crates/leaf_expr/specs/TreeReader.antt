@@ -2,7 +2,7 @@
 use Rattle.std.specs.Prelude.{ℕ, zero, suc, ◌+◌, List, [], ◌∷◌, length, Option, Some, None, Result, Ok, Err, if◌then◌else◌}
 use Rattle.leaf_expr.specs.WordReading.{WordReading, reads, misspelt, unfit}
 use Rattle.leaf_expr.specs.Token.{opening, closing, word, PlacedToken}
-use Rattle.leaf_expr.specs.Language.{Language, Places, Maker, Row, no_place, place, places}
+use Rattle.leaf_expr.specs.Language.{Language, Places, Maker, Production, no_place, place, places}
 use Rattle.sample_core.specs.Answer.{◌>>=◌}
 use Rattle.leaf_expr.specs.declared.text_fault.ExprTextFault.{ExprTextFault}
 use Rattle.leaf_expr.specs.declared.text_fault.ExprTextFault.TheVariants.{Syntax, Number, TooDeep}
@@ -60,16 +60,16 @@ module _ (L : Language) (size : ℕ) where
   read_parts reader room (places s) make ts = read_all (reader s) (length ts) make ts
 
   -- what is read behind the word at n of a form
-  abbrev pub read_row : {R : Type 0} → ((q : L.Sort) → List PlacedToken → Read (L.Tree q)) → ℕ → ℕ
-      → Option (Row L.Sort L.Tree R) → List PlacedToken → Read R
-  read_row reader room n None ts = Err (Syntax n)
-  read_row reader room n (Some r) ts = read_parts reader room r.takes r.makes ts
+  abbrev pub read_production : {R : Type 0} → ((q : L.Sort) → List PlacedToken → Read (L.Tree q)) → ℕ
+      → ℕ → Option (Production L.Sort L.Tree R) → List PlacedToken → Read R
+  read_production reader room n None ts = Err (Syntax n)
+  read_production reader room n (Some r) ts = read_parts reader room r.takes r.makes ts
 
   -- what is read behind the parenthesis of a form
   abbrev pub read_form : ((q : L.Sort) → List PlacedToken → Read (L.Tree q)) → ℕ → (s : L.Sort)
       → List PlacedToken → Read (L.Tree s)
   read_form reader room s ts =
-      read_head room ts >>= (λ h. read_row reader room h.0 (L.row_at s h.1) h.2)
+      read_head room ts >>= (λ h. read_production reader room h.0 (L.production_at s h.1) h.2)
 
   -- a tree of the sort, with room for so many more parentheses
   abbrev pub read : ℕ → (s : L.Sort) → List PlacedToken → Read (L.Tree s)

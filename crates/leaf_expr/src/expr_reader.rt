@@ -4,9 +4,9 @@
 ghost use Rattle.std.specs.Prelude.{◌≡◌, ℕ, ◌-◌, ◌<◌, ◌≤◌, List, Err, IfOk, IfErr, length};
 ghost use Rattle.sample_core.specs.{TypeView.type_of, TypeTree.TypeTree};
 ghost use Rattle.leaf_core.specs.Expression.{Expression};
-ghost use Rattle.leaf_expr.specs.Form.{form_row, unary_row, binary_row, ternary_row, typed_row};
+ghost use Rattle.leaf_expr.specs.Form.{form_production, unary_production, binary_production, ternary_production, typed_production};
 ghost use Rattle.leaf_expr.specs.{Grammar.leaf, Grammar.expression_sort, Grammar.type_sort, Language.Begins};
-ghost use Rattle.leaf_expr.specs.ReadText.{GivesTree, tree_at, word_tree, form_at, row_parts, last_two_at, expression_left, type_left, items_at, items_left, IsFault};
+ghost use Rattle.leaf_expr.specs.ReadText.{GivesTree, tree_at, word_tree, form_at, production_parts, last_two_at, expression_left, type_left, items_at, items_left, IsFault};
 ghost use Rattle.leaf_core.specs.ExpressionView.{expression_of};
 ghost use Rattle.leaf_expr.specs.Text.{read_text, whole, IsText, IsTextFault};
 ghost use Rattle.leaf_expr.specs.Token.{PlacedToken, tokens_from};
@@ -67,7 +67,8 @@ fn form(alloc: Global, text: &[u8], at: usize, room: usize) -> Read<Expr>
 /// The parts of a form, and its end.
 #[cycle(read_expression)]
 fn parts(alloc: Global, text: &[u8], at: usize, room: usize, form: ExprForm) -> Read<Expr>
-    ensures { GivesTree (expression_left text.now) result (row_parts (form_row form) text.now room at) }
+    ensures { GivesTree (expression_left text.now) result
+        (production_parts (form_production form) text.now room at) }
 {
     match form {
         ExprForm::Param => param(text, at, room),
@@ -83,7 +84,7 @@ fn parts(alloc: Global, text: &[u8], at: usize, room: usize, form: ExprForm) -> 
 /// The number of a parameter, and the end of the form.
 fn param(text: &[u8], at: usize, room: usize) -> Read<Expr>
     ensures { GivesTree (expression_left text.now) result
-        (row_parts (form_row ExprForm.Param) text.now room at) }
+        (production_parts (form_production ExprForm.Param) text.now room at) }
 {
     let (k, at) = read_index(text, at, room)?;
     let end = form_end(text, at, room)?;
@@ -93,7 +94,7 @@ fn param(text: &[u8], at: usize, room: usize) -> Read<Expr>
 /// The type of no event, and the end of the form.
 fn no_event(alloc: Global, text: &[u8], at: usize, room: usize) -> Read<Expr>
     ensures { GivesTree (expression_left text.now) result
-        (row_parts (form_row ExprForm.NoEvent) text.now room at) }
+        (production_parts (form_production ExprForm.NoEvent) text.now room at) }
 {
     let (ty, at) = read_type(alloc, text, at, room)?;
     match form_end(text, at, room) {
@@ -131,7 +132,7 @@ fn last_two(alloc: Global, text: &[u8], at: usize, room: usize) -> Read<(ExprChi
 #[cycle(read_expression)]
 fn unary(alloc: Global, text: &[u8], at: usize, room: usize, form: Unary) -> Read<Expr>
     ensures { GivesTree (expression_left text.now) result
-        (row_parts (unary_row form) text.now room at) }
+        (production_parts (unary_production form) text.now room at) }
 {
     let (a, at) = part(alloc, text, at, room)?;
     let end = form_end(text, at, room)?;
@@ -142,7 +143,7 @@ fn unary(alloc: Global, text: &[u8], at: usize, room: usize, form: Unary) -> Rea
 #[cycle(read_expression)]
 fn binary(alloc: Global, text: &[u8], at: usize, room: usize, form: Binary) -> Read<Expr>
     ensures { GivesTree (expression_left text.now) result
-        (row_parts (binary_row form) text.now room at) }
+        (production_parts (binary_production form) text.now room at) }
 {
     let ((a, b), end) = last_two(alloc, text, at, room)?;
     Ok((form.of(alloc, a, b)?, end))
@@ -152,7 +153,7 @@ fn binary(alloc: Global, text: &[u8], at: usize, room: usize, form: Binary) -> R
 #[cycle(read_expression)]
 fn ternary(alloc: Global, text: &[u8], at: usize, room: usize, form: Ternary) -> Read<Expr>
     ensures { GivesTree (expression_left text.now) result
-        (row_parts (ternary_row form) text.now room at) }
+        (production_parts (ternary_production form) text.now room at) }
 {
     let (a, at) = part(alloc, text, at, room)?;
     let ((b, c), end) = last_two(alloc, text, at, room)?;
@@ -163,7 +164,7 @@ fn ternary(alloc: Global, text: &[u8], at: usize, room: usize, form: Ternary) ->
 #[cycle(read_expression)]
 fn typed(alloc: Global, text: &[u8], at: usize, room: usize, form: Typed) -> Read<Expr>
     ensures { GivesTree (expression_left text.now) result
-        (row_parts (typed_row form) text.now room at) }
+        (production_parts (typed_production form) text.now room at) }
 {
     let (ty, at) = read_type(alloc, text, at, room)?;
     let none = ExprChild::new(alloc, Expr::NoEvent(ty))?;
@@ -175,7 +176,7 @@ fn typed(alloc: Global, text: &[u8], at: usize, room: usize, form: Typed) -> Rea
 #[cycle(read_expression)]
 fn list(alloc: Global, text: &[u8], at: usize, room: usize) -> Read<Expr>
     ensures { GivesTree (expression_left text.now) result
-        (row_parts (form_row ExprForm.List) text.now room at) }
+        (production_parts (form_production ExprForm.List) text.now room at) }
 {
     let (ty, at) = read_type(alloc, text, at, room)?;
     match elements(alloc, text, at, room) {

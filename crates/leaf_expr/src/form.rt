@@ -3,9 +3,9 @@
 ghost use Rattle.std.specs.Prelude.{◌≡◌, IfOk, option_map};
 ghost use Rattle.leaf_core.specs.Expression.{input, fst, snd, then_expr, pair_expr, event_expr, on};
 ghost use Rattle.leaf_core.specs.ExpressionView.{expression_of};
-ghost use Rattle.leaf_expr.specs.Form.{form_row, unary_row, binary_row, ternary_row, typed_row, type_row};
-ghost use Rattle.leaf_expr.specs.Language.{row_among};
-ghost use Rattle.leaf_expr.specs.Grammar.{type_sort, expression_sort, row_at, other_rows, unary_rows, binary_rows, ternary_rows, typed_rows};
+ghost use Rattle.leaf_expr.specs.Form.{form_production, unary_production, binary_production, ternary_production, typed_production, type_production};
+ghost use Rattle.leaf_expr.specs.Language.{production_among};
+ghost use Rattle.leaf_expr.specs.Grammar.{type_sort, expression_sort, production_at, other_productions, unary_productions, binary_productions, ternary_productions, typed_productions};
 
 use leaf_core::{Expr, ExprChild};
 use sample_core::{Memory, word_is};
@@ -146,9 +146,9 @@ impl Typed {
 }
 
 /// The form of types that the word begins.
-#[tactic(auto, unfolding(crate::specs::Grammar::row_at, crate::specs::Grammar::rows))]
+#[tactic(auto, unfolding(crate::specs::Grammar::production_at, crate::specs::Grammar::productions))]
 pub(crate) fn type_form_named(word: &[u8]) -> Option<TypeForm>
-    ensures { option_map type_row result ≡ row_at type_sort word.now }
+    ensures { option_map type_production result ≡ production_at type_sort word.now }
 {
     if word_is(word, "Pair") {
         Some(TypeForm::Pair)
@@ -220,7 +220,7 @@ pub(crate) enum ExprForm {
 
 /// The form of two expressions that the word begins.
 fn binary_named(word: &[u8]) -> Option<Binary>
-    ensures { option_map binary_row result ≡ row_among word.now binary_rows }
+    ensures { option_map binary_production result ≡ production_among word.now binary_productions }
 {
     if word_is(word, "pair") {
         Some(Binary::Pair)
@@ -249,7 +249,7 @@ fn binary_named(word: &[u8]) -> Option<Binary>
 
 /// The form of one expression that the word begins.
 fn unary_named(word: &[u8]) -> Option<Unary>
-    ensures { option_map unary_row result ≡ row_among word.now unary_rows }
+    ensures { option_map unary_production result ≡ production_among word.now unary_productions }
 {
     if word_is(word, "fst") {
         Some(Unary::Fst)
@@ -270,7 +270,7 @@ fn unary_named(word: &[u8]) -> Option<Unary>
 
 /// The form of three expressions that the word begins.
 fn ternary_named(word: &[u8]) -> Option<Ternary>
-    ensures { option_map ternary_row result ≡ row_among word.now ternary_rows }
+    ensures { option_map ternary_production result ≡ production_among word.now ternary_productions }
 {
     if word_is(word, "if") {
         Some(Ternary::If)
@@ -285,7 +285,7 @@ fn ternary_named(word: &[u8]) -> Option<Ternary>
 
 /// The form of a type and two expressions that the word begins.
 fn typed_named(word: &[u8]) -> Option<Typed>
-    ensures { option_map typed_row result ≡ row_among word.now typed_rows }
+    ensures { option_map typed_production result ≡ production_among word.now typed_productions }
 {
     if word_is(word, "gate") {
         Some(Typed::Gate)
@@ -300,7 +300,7 @@ fn typed_named(word: &[u8]) -> Option<Typed>
 
 /// The form of other parts that the word begins.
 fn other_named(word: &[u8]) -> Option<ExprForm>
-    ensures { option_map form_row result ≡ row_among word.now other_rows }
+    ensures { option_map form_production result ≡ production_among word.now other_productions }
 {
     if word_is(word, "p") {
         Some(ExprForm::Param)
@@ -315,7 +315,7 @@ fn other_named(word: &[u8]) -> Option<ExprForm>
 
 /// The form of expressions that the word begins.
 pub(crate) fn form_named(word: &[u8]) -> Option<ExprForm>
-    ensures { option_map form_row result ≡ row_at expression_sort word.now }
+    ensures { option_map form_production result ≡ production_at expression_sort word.now }
 {
     if let Some(form) = other_named(word) {
         Some(form)

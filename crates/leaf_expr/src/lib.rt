@@ -8,8 +8,8 @@
 //! token that doesn't fit, with its byte. What is printed is read back within the limits of texts
 //! (`printing_laws`); shorter ways mean longer expressions (`sugar_laws`).
 //!
-//! First `specs/Grammar`, a row for each word, then `src/expr_reader.rt`; a form's word and what
-//! it makes stand in `src/form.rt`.
+//! First `specs/Grammar`, a production for each word, then `src/expr_reader.rt`; a form's word and
+//! what it makes stand in `src/form.rt`.
 #![tactic(auto)]
 
 mod expr_reader;

@@ -2,8 +2,8 @@
 #![tactic(auto, using(crate::proofs::Reading::reading))]
 
 ghost use Rattle.std.specs.Prelude.{◌≡◌, ◌<◌, ◌≤◌, length};
-ghost use Rattle.leaf_expr.specs.{Form.type_row, Grammar.type_sort};
-ghost use Rattle.leaf_expr.specs.ReadText.{GivesTree, tree_at, word_tree, form_at, row_parts, last_at, type_left};
+ghost use Rattle.leaf_expr.specs.{Form.type_production, Grammar.type_sort};
+ghost use Rattle.leaf_expr.specs.ReadText.{GivesTree, tree_at, word_tree, form_at, production_parts, last_at, type_left};
 ghost use Rattle.leaf_expr.specs.Token.{tokens_from};
 
 use crate::form::{TypeForm, type_form_named};
@@ -53,7 +53,8 @@ fn type_form(alloc: Global, text: &[u8], at: usize, room: usize) -> Read<Ty>
 /// The types of a form, and its end.
 #[cycle(read_type)]
 fn type_parts(alloc: Global, text: &[u8], at: usize, room: usize, form: TypeForm) -> Read<Ty>
-    ensures { GivesTree (type_left text.now) result (row_parts (type_row form) text.now room at) }
+    ensures { GivesTree (type_left text.now) result
+        (production_parts (type_production form) text.now room at) }
 {
     match form {
         TypeForm::Pair => pair_type(alloc, text, at, room),
@@ -72,7 +73,7 @@ fn type_parts(alloc: Global, text: &[u8], at: usize, room: usize, form: TypeForm
 #[cycle(read_type)]
 fn pair_type(alloc: Global, text: &[u8], at: usize, room: usize) -> Read<Ty>
     ensures { GivesTree (type_left text.now) result
-        (row_parts (type_row TypeForm.Pair) text.now room at) }
+        (production_parts (type_production TypeForm.Pair) text.now room at) }
 {
     let (a, at) = type_part(alloc, text, at, room)?;
     let (b, end) = last_type(alloc, text, at, room)?;

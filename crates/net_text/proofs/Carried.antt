@@ -3,11 +3,11 @@ use Rattle.std.proofs.Common.{◌≡◌, ℕ, zero, suc, List, [], ◌∷◌, le
 use Rattle.std.specs.Prelude.{option_map, option_and_then}
 use Rattle.leaf_expr.specs.Token.{opening, closing, word, PlacedToken}
 use Rattle.leaf_expr.specs.Sexpr.{Sexpr, Sexprs, atom, form, last, more}
-use Rattle.leaf_expr.specs.Language.{Places, Maker, Row, no_place, place, places, meant, make_tree}
-use Rattle.leaf_expr.specs.Grammar.{leaf, LeafSort, LeafTree, row_at, has_form}
-use Rattle.leaf_expr.specs.TreeReader.{Read, read, read_form, read_head, read_row, read_parts, read_all}
+use Rattle.leaf_expr.specs.Language.{Places, Maker, Production, no_place, place, places, meant, make_tree}
+use Rattle.leaf_expr.specs.Grammar.{leaf, LeafSort, LeafTree, production_at, has_form}
+use Rattle.leaf_expr.specs.TreeReader.{Read, read, read_form, read_head, read_production, read_parts, read_all}
 use Rattle.leaf_expr.proofs.PartSteps.{end_same, head_same}
-use Rattle.net_text.specs.Grammar.{Version, networks, NetSort, NetTree, leaf_sort, leaf_places, leaf_maker, leaf_row, net_word_at, net_row_at}
+use Rattle.net_text.specs.Grammar.{Version, networks, NetSort, NetTree, leaf_sort, leaf_places, leaf_maker, leaf_production, net_word_at, net_production_at}
 use Rattle.sample_core.specs.Answer.{◌>>=◌}
 use Rattle.leaf_expr.specs.declared.text_fault.ExprTextFault.{ExprTextFault}
 use Rattle.leaf_expr.specs.declared.text_fault.ExprTextFault.TheVariants as E
@@ -38,15 +38,15 @@ module _ (v : Version) (size : ℕ) where
         ∙ bind_same (h s ts) _ _ (λ x. parts_same R qs (make x.0) x.2)
     parts_same R (places s) make ts = all_same (g (leaf_sort s)) (h s) (same s) (length ts) make ts
 
-    row_same : {R : Type 0} (n : ℕ) (o : Option (Row LeafSort LeafTree R)) (ts : List PlacedToken)
-        → read_row (networks v) size g room n (option_map leaf_row o) ts ≡ read_row leaf size h room n o ts
-    row_same n None ts = refl
-    row_same {R = R} n (Some r) ts = parts_same R r.takes r.makes ts
+    production_same : {R : Type 0} (n : ℕ) (o : Option (Production LeafSort LeafTree R)) (ts : List PlacedToken)
+        → read_production (networks v) size g room n (option_map leaf_production o) ts ≡ read_production leaf size h room n o ts
+    production_same n None ts = refl
+    production_same {R = R} n (Some r) ts = parts_same R r.takes r.makes ts
 
     form_same : (s : LeafSort) (ts : List PlacedToken) → read_form (networks v) size g room (leaf_sort s) ts ≡ read_form leaf size h room s ts
-    unfolding net_row_at
-    form_same s ts = ap (λ r. r >>= (λ k. read_row (networks v) size g room k.0 (net_row_at v (leaf_sort s) k.1) k.2)) (head_same (networks v) size room ts)
-        ∙ bind_same (read_head leaf size room ts) _ _ (λ k. row_same k.0 (row_at s k.1) k.2)
+    unfolding net_production_at
+    form_same s ts = ap (λ r. r >>= (λ k. read_production (networks v) size g room k.0 (net_production_at v (leaf_sort s) k.1) k.2)) (head_same (networks v) size room ts)
+        ∙ bind_same (read_head leaf size room ts) _ _ (λ k. production_same k.0 (production_at s k.1) k.2)
 
   pub read_same : (room : ℕ) (s : LeafSort) (ts : List PlacedToken) → read (networks v) size room (leaf_sort s) ts ≡ read leaf size room s ts
   unfolding net_word_at
@@ -57,24 +57,24 @@ module _ (v : Version) (size : ℕ) where
   read_same (suc room) s ((n, opening) ∷ ts) = ap (λ r. if has_form s then r else Err (E.Syntax n))
       (form_same (read (networks v) size room) (read leaf size room) (read_same room) room s ts)
 
-with_row : (v : Version) (s : LeafSort) (o : Option (Row LeafSort LeafTree (LeafTree s))) (ps : Sexprs)
+with_production : (v : Version) (s : LeafSort) (o : Option (Production LeafSort LeafTree (LeafTree s))) (ps : Sexprs)
     → ((qs : Places LeafSort) (make : Maker LeafTree qs (LeafTree s))
     → make_tree (networks v) (leaf_sort s) (leaf_places qs) (leaf_maker (LeafTree s) qs make) ps ≡ make_tree leaf s qs make ps)
-    → option_and_then (λ r. make_tree (networks v) (leaf_sort s) r.takes r.makes ps) (option_map leaf_row o)
+    → option_and_then (λ r. make_tree (networks v) (leaf_sort s) r.takes r.makes ps) (option_map leaf_production o)
     ≡ option_and_then (λ r. make_tree leaf s r.takes r.makes ps) o
-with_row v s None ps same = refl
-with_row v s (Some r) ps same = same r.takes r.makes
+with_production v s None ps same = refl
+with_production v s (Some r) ps same = same r.takes r.makes
 
 then_same : {A B : Type 0} (o : Option A) (g h : A → Option B) → ((x : A) → g x ≡ h x) → option_and_then g o ≡ option_and_then h o
 then_same None g h same = refl
 then_same (Some x) g h same = same x
 
 mutual
-  unfolding net_word_at net_row_at
+  unfolding net_word_at net_production_at
 
   pub meaning_same : (v : Version) (s : LeafSort) (p : Sexpr) → meant (networks v) (leaf_sort s) p ≡ meant leaf s p
   meaning_same v s (atom w) = refl
-  meaning_same v s (form w ps) = with_row v s (row_at s w) ps (λ qs make. made_same v s qs make ps)
+  meaning_same v s (form w ps) = with_production v s (production_at s w) ps (λ qs make. made_same v s qs make ps)
 
   pub made_same : (v : Version) (s : LeafSort) (qs : Places LeafSort) (make : Maker LeafTree qs (LeafTree s)) (ps : Sexprs)
       → make_tree (networks v) (leaf_sort s) (leaf_places qs) (leaf_maker (LeafTree s) qs make) ps ≡ make_tree leaf s qs make ps

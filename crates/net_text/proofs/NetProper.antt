@@ -9,13 +9,13 @@ use Rattle.leaf_expr.specs.Grammar.{leaf, LeafSort}
 use Rattle.leaf_expr.specs.ReadLaws.{Completes}
 use Rattle.leaf_expr.proofs.Proper.{Proper}
 use Rattle.leaf_expr.proofs.LeafProper.{leaf_proper, among_unread, chosen_misspelt, chosen_unfit}
-use Rattle.net_text.specs.Grammar.{Version, networks, NetSort, leaf_sort, network_sort, members_sort, time_sort, Timer, delay_timer, after_timer, repeatedly_timer, least, greatest_time, net_words, net_word_at, net_rows, net_row_at, col_rows, net_has_form, net_takes_number, leaf_row}
+use Rattle.net_text.specs.Grammar.{Version, networks, NetSort, leaf_sort, network_sort, members_sort, time_sort, Timer, delay_timer, after_timer, repeatedly_timer, least, greatest_time, net_words, net_word_at, net_productions, net_production_at, col_productions, net_has_form, net_takes_number, leaf_production}
 use Rattle.net_text.proofs.Carried.{meaning_same}
 use Rattle.net_text.proofs.Completed.{by_word, by_form, with_opening}
 
-formless : (v : Version) (s : NetSort) (w : List ℕ) → net_has_form s ≡ false → net_row_at v s w ≡ None
-unfolding net_row_at
-formless v (leaf_sort s) w h = ap (option_map leaf_row) (leaf_proper.formless s w h)
+formless : (v : Version) (s : NetSort) (w : List ℕ) → net_has_form s ≡ false → net_production_at v s w ≡ None
+unfolding net_production_at
+formless v (leaf_sort s) w h = ap (option_map leaf_production) (leaf_proper.formless s w h)
 formless v network_sort w h = absurd (cc)
 formless v members_sort w h = absurd (cc)
 formless v (time_sort g) w h = refl
@@ -45,7 +45,7 @@ one_fits after_timer = refl
 one_fits repeatedly_timer = refl
 
 opener : (v : Version) (s : NetSort) (n : ℕ) → net_has_form s ≡ true → Completes (networks v) s ((n, opening) ∷ [])
-unfolding net_word_at net_words net_row_at net_rows col_rows
+unfolding net_word_at net_words net_production_at net_productions col_productions
 opener v (leaf_sort s) n h = carry v s ((n, opening) ∷ []) (leaf_proper.opener s n h)
 opener v network_sort n h = by_form (networks v) network_sort n (codes "parB") refl
 opener v members_sort n h = by_form (networks v) members_sort n (codes "col") refl

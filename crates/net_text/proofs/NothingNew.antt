@@ -4,11 +4,11 @@ use Rattle.std.specs.Prelude.{bytes_eq}
 use Rattle.leaf_core.specs.Expression.{Expression}
 use Rattle.leaf_expr.specs.WordReading.{reads, unfit}
 use Rattle.leaf_expr.specs.Sexpr.{Sexpr, Sexprs, atom, form, last, more}
-use Rattle.leaf_expr.specs.Language.{Places, Maker, Row, no_place, place, places, row_among, read_word, meant, make_tree}
+use Rattle.leaf_expr.specs.Language.{Places, Maker, Production, no_place, place, places, production_among, read_word, meant, make_tree}
 use Rattle.leaf_expr.specs.Grammar.{word_among}
 use Rattle.leaf_expr.proofs.ReadOnly.{some_bind}
 use Rattle.net_tree.specs.Network.{Network, networks_of}
-use Rattle.net_text.specs.Grammar.{version_1, networks, NetSort, NetTree, leaf_sort, network_sort, members_sort, time_sort, net_words, net_word_at, net_row_at, net_rows, col_rows}
+use Rattle.net_text.specs.Grammar.{version_1, networks, NetSort, NetTree, leaf_sort, network_sort, members_sort, time_sort, net_words, net_word_at, net_production_at, net_productions, col_productions}
 use Rattle.net_text.specs.Printing.{is_new, are_new}
 use Rattle.net_text.specs.FileLaws.{NothingNewLaw}
 
@@ -32,20 +32,20 @@ Keeps s no_place x = Older s x
 Keeps s (place q qs) make = (y : NetTree q) → Older q y → Keeps s qs (make y)
 Keeps s (places q) make = (ys : List (NetTree q)) → AllOlder q ys → Older s (make ys)
 
-abbrev RowKeeps : (s : NetSort) → Row NetSort NetTree (NetTree s) → Type 0
-RowKeeps s r = Keeps s r.takes r.makes
+abbrev ProductionKeeps : (s : NetSort) → Production NetSort NetTree (NetTree s) → Type 0
+ProductionKeeps s r = Keeps s r.takes r.makes
 
-abbrev AllKeep : (s : NetSort) → List (Row NetSort NetTree (NetTree s)) → Type 0
+abbrev AllKeep : (s : NetSort) → List (Production NetSort NetTree (NetTree s)) → Type 0
 AllKeep s [] = Unit {0}
-AllKeep s (r ∷ rs) = RowKeeps s r × AllKeep s rs
+AllKeep s (r ∷ rs) = ProductionKeeps s r × AllKeep s rs
 
-among : (s : NetSort) (w : List ℕ) (rs : List (Row NetSort NetTree (NetTree s))) (r : Row NetSort NetTree (NetTree s)) → AllKeep s rs
-    → row_among w rs ≡ Some r → RowKeeps s r
+among : (s : NetSort) (w : List ℕ) (rs : List (Production NetSort NetTree (NetTree s))) (r : Production NetSort NetTree (NetTree s)) → AllKeep s rs
+    → production_among w rs ≡ Some r → ProductionKeeps s r
 among s w [] r k e = absurd (cc)
 among s w (x ∷ rs) r k e = go (bytes_eq w x.name) (among s w rs r k.1) e
   where
-    go : (b : Bool) → (row_among w rs ≡ Some r → RowKeeps s r) → (if b then Some x else row_among w rs) ≡ Some r → RowKeeps s r
-    go true f p = subst (RowKeeps s) (some_is p) k.0
+    go : (b : Bool) → (production_among w rs ≡ Some r → ProductionKeeps s r) → (if b then Some x else production_among w rs) ≡ Some r → ProductionKeeps s r
+    go true f p = subst (ProductionKeeps s) (some_is p) k.0
     go false f p = f p
 
 -- neither of two
@@ -62,8 +62,8 @@ none_new (f ∷ fs) a = neither (is_new f) (are_new (networks_of fs)) a.0 (none_
 abbrev also : {P Q : Type 0} → P → Q → P × Q
 also p q = (p, q)
 
-forms_keep : AllKeep network_sort (net_rows version_1)
-unfolding net_rows
+forms_keep : AllKeep network_sort (net_productions version_1)
+unfolding net_productions
 forms_keep =
     also (λ e _. refl)
     (also (λ c _. refl)
@@ -90,8 +90,8 @@ forms_keep =
     (also (λ k _. refl)
     (also (λ T _. refl) tt)))))))))))))))))))))))
 
-members_keep : AllKeep members_sort col_rows
-unfolding col_rows
+members_keep : AllKeep members_sort col_productions
+unfolding col_productions
 members_keep = (λ fs a. none_new fs a, tt)
 
 -- words
@@ -114,7 +114,7 @@ unfolding net_words
 words_older = also refl (also refl (also refl (also refl tt)))
 
 mutual
-  unfolding net_word_at net_row_at
+  unfolding net_word_at net_production_at
 
   nothing_new : (s : NetSort) (p : Sexpr) (x : NetTree s) → meant (networks version_1) s p ≡ Some x → Older s x
   nothing_new (leaf_sort s) p x e = tt
@@ -122,15 +122,15 @@ mutual
   nothing_new network_sort (atom w) x e = word_older w net_words x words_older e
   nothing_new members_sort (atom w) x e = absurd (cc)
   nothing_new network_sort (form w ps) x e =
-      let i : (r : Row NetSort NetTree (Network Expression)) × (row_among w (net_rows version_1) ≡ Some r)
+      let i : (r : Production NetSort NetTree (Network Expression)) × (production_among w (net_productions version_1) ≡ Some r)
       × (make_tree (networks version_1) network_sort r.takes r.makes ps ≡ Some x) =
-      some_bind (row_among w (net_rows version_1)) (λ r. make_tree (networks version_1) network_sort r.takes r.makes ps) x e in
-      made network_sort i.0.takes i.0.makes ps x (among network_sort w (net_rows version_1) i.0 forms_keep i.1) i.2
+      some_bind (production_among w (net_productions version_1)) (λ r. make_tree (networks version_1) network_sort r.takes r.makes ps) x e in
+      made network_sort i.0.takes i.0.makes ps x (among network_sort w (net_productions version_1) i.0 forms_keep i.1) i.2
   nothing_new members_sort (form w ps) x e =
-      let i : (r : Row NetSort NetTree (NetTree members_sort)) × (row_among w col_rows ≡ Some r)
+      let i : (r : Production NetSort NetTree (NetTree members_sort)) × (production_among w col_productions ≡ Some r)
       × (make_tree (networks version_1) members_sort r.takes r.makes ps ≡ Some x) =
-      some_bind (row_among w col_rows) (λ r. make_tree (networks version_1) members_sort r.takes r.makes ps) x e in
-      made members_sort i.0.takes i.0.makes ps x (among members_sort w col_rows i.0 members_keep i.1) i.2
+      some_bind (production_among w col_productions) (λ r. make_tree (networks version_1) members_sort r.takes r.makes ps) x e in
+      made members_sort i.0.takes i.0.makes ps x (among members_sort w col_productions i.0 members_keep i.1) i.2
 
   made : (s : NetSort) (qs : Places NetSort) (make : Maker NetTree qs (NetTree s)) (ps : Sexprs) (x : NetTree s) → Keeps s qs make
       → make_tree (networks version_1) s qs make ps ≡ Some x → Older s x

@@ -2,19 +2,19 @@
 use Rattle.std.proofs.Common.{◌≡◌, ℕ, List, ◌∷◌, ap, ◌∙◌, Some}
 use Rattle.std.specs.Prelude.{option_and_then}
 use Rattle.leaf_expr.specs.Sexpr.{Sexpr, Sexprs, atom, form, last, more}
-use Rattle.leaf_expr.specs.Language.{Places, Maker, Row, no_place, place, places, meant, make_tree}
+use Rattle.leaf_expr.specs.Language.{Places, Maker, Production, no_place, place, places, meant, make_tree}
 use Rattle.leaf_expr.proofs.Forms.{hit}
 use Rattle.leaf_expr.proofs.ReadOnly.{some_bind}
-use Rattle.net_text.specs.Grammar.{version_1, version_2, networks, NetSort, NetTree, leaf_sort, network_sort, members_sort, time_sort, net_word_at, net_row_at, net_rows, new_rows}
+use Rattle.net_text.specs.Grammar.{version_1, version_2, networks, NetSort, NetTree, leaf_sort, network_sort, members_sort, time_sort, net_word_at, net_production_at, net_productions, new_productions}
 use Rattle.net_text.specs.FileLaws.{OlderNetworkLaw}
 
 -- a form of the first version is one of the second
-older_row : (s : NetSort) (w : List ℕ) (r : Row NetSort NetTree (NetTree s)) → net_row_at version_1 s w ≡ Some r → net_row_at version_2 s w ≡ Some r
-unfolding net_row_at net_rows
-older_row (leaf_sort s) w r e = e
-older_row network_sort w r e = hit w (net_rows version_1) (new_rows version_2) r e
-older_row members_sort w r e = e
-older_row (time_sort g) w r e = e
+older_production : (s : NetSort) (w : List ℕ) (r : Production NetSort NetTree (NetTree s)) → net_production_at version_1 s w ≡ Some r → net_production_at version_2 s w ≡ Some r
+unfolding net_production_at net_productions
+older_production (leaf_sort s) w r e = e
+older_production network_sort w r e = hit w (net_productions version_1) (new_productions version_2) r e
+older_production members_sort w r e = e
+older_production (time_sort g) w r e = e
 
 mutual
   unfolding net_word_at
@@ -22,10 +22,10 @@ mutual
   older : (s : NetSort) (p : Sexpr) (x : NetTree s) → meant (networks version_1) s p ≡ Some x → meant (networks version_2) s p ≡ Some x
   older s (atom w) x e = e
   older s (form w ps) x e =
-      let i : (r : Row NetSort NetTree (NetTree s)) × (net_row_at version_1 s w ≡ Some r)
+      let i : (r : Production NetSort NetTree (NetTree s)) × (net_production_at version_1 s w ≡ Some r)
       × (make_tree (networks version_1) s r.takes r.makes ps ≡ Some x) =
-      some_bind (net_row_at version_1 s w) (λ r. make_tree (networks version_1) s r.takes r.makes ps) x e in
-      ap (option_and_then (λ r. make_tree (networks version_2) s r.takes r.makes ps)) (older_row s w i.0 i.1)
+      some_bind (net_production_at version_1 s w) (λ r. make_tree (networks version_1) s r.takes r.makes ps) x e in
+      ap (option_and_then (λ r. make_tree (networks version_2) s r.takes r.makes ps)) (older_production s w i.0 i.1)
       ∙ older_made s i.0.takes i.0.makes ps x i.2
 
   older_made : (s : NetSort) (qs : Places NetSort) (make : Maker NetTree qs (NetTree s)) (ps : Sexprs) (x : NetTree s)

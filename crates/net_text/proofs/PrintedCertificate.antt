@@ -22,7 +22,7 @@ use Rattle.net_tree.specs.declared.law_step.Law.{Law}
 use Rattle.net_tree.specs.declared.law_step.Direction.{Direction}
 use Rattle.net_text.specs.Grammar.{Version, version_1, version_2, version_3}
 use Rattle.net_text.specs.Printing.{is_new, version_by, version_word}
-use Rattle.net_text.specs.StepGrammar.{last_leaf_law, last_law, step_parts, law_sort, direction_sort, position_sort, child_sort, step_word_at, step_row_at, directions, position_rows}
+use Rattle.net_text.specs.StepGrammar.{last_leaf_law, last_law, step_parts, law_sort, direction_sort, position_sort, child_sort, step_word_at, step_production_at, directions, position_productions}
 use Rattle.net_text.specs.CertificateLaws.{laws_tokens, IsGiven, no_tree, one_tree, IsStep, AreSteps, no_step, a_step}
 use Rattle.net_text.specs.CertificatePrinting.{law_spelling, direction_spelling, child_sexprs, tree_sexpr, given_sexprs, step_sexpr, step_lines, is_new_law, is_new_given, are_new_steps, is_third_law, are_third_steps, version_for, steps_version, IsLaw, ChildrenFit, GivenFits, StepFits, StepsFit, PrintedCertificateLaw}
 use Rattle.net_text.proofs.Carried.{meaning_same}
@@ -105,7 +105,7 @@ children_mean v (k ∷ ks) h make = let i : meant (step_parts v) child_sort (ato
     rw i (children_mean v ks h.1 (λ xs. make (k ∷ xs)))
 
 position_means : (v : Version) (ks : List ℕ) → ChildrenFit ks → meant (step_parts v) position_sort (form (codes "at") (child_sexprs ks)) ≡ Some ks
-unfolding step_row_at position_rows
+unfolding step_production_at position_productions
 position_means v ks h = children_mean v ks h (λ xs. xs)
 
 children_plain : (ks : List ℕ) → ChildrenFit ks → all_plain (child_sexprs ks) ≡ true

@@ -16,7 +16,7 @@ use Rattle.leaf_expr.proofs.TokenLaws.{spells_printed}
 use Rattle.leaf_expr.specs.declared.type_reader.TheConstants.{MOST_OPEN}
 use Rattle.leaf_expr.specs.declared.number_reader.TheConstants.{MOST_INDEX}
 use Rattle.net_tree.specs.Network.{Network, Networks, networks_of, arr, seq, first, par, loop_pre, initial_out, initial_in, i_pre, delay, hold, accum_by, after, repeatedly, time, integral, switch, r_switch, rp_switch, k_switch, p_switch, old, no_members, and_member, at_once, delayed}
-use Rattle.net_text.specs.Grammar.{Version, version_1, version_2, version_3, networks, network_sort, members_sort, leaf_sort, time_sort, Timer, delay_timer, after_timer, repeatedly_timer, least, greatest_time, net_word_at, net_words, net_row_at, net_rows, col_rows}
+use Rattle.net_text.specs.Grammar.{Version, version_1, version_2, version_3, networks, network_sort, members_sort, leaf_sort, time_sort, Timer, delay_timer, after_timer, repeatedly_timer, least, greatest_time, net_word_at, net_words, net_production_at, net_productions, col_productions}
 use Rattle.net_text.specs.Printing.{network_sexpr, network_sexprs, is_new, are_new, version_by, version_word, Writable, AllWritable, TimeFits}
 use Rattle.net_text.specs.FileLaws.{PrintedFileLaw, IsOfNetworks, header_tokens}
 use Rattle.net_text.proofs.Carried.{meaning_same}
@@ -76,7 +76,7 @@ third_allows new e q = cc
 
 -- a printed network means the network, and its words are words
 mutual
-  unfolding net_word_at net_words net_row_at net_rows col_rows listed
+  unfolding net_word_at net_words net_production_at net_productions col_productions listed
 
   pub printed : (f : Network Expression) (v : Version) → Writable f → Allows v (is_new f)
       → (meant (networks v) network_sort (network_sexpr f) ≡ Some f) × (plain_sexpr (network_sexpr f) ≡ true)

@@ -22,17 +22,17 @@ use Rattle.net_tree.specs.declared.forms.FedForm.{FedForm}
 use Rattle.net_tree.specs.declared.forms.FedForm.TheVariants as D
 use Rattle.net_tree.specs.NetworkView.{tree_of, members_of}
 use Rattle.net_tree.specs.declared.net.Net.{Net}
-use Rattle.net_text.specs.Grammar.{Version, networks, NetSort, NetTree, network_sort, members_sort, leaf_sort, time_sort, Timer, least, greatest_time, net_form, net_row_at, net_word_at, col_rows}
+use Rattle.net_text.specs.Grammar.{Version, networks, NetSort, NetTree, network_sort, members_sort, leaf_sort, time_sort, Timer, least, greatest_time, net_form, net_production_at, net_word_at, col_productions}
 use Rattle.net_text.proofs.Carried.{read_same}
 
 -- `col` alone begins the members of `pSwitch` and `rpSwitchB`
 pub col_named : (v : Version) (w : List ℕ) → bytes_eq w (codes "col") ≡ true
-    → Some (net_form (codes "col") (places network_sort) networks_of) ≡ net_row_at v members_sort w
-unfolding net_row_at col_rows
+    → Some (net_form (codes "col") (places network_sort) networks_of) ≡ net_production_at v members_sort w
+unfolding net_production_at col_productions
 col_named v w e = rw e refl
 
-pub col_unnamed : (v : Version) (w : List ℕ) → bytes_eq w (codes "col") ≡ false → None ≡ net_row_at v members_sort w
-unfolding net_row_at col_rows
+pub col_unnamed : (v : Version) (w : List ℕ) → bytes_eq w (codes "col") ≡ false → None ≡ net_production_at v members_sort w
+unfolding net_production_at col_productions
 col_unnamed v w e = rw e refl
 
 -- the members of `pSwitch` and `rpSwitchB` are no word

@@ -9,11 +9,11 @@ use Rattle.leaf_expr.specs.ReadLaws.{Completes}
 use Rattle.leaf_expr.proofs.Proper.{Proper}
 use Rattle.leaf_expr.proofs.LeafProper.{among_unread, chosen_misspelt, chosen_unfit}
 use Rattle.net_text.specs.Grammar.{Version, version_1, version_2, version_3}
-use Rattle.net_text.specs.StepGrammar.{step_parts, StepSort, law_sort, direction_sort, position_sort, child_sort, law_named, directions, position_rows, step_word_at, step_row_at, step_has_form, step_takes_number}
+use Rattle.net_text.specs.StepGrammar.{step_parts, StepSort, law_sort, direction_sort, position_sort, child_sort, law_named, directions, position_productions, step_word_at, step_production_at, step_has_form, step_takes_number}
 use Rattle.net_text.proofs.Completed.{by_word, by_form, with_opening}
 
-formless : (s : StepSort) (w : List ℕ) → step_has_form s ≡ false → step_row_at s w ≡ None
-unfolding step_row_at
+formless : (s : StepSort) (w : List ℕ) → step_has_form s ≡ false → step_production_at s w ≡ None
+unfolding step_production_at
 formless law_sort w h = refl
 formless direction_sort w h = refl
 formless position_sort w h = absurd (cc)
@@ -38,7 +38,7 @@ foreign v position_sort w e = refl
 foreign v child_sort w e = chosen_unfit (is_number_word w) _ _ e
 
 opener : (v : Version) (s : StepSort) (n : ℕ) → step_has_form s ≡ true → Completes (step_parts v) s ((n, opening) ∷ [])
-unfolding step_word_at step_row_at position_rows
+unfolding step_word_at step_production_at position_productions
 opener v law_sort n h = absurd (cc)
 opener v direction_sort n h = absurd (cc)
 opener v position_sort n h = by_form (step_parts v) position_sort n (codes "at") refl

@@ -18,7 +18,7 @@ use Rattle.net_tree.specs.NetworkView.{tree_of}
 use Rattle.net_tree.specs.declared.net.Net.{Net}
 use Rattle.net_text.specs.Grammar.{networks, NetSort, NetTree, network_sort, net_word_at, e, f, col}
 use Rattle.net_text.specs.File.{at_end}
-use Rattle.net_text.specs.Form.{net_form_row, version_of}
+use Rattle.net_text.specs.Form.{net_form_production, version_of}
 use Rattle.net_text.specs.declared.form.NetForm.{NetForm}
 use Rattle.net_text.specs.declared.text.Text.{Text}
 use Rattle.net_text.specs.declared.fault.NetTextFault.{NetTextFault}
@@ -90,7 +90,7 @@ members_left text x = (map_networks expression_of x.0, x.1, from_byte x.1 text)
 -- byte n on, unless memory ran out
 abbrev pub GivesForm : Result (Net Expr × ℕ) ExprTextFault → NetForm → Text → ℕ → ℕ → Type 0
 GivesForm result form text room n = GivesTree (network_left text) result
-    (parts_at (net_form_row form).takes (net_form_row form).makes text room n)
+    (parts_at (net_form_production form).takes (net_form_production form).makes text room n)
 
 -- what the call returned is what reading gives, unless memory ran out
 abbrev pub GivesFile : Result (Ty × Net Expr) NetTextFault

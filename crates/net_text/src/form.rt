@@ -4,9 +4,9 @@ ghost use Rattle.std.specs.Prelude.{◌≡◌, ◌≤◌, ◌^◌, IfOk, option_
 ghost use Rattle.leaf_core.specs.ExpressionView.{expression_of};
 ghost use Rattle.leaf_expr.specs.ReadText.{fit};
 ghost use Rattle.net_tree.specs.{Network.map_network, NetworkView.tree_of};
-ghost use Rattle.net_text.specs.Form.{net_form_row, version_of, net_word_of};
-ghost use Rattle.leaf_expr.specs.Language.{row_among};
-ghost use Rattle.net_text.specs.Grammar.{cell_rows, pair_rows, other_net_rows, new_rows, second_rows, net_row_at, net_word_at, network_sort};
+ghost use Rattle.net_text.specs.Form.{net_form_production, version_of, net_word_of};
+ghost use Rattle.leaf_expr.specs.Language.{production_among};
+ghost use Rattle.net_text.specs.Grammar.{cell_productions, pair_productions, other_net_productions, new_productions, second_productions, net_production_at, net_word_at, network_sort};
 
 use crate::sugar::{Made, accum_hold_by, beside, constant, edge, fan_out, second};
 use crate::text::Version;
@@ -214,7 +214,7 @@ impl NetBinary {
 
 /// The form without networks that the word begins.
 fn cell_named(word: &[u8]) -> Option<NetForm>
-    ensures { option_map net_form_row result ≡ row_among word.now cell_rows }
+    ensures { option_map net_form_production result ≡ production_among word.now cell_productions }
 {
     if word_is(word, "arr") {
         Some(NetForm::Leaf(NetLeafForm::Arr))
@@ -243,7 +243,7 @@ fn cell_named(word: &[u8]) -> Option<NetForm>
 
 /// The form of one or two networks that the word begins.
 fn pair_named(word: &[u8]) -> Option<NetForm>
-    ensures { option_map net_form_row result ≡ row_among word.now pair_rows }
+    ensures { option_map net_form_production result ≡ production_among word.now pair_productions }
 {
     if word_is(word, "first") {
         Some(NetForm::Unary(NetUnary::First))
@@ -268,7 +268,8 @@ fn pair_named(word: &[u8]) -> Option<NetForm>
 
 /// The form of other parts that the word begins.
 fn other_named(word: &[u8]) -> Option<NetForm>
-    ensures { option_map net_form_row result ≡ row_among word.now other_net_rows }
+    ensures { option_map net_form_production result
+        ≡ production_among word.now other_net_productions }
 {
     if word_is(word, "loopPre") {
         Some(NetForm::Fed(FedForm::LoopPre))
@@ -289,7 +290,7 @@ fn other_named(word: &[u8]) -> Option<NetForm>
 
 /// The form of the second version alone that the word begins.
 fn new_named(word: &[u8]) -> Option<NetForm>
-    ensures { option_map net_form_row result ≡ row_among word.now second_rows }
+    ensures { option_map net_form_production result ≡ production_among word.now second_productions }
 {
     if word_is(word, "-->") {
         Some(NetForm::Fed(FedForm::InitialOut))
@@ -306,7 +307,8 @@ fn new_named(word: &[u8]) -> Option<NetForm>
 
 /// The form that the word begins in that version, and not in the first.
 fn added_named(word: &[u8], version: Version) -> Option<NetForm>
-    ensures { option_map net_form_row result ≡ row_among word.now (new_rows (version_of version)) }
+    ensures { option_map net_form_production result
+        ≡ production_among word.now (new_productions (version_of version)) }
 {
     match version {
         Version::One => None,
@@ -316,7 +318,8 @@ fn added_named(word: &[u8], version: Version) -> Option<NetForm>
 
 /// The form of networks that the word begins in that version.
 pub(crate) fn form_named(word: &[u8], version: Version) -> Option<NetForm>
-    ensures { option_map net_form_row result ≡ net_row_at (version_of version) network_sort word.now }
+    ensures { option_map net_form_production result
+        ≡ net_production_at (version_of version) network_sort word.now }
 {
     if let Some(form) = cell_named(word) {
         Some(form)

@@ -8,8 +8,8 @@
 //! (`IsFile`), and else the first token that doesn't fit, with its byte; `read_cert` the same of
 //! certificates. A print is read back within the limits of files.
 //!
-//! First `specs/Grammar`, a row for each word, then `src/network_reader.rt`; a form's word and
-//! what it makes stand in `src/form.rt`, certificates in `src/certificate_reader.rt`.
+//! First `specs/Grammar`, a production for each word, then `src/network_reader.rt`; a form's word
+//! and what it makes stand in `src/form.rt`, certificates in `src/certificate_reader.rt`.
 #![tactic(auto)]
 
 mod certificate_reader;

@@ -1,6 +1,6 @@
 use Rattle.std.proofs.Common.{◌∙◌, sym, ap}
 use Rattle.std.specs.Option.{option_map}
-use Rattle.leaf_expr.specs.Form.{form_row}
+use Rattle.leaf_expr.specs.Form.{form_production}
 use Rattle.leaf_expr.proofs.Forms.{in_other, in_unary, in_binary, in_ternary, in_typed}
 use Rattle.leaf_expr.proofs.form.form_named.Goals as goal
 
@@ -21,7 +21,7 @@ returns-in-Some-ternary_named c =
     (sym c.in-Some-ternary_named.ensures))
 
 pub returns-in_err-form : goal.returns-in_err-form
-returns-in_err-form c = ap (option_map form_row) c.from_residual.ensures ∙ c.in_err-form.ensures
+returns-in_err-form c = ap (option_map form_production) c.from_residual.ensures ∙ c.in_err-form.ensures
     ∙ sym
     (in_typed c.args.word.now (sym c.in_default.ensures) (sym c.in_default-unary_named.ensures) (sym c.in_default-binary_named.ensures)
     (sym c.in_default-ternary_named.ensures))
