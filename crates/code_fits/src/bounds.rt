@@ -6,11 +6,9 @@ use crate::types::{TypeRow, Types};
 use leaf_code::{Operation, Step};
 use leaf_core::Expr;
 use net_code::Function;
+use net_tree::MOST_MEMBERS;
 use sample_core::{Memory, Ty, TyChild};
 use std::alloc::Global;
-
-/// How many members an `rpSwitchB` has at most.
-pub const MOST_MEMBERS: usize = 64;
 
 /// Adds the types of a network's code to the table. Of each type the greatest length of its lists, at
 /// least 1, where those of the input have at most so many elements; of a type of no lists 0.

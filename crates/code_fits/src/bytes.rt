@@ -1,10 +1,10 @@
 // How many bytes values and what is kept take at most, where no type is aligned to more than 8 bytes.
 
-use crate::bounds::MOST_MEMBERS;
 use crate::layout::Layout;
 use crate::types::TypeRow;
 use cell_core::Form;
 use net_code::Function;
+use net_tree::MOST_MEMBERS;
 use sample_core::Memory;
 use std::alloc::Global;
 

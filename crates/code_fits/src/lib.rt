@@ -22,7 +22,6 @@ mod rules;
 mod types;
 mod walk;
 
-pub use bounds::MOST_MEMBERS;
 pub use laws::fit_laws;
 pub use layout::{Layout, Program};
 pub use program::{MOST_STATE, Refused, program_of};

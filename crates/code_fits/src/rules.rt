@@ -13,19 +13,13 @@ use crate::around::{
     Around, all_go, answers_many, equal, goes, has, keeps_none, kept, layout_at, leaf, leaf_at,
     leaf_beside, leaf_to, number_at, resumes, same, takes_over,
 };
-use crate::bounds::MOST_MEMBERS;
 use crate::types::TypeRow;
 use crate::walk::Unlaid;
 use cell_core::Form;
 use leaf_core::Expr;
 use net_code::Function;
+use net_tree::{MOST_DELAY, MOST_MEMBERS, MOST_WAIT};
 use sample_core::{Ty, TyChild};
-
-/// How many samples back a `delay` looks at most.
-const MOST_DELAY: u64 = 4_096;
-
-/// How long a timer waits at most: 2^62.
-const MOST_WAIT: u64 = 4_611_686_018_427_387_904;
 
 /// The function fits its layout, over those of earlier functions.
 pub(crate) fn function_fits(around: Around<'_>, function: &Function) -> Result<(), Unlaid>

@@ -5,7 +5,7 @@ use expr_improve::{Means, joined};
 use expr_laws::apply_expr;
 use law_rules::apply_law;
 use leaf_core::{Expr, part};
-use net_syntax::{child, replace};
+use net_syntax::{bound_in, child, replace};
 use net_tree::{Direction, Law, LawStep, MOST_HEIGHT, Net, NetChild, Position, Tree, TreeRef};
 use sample_core::{Memory, OutOfMemory};
 use std::alloc::Global;
@@ -323,23 +323,12 @@ fn below(spot: Spot<'_>, k: u32) -> Option<Spot<'_>> {
     match spot.tree {
         TreeRef::Net(net) => Some(Spot {
             tree: child(net, k)?,
-            olds: spot.olds.saturating_add(olds_in(net, k)),
+            olds: spot.olds.saturating_add(bound_in(net, k).olds),
         }),
         TreeRef::Expr(expr) => Some(Spot {
             tree: TreeRef::Expr(part(expr, k)?),
             olds: spot.olds,
         }),
-    }
-}
-
-/// How many frozen networks the network has in scope in its child k, beside those around it.
-fn olds_in(net: &Net<Expr>, k: u32) -> u32 {
-    match net {
-        Net::KSwitch(..) if k == 2 => 1,
-        Net::PSwitch(_, fs, _, _) if k as usize == fs.as_slice().len().saturating_add(2) => {
-            k.saturating_sub(2)
-        }
-        _ => 0,
     }
 }
 

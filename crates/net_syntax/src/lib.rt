@@ -36,7 +36,7 @@ pub use net_tree::{
     Direction, Law, LawStep, Members, Net, NetChild, Position, Tree, height, same_net, weight,
 };
 pub use part_types::{arrow_from, event_with, list_of, pair_under};
-pub use place::{Place, at, child, place_below};
+pub use place::{Binds, Place, at, bound_in, child, place_below};
 pub use replacing::replace;
 pub use scope::ScopeTypes;
 pub use standing::{Standing, child_standing, type_at};

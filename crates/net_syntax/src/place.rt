@@ -205,13 +205,15 @@ pub(crate) fn kind_behind(fs: &Members<Expr>, k: u32) -> StandsBehind
 
 /// How many parameters and frozen networks a network binds in a child.
 #[derive(Clone, Copy)]
-pub(crate) struct Binds {
-    pub(crate) params: u32,
-    pub(crate) olds: u32,
+pub struct Binds {
+    /// How many parameters.
+    pub params: u32,
+    /// How many frozen networks.
+    pub olds: u32,
 }
 
 /// How many the network binds in its child k.
-fn bound_in(net: &Net<Expr>, k: u32) -> Binds
+pub fn bound_in(net: &Net<Expr>, k: u32) -> Binds
     ensures { bound_in (tree_of net.now) k ≡ bound result.params result.olds }
 {
     match net {
