@@ -26,9 +26,9 @@ pub(crate) const MOST_IMPROVING: u64 = 10_000_000;
 const FEW_NODES: u64 = 100_000;
 
 /// What laws alone make of the source, meant to be faster, with the steps that lead there: at most
-/// 10,000, and their certificate is within the limits of files. Where the search finds nothing that
-/// costs less, what the optimiser makes of the source; where that costs no less either, the source
-/// and no step. `Memory` if allocation fails.
+/// 10,000, and their certificate is within the limits of files. It is what the search finds, or what
+/// the optimiser makes of the source, where that costs less; where neither costs less than the
+/// source, the source and no step. `Memory` if allocation fails.
 pub fn improve(alloc: Global, source: &TypedNet) -> Result<(Net<Expr>, Vec<LawStep>), Memory>
     ensures { IfOk result
         (λ answer. Improved source.now (tree_of answer.0) (map step_of answer.1.items)) }
@@ -45,20 +45,42 @@ pub(crate) fn improve_within(
     ensures { IfOk result
         (λ answer. Improved source.now (tree_of answer.0) (map step_of answer.1.items)) }
 {
+    let searched = searched_draft(means, source)?;
+    let is_found = is_better(means.alloc, &searched, source)?;
+    let best = if is_found { searched.net() } else { source };
+    let optimised = optimised_draft(means.alloc, source, best)?;
+    if is_better(means.alloc, &optimised, source)? {
+        return answered(means.alloc, optimised);
+    }
+    if is_found {
+        return answered(means.alloc, searched);
+    }
+    unchanged(means.alloc, source)
+}
+
+/// The draft of the moves that the search finds.
+fn searched_draft(means: &Means, source: &TypedNet) -> Result<Draft, Memory>
+    ensures { IfOk result (λ draft. draft.source ≡ source.now) }
+{
     let mut draft = Draft::new(means.alloc, source)?;
     make_moves(means, &mut draft)?;
     go_on_by_loops(means, &mut draft)?;
-    if is_better(means.alloc, &draft, source)? {
-        return answered(means.alloc, draft);
-    }
-    let mut draft = Draft::new(means.alloc, source)?;
-    let (net, steps) = optimise(means.alloc, source)?;
+    Ok(draft)
+}
+
+/// The draft of the optimiser's steps, where they lead to what costs less than the best so far; else
+/// one with no step.
+fn optimised_draft(alloc: Global, source: &TypedNet, best: &TypedNet) -> Result<Draft, Memory>
+    ensures { IfOk result (λ draft. draft.source ≡ source.now) }
+{
+    let (net, steps) = optimise(alloc, source)?;
+    let is_cheaper = net_cost(&net) < net_cost(best.net());
     drop(net);
-    let _taken = draft.take_all(means.alloc, steps)?;
-    if is_better(means.alloc, &draft, source)? {
-        return answered(means.alloc, draft);
+    let mut draft = Draft::new(alloc, source)?;
+    if is_cheaper {
+        let _taken = draft.take_all(alloc, steps)?;
     }
-    unchanged(means.alloc, source)
+    Ok(draft)
 }
 
 /// Whether the draft's network costs less than the source, and the certificate of its steps is within
