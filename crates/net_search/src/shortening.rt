@@ -58,7 +58,7 @@ fn copied_steps(alloc: Global, steps: &[LawStep], kept: &[bool]) -> Result<Vec<L
 }
 
 /// A copy of the step.
-fn copied_step(alloc: Global, step: &LawStep) -> Result<LawStep, Memory> {
+pub(crate) fn copied_step(alloc: Global, step: &LawStep) -> Result<LawStep, Memory> {
     let position = Position::of_node(alloc, step.position.path())?;
     let given = match &step.given {
         Some(tree) => Some(tree.try_copy(alloc)?),

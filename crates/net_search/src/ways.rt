@@ -7,7 +7,7 @@ ghost use Rattle.net_search.specs.Certifying.{LeadTo};
 
 use crate::counting::nodes_in;
 use crate::improving::{MOST_IMPROVING, improve_within};
-use crate::shortening::shortened;
+use crate::shortening::{copied_step, shortened};
 use crate::undoing::undo;
 use cert_check::{CheckFault, take_step};
 use expr_improve::Means;
@@ -370,21 +370,17 @@ fn at_forms(
     }
 }
 
-/// The steps to the normal forms that were kept, and on to where these are one; where that isn't found,
-/// they stay.
+/// The steps to the normal forms that were kept, and on to where these are one; none where that isn't
+/// found.
 fn behind_forms(
     alloc: Global,
-    tried: &mut Tried,
+    tried: &Tried,
     nodes: &mut u64,
 ) -> Result<(Vec<LawStep>, Vec<LawStep>), Memory> {
-    let Some((there, back)) = replace(&mut tried.forms, None) else {
-        return Ok((Vec::new(alloc), Vec::new(alloc)));
-    };
-    let Some(ways) = between_forms(alloc, &there, &back, nodes)? else {
-        drop(replace(&mut tried.forms, Some((there, back))));
-        return Ok((Vec::new(alloc), Vec::new(alloc)));
-    };
-    gone_on(there, back, ways)
+    match &tried.forms {
+        Some((there, back)) => on_from(alloc, there, back, nodes),
+        None => Ok((Vec::new(alloc), Vec::new(alloc))),
+    }
 }
 
 /// The same of their normal forms with loops made one.
@@ -396,26 +392,40 @@ fn at_looped_forms(
 ) -> Result<(Vec<LawStep>, Vec<LawStep>), Memory> {
     let there = looped(alloc, source, nodes)?;
     let back = looped(alloc, target, nodes)?;
-    match between_forms(alloc, &there, &back, nodes)? {
-        Some(ways) => gone_on(there, back, ways),
-        None => Ok((Vec::new(alloc), Vec::new(alloc))),
-    }
+    on_from(alloc, &there, &back, nodes)
 }
 
-/// The steps to two forms, each with those from it on.
-fn gone_on(
-    there: Formed,
-    back: Formed,
-    ways: Ways,
+/// The steps to two forms, and on to where these are one; none where that isn't found.
+fn on_from(
+    alloc: Global,
+    there: &Formed,
+    back: &Formed,
+    nodes: &mut u64,
 ) -> Result<(Vec<LawStep>, Vec<LawStep>), Memory> {
-    let (mut there, mut back) = (steps_of(there), steps_of(back));
+    let Some(ways) = between_forms(alloc, there, back, nodes)? else {
+        return Ok((Vec::new(alloc), Vec::new(alloc)));
+    };
     let Ways {
-        there: mut on,
-        back: mut on_back,
+        there: on,
+        back: on_back,
     } = ways;
-    there.append(&mut on)?;
-    back.append(&mut on_back)?;
+    let there = with_more(alloc, &there.steps, on)?;
+    let back = with_more(alloc, &back.steps, on_back)?;
     Ok((there, back))
+}
+
+/// Copies of the steps, and then some more.
+fn with_more(
+    alloc: Global,
+    steps: &[LawStep],
+    mut more: Vec<LawStep>,
+) -> Result<Vec<LawStep>, Memory> {
+    let mut all = Vec::new(alloc);
+    for step in steps {
+        all.push(copied_step(alloc, step)?)?;
+    }
+    all.append(&mut more)?;
+    Ok(all)
 }
 
 /// Steps from two normal forms to where they are one, where all to these may be taken: at the places
