@@ -273,9 +273,7 @@ fn optimised_to(
     target: &TypedNet,
     tried: &mut Tried,
 ) -> Result<Vec<LawStep>, Memory> {
-    let (last, steps) = optimise(alloc, source)?;
-    let is_led = same_net(&last, target.net());
-    drop(last);
+    let (steps, is_led) = optimised(alloc, source, target)?;
     Ok(if_led(alloc, is_led, steps, &mut tried.optimised))
 }
 
@@ -287,11 +285,7 @@ fn improved_to(
     tried: &mut Tried,
     nodes: &mut u64,
 ) -> Result<Vec<LawStep>, Memory> {
-    let means = Means::new(alloc, MOST_IMPROVING)?;
-    let (last, steps) = improve_within(&means, source)?;
-    add_spent(nodes, MOST_IMPROVING, &means);
-    let is_led = same_net(&last, target.net());
-    drop(last);
+    let (steps, is_led) = improved(alloc, source, target, nodes)?;
     Ok(if_led(alloc, is_led, steps, &mut tried.improved))
 }
 
@@ -316,9 +310,7 @@ fn both_optimised(
     target: &TypedNet,
     tried: &mut Tried,
 ) -> Result<(Vec<LawStep>, Vec<LawStep>), Memory> {
-    let (last, back) = optimise(alloc, target)?;
-    let is_led = same_net(&last, source.net());
-    drop(last);
+    let (back, is_led) = optimised(alloc, target, source)?;
     Ok((unless_led(alloc, is_led, &mut tried.optimised), back))
 }
 
@@ -331,22 +323,43 @@ fn both_improved(
     tried: &mut Tried,
     nodes: &mut u64,
 ) -> Result<(Vec<LawStep>, Vec<LawStep>), Memory> {
-    let means = Means::new(alloc, MOST_IMPROVING)?;
-    let (last, back) = improve_within(&means, target)?;
-    add_spent(nodes, MOST_IMPROVING, &means);
-    let is_led = same_net(&last, source.net());
-    drop(last);
+    let (back, is_led) = improved(alloc, target, source, nodes)?;
     Ok((unless_led(alloc, is_led, &mut tried.improved), back))
 }
 
 /// The steps that were kept; none where others lead there.
 fn unless_led(alloc: Global, is_led: bool, kept: &mut Vec<LawStep>) -> Vec<LawStep> {
-    let steps = replace(kept, Vec::new(alloc));
     if is_led {
-        drop(steps);
         return Vec::new(alloc);
     }
-    steps
+    replace(kept, Vec::new(alloc))
+}
+
+/// The steps of the optimiser, and whether they lead to the other network.
+fn optimised(
+    alloc: Global,
+    net: &TypedNet,
+    other: &TypedNet,
+) -> Result<(Vec<LawStep>, bool), Memory> {
+    let (last, steps) = optimise(alloc, net)?;
+    let is_led = same_net(&last, other.net());
+    drop(last);
+    Ok((steps, is_led))
+}
+
+/// The steps to what costs less, and whether they lead to the other network.
+fn improved(
+    alloc: Global,
+    net: &TypedNet,
+    other: &TypedNet,
+    nodes: &mut u64,
+) -> Result<(Vec<LawStep>, bool), Memory> {
+    let means = Means::new(alloc, MOST_IMPROVING)?;
+    let (last, steps) = improve_within(&means, net)?;
+    add_spent(nodes, MOST_IMPROVING, &means);
+    let is_led = same_net(&last, other.net());
+    drop(last);
+    Ok((steps, is_led))
 }
 
 /// The steps to the normal forms of two networks, where these are one; else the forms are kept.
