@@ -34,8 +34,8 @@ use std::alloc::Global;
 ///   256 nodes.
 ///
 /// Then the height: `TooDeep` over 256. Last the weight: `TooHeavy` over 1,000,000. A network with
-/// so many parts, shared ones counted each time, that no file could hold it and that it is too
-/// heavy where it is typed is `TooHeavy` before the walk. `Memory` if allocation fails.
+/// so many parts, shared ones counted each time, that by estimate no file could hold it and that it
+/// is too heavy where it is typed is `TooHeavy` before the walk. `Memory` if allocation fails.
 pub fn check_types(alloc: Global, input: Ty, net: Net<Expr>) -> Result<TypedNet, TypeFault>
     ensures { GivesTyped (λ typed. typed) result (check (type_of input) (tree_of net)) }
 {
