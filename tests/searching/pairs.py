@@ -46,6 +46,7 @@ def networks():
     other = [*staged[:3], arr("(if (less x 9) x (add x 7))"), *staged[4:]]
     yield "14 stages of ifs, one of another number", to_the_right(staged), to_the_right(other), ("gave up: (at 1 1 1 0 0 2 1), ",)
     yield from looped()
+    yield "8,000 clocks, and a sum one late", balanced(["time"] * 8_000), "(>>> integral (iPre 0))", ("gave up: (at 0), ",)
     for name, net in hostile().items():
         yield f"{name}, and time", net, "time", APART
 
