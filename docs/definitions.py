@@ -4,8 +4,8 @@
     docs/definitions.py NAME..      such as `docs/definitions.py meaning`; a part of a name lists the names that have it
     docs/definitions.py --check     lists names of docs/READING.md that no definition has
 """
-import os
 import re
+import signal
 import sys
 from pathlib import Path
 
@@ -94,10 +94,5 @@ def main(words):
 
 
 if __name__ == "__main__":
-    try:
-        status = main(sys.argv[1:])
-        sys.stdout.flush()
-    except BrokenPipeError:
-        os.dup2(os.open(os.devnull, os.O_WRONLY), sys.stdout.fileno())
-        status = 1
-    sys.exit(status)
+    signal.signal(signal.SIGPIPE, signal.SIG_DFL)
+    sys.exit(main(sys.argv[1:]))

@@ -4,8 +4,8 @@
     docs/promises.py CRATE|NAME..   such as `docs/promises.py cert_check` or `docs/promises.py check`
     docs/promises.py --check        lists public calls without a comment or a contract, except those of searches and of what tests share
 """
-import os
 import re
+import signal
 import sys
 from pathlib import Path
 
@@ -112,10 +112,5 @@ def main(words):
 
 
 if __name__ == "__main__":
-    try:
-        status = main(sys.argv[1:])
-        sys.stdout.flush()
-    except BrokenPipeError:
-        os.dup2(os.open(os.devnull, os.O_WRONLY), sys.stdout.fileno())
-        status = 1
-    sys.exit(status)
+    signal.signal(signal.SIGPIPE, signal.SIG_DFL)
+    sys.exit(main(sys.argv[1:]))

@@ -90,13 +90,6 @@ def has_lists(type_):
     return isinstance(type_, tuple) and (type_[0] == "List" or any(map(has_lists, type_[1:])))
 
 
-def longest(value):
-    """The length of the longest list in a value."""
-    if not isinstance(value, tuple):
-        return 0
-    return max([len(value) - 1 if value[0] == "list" else 0, *map(longest, value[1:])])
-
-
 class Bounded(ValueReader):
     """Reads a value whose lists have at most so many elements, at the first element that is too many."""
 

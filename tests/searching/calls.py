@@ -55,9 +55,9 @@ class Caller:
         right = (0, f"accepted {steps_in(output)}\n", "")
         return steps_in(output), None if told == right else f"check: {told}"
 
-    def dear(self, most=MEMORY):
+    def dear(self):
         """The calls that took more memory than is allowed."""
-        return [f"{command}: {taken >> 20} MiB" for command, _, taken in self.costs if taken > most]
+        return [f"{command}: {taken >> 20} MiB" for command, _, taken in self.costs if taken > MEMORY]
 
 
 def limit():

@@ -8,12 +8,12 @@ PAIRED = "(fst (pair (add x {}) (snd (pair x x))))"
 SUM_OF_BOTH = "(>>> (&&& (iPre {}) integral) (arr (add (fst x) (snd x))))"
 
 
-def to_the_right(stages):
-    """A chain of the stages, each before all that come behind it."""
-    *front, chain = stages
-    for stage in reversed(front):
-        chain = f"(>>> {stage} {chain})"
-    return chain
+def to_the_right(parts, form=">>>"):
+    """A chain of the parts, or another form of two, each before all that come behind it."""
+    *front, whole = parts
+    for part in reversed(front):
+        whole = f"({form} {part} {whole})"
+    return whole
 
 
 def to_the_left(stages):
@@ -49,9 +49,9 @@ def cells(count):
     return [f"(arr (add x {number}))" if number % 2 else f"(iPre {number})" for number in range(count)]
 
 
-def in_turn(count, one, other="(arr (mul x 3))"):
-    """The two stages in turn."""
-    return [one if number % 2 else other for number in range(count)]
+def in_turn(count, one):
+    """The stage and one that multiplies, in turn."""
+    return [one if number % 2 else "(arr (mul x 3))" for number in range(count)]
 
 
 def switches(times):

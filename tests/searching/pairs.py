@@ -45,10 +45,27 @@ def networks():
     staged = [arr("(if (less x 9) x (add x 1))")] * 14
     other = [*staged[:3], arr("(if (less x 9) x (add x 7))"), *staged[4:]]
     yield "14 stages of ifs, one of another number", to_the_right(staged), to_the_right(other), ("gave up: (at 1 1 1 0 0 2 1), ",)
+    yield from multiplied()
     yield from looped()
     yield "8,000 clocks, and a sum one late", balanced(["time"] * 8_000), "(>>> integral (iPre 0))", ("gave up: (at 0), ",)
     for name, net in hostile().items():
         yield f"{name}, and time", net, "time", APART
+
+
+def multiplied():
+    """Products of sums, and what they are multiplied out; no law makes `(mul x 1)` be `x`, or a negated sum be one of negated terms."""
+    added = "(add x 1)"
+    product = f"(mul {added} (sub (neg x) 2))"
+    yield "a product of sums, and one sum", arr(product), arr("(add (mul x (neg x)) (add (mul (neg x) 1) (add (mul -2 x) -2)))"), 20
+    yield "a cube of a sum, and one sum", arr(f"(mul {added} (mul {added} {added}))"), arr("(add (mul x (mul x x)) (add (mul x (mul x 3)) (add (mul x 3) 1)))"), 90
+    yield "a difference, twice as much, and a cell", to_the_right([arr("(sub x 3)"), arr(f"(mul {added} 2)"), "(iPre 0)"]), to_the_right([arr("(add (mul 2 x) -4)"), "(iPre 0)"]), 40
+    yield "twice and three times, and five times", arr("(add (mul x 2) (mul 3 x))"), arr("(mul x 5)"), 10
+    yield "products before a stage, and behind", to_the_right([arr(f"(mul {added} (add x 2))"), arr("(mul x (add x 3))")]), arr(f"(mul (mul {added} (add x 2)) (add 3 (mul (add x 2) {added})))"), 250
+    yield "a factor of 1", arr("(mul x 1)"), arr("x"), APART
+    yield "a negated sum", arr(f"(neg {added})"), arr("(add (neg x) -1)"), APART
+    terms = [f"(if (less x {k}) {k} x)" for k in range(9)]
+    whole = to_the_right(terms, "add")
+    yield "a product of 81 terms", arr(f"(mul {whole} {whole})"), arr(to_the_right([f"(mul {e} {f})" for e in terms for f in terms], "add")), ("gave up: (at",)
 
 
 def looped():
@@ -65,6 +82,11 @@ def looped():
     kept, summing = [f"(loopPre 0 {swapped})", "(iPre 0)"], [summed, "(>>> (iPre 0) integral)"]
     yield "two cells, added in either order", *[to_the_right([both, f"(first {f})", f"(second {g})", added]) for f, g in ((kept[1], summed), (summed, kept[0]))], 750
     yield "two that differ", *[to_the_right([both, f"(first {kept[1]})", f"(second {net})", added]) for net in summing], APART
+    heard = "(loopPre 1 (arr (pair (add (fst x) (snd x)) (fst x))))"
+    yield "a state that isn't heard", "(loopPre 7 (arr (pair (fst x) (snd x))))", arr("x"), 3
+    yield "one beside a state that is", "(loopPre (pair 1 7) (arr (pair (add (fst x) (fst (snd x))) (pair (fst x) (snd (snd x))))))", heard, 120
+    yield "two to the left of it", "(loopPre (pair (pair 7 3) 1) (arr (pair (add (fst x) (snd (snd x))) (pair (fst (snd x)) (fst x)))))", heard, 180
+    yield "a count that isn't heard", "(loopPre 7 (arr (pair (fst x) (add (snd x) 1))))", arr("x"), APART
     for count in 4, 10:
         numbers = range(count)
         stages = [stage for k in numbers for stage in (f"(iPre {k})", arr(f"(add x {k})"))]

@@ -15,7 +15,6 @@ from tooling.common import NUMBERS, in_files, leave_out, own_folder, there, tool
 MANY = 1_000
 # Of a recording the sum of its numbers so far, reckoned here; the network is a loop.
 SUMS = NUMBERS + "(loopPre 0 (arr (then (add (fst x) (snd x)) (pair x x))))"
-SECONDS = 60
 
 
 def recordings(folder: Path, count: int) -> None:

@@ -5,7 +5,7 @@ from workbench import foreseeing, program, trying
 from workbench.definitions import Fault
 from workbench.ending import Refused
 from workbench.explain import fault_of, roles_of
-from workbench.faults import explained, files_of
+from workbench.faults import Files, explained
 from workbench.laws import MEANINGS
 from workbench.program import Told, call
 from workbench.source import read_file
@@ -286,7 +286,8 @@ def calls_of(names: list[str], stream: bytes | None, by_model: bool) -> list[str
 
     program.ANSWERING.append(answer)
     try:
-        files = files_of(roles_of(names)[0])
+        roles = roles_of(names)[0]
+        files = Files(roles, {role: program.again(name) for role, name in roles.items()})
         given = ("stream", stream) if stream is not None else None
         explained(fault_of(files, given), files, given)
     except (Fault, Refused):

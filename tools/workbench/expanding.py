@@ -1,7 +1,7 @@
 """The network that a file with names means, as a network's file."""
 from model.texts import FILE_BYTES
 from workbench.definitions import Fault, is_source, read_text
-from workbench.ending import Refused, Words, ended, read, write
+from workbench.ending import Refused, Words, read, write
 from workbench.layout import flat, laid_out
 from workbench.origin import Program
 from workbench.source import read_file
@@ -52,15 +52,11 @@ def main() -> None:
     words.add_argument("--flat", action="store_true", help="the network in one line")
     words.add_argument("-o", metavar="FILE", dest="to", help="writes the network there")
     given = words.parse_args()
-
-    def work():
-        data = read(given.file)
-        try:
-            text = expanded(given.file, data, given.flat)
-        except Fault as fault:
-            raise Refused(fault.line()) from None
-        except SyntaxFault as fault:
-            raise Refused(fault.line(given.file, data)) from None
-        write(given.to, text)
-
-    ended("expand", work)
+    data = read(given.file)
+    try:
+        text = expanded(given.file, data, given.flat)
+    except Fault as fault:
+        raise Refused(fault.line()) from None
+    except SyntaxFault as fault:
+        raise Refused(fault.line(given.file, data)) from None
+    write(given.to, text)

@@ -9,7 +9,6 @@ from workbench.missteps import nothing_there, of_steps
 from workbench.misread import of_stream
 from workbench.mistyped import of_types
 from workbench.origin import PROGRAMS, program_from
-from workbench.program import again
 from workbench.source import read_steps
 from workbench.written import SyntaxFault
 from workbench.telling import Told, told_of
@@ -32,11 +31,6 @@ class Files:
     def certificate(self) -> tuple:
         """The certificate's name and bytes."""
         return self.names["certificate"], read(self.paths["certificate"])
-
-
-def files_of(names: dict) -> Files:
-    """The files with these names by role, each where it can be read more than once."""
-    return Files(names, {role: again(name) for role, name in names.items()})
 
 
 def explained(line: str, files: Files, stream) -> Told:

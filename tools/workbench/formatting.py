@@ -1,6 +1,6 @@
 """Files laid out: networks' files, and those with names, whose comments are kept as they are."""
 from workbench.definitions import Fault, Include, Record, Source, Written, read_text
-from workbench.ending import Refused, Words, ended, read, write
+from workbench.ending import Refused, Words, read, write
 from workbench.layout import WIDTH, comments_within, flat, laid_out
 
 FMT = """Lays out a network's file, or one with names, in lines of at most 100 columns, and keeps its comments.
@@ -107,12 +107,8 @@ def main() -> None:
     words.add_argument("file", metavar="FILE")
     words.add_argument("--write", action="store_true", help="replaces the file")
     given = words.parse_args()
-
-    def work():
-        try:
-            text = formatted(given.file, read(given.file))
-        except Fault as fault:
-            raise Refused(fault.line()) from None
-        write(given.file if given.write else None, text)
-
-    ended("fmt", work)
+    try:
+        text = formatted(given.file, read(given.file))
+    except Fault as fault:
+        raise Refused(fault.line()) from None
+    write(given.file if given.write else None, text)

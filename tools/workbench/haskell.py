@@ -5,7 +5,7 @@ from pathlib import Path
 from typing import Callable
 
 from model.trees import is_form
-from workbench.ending import Refused, Words, ended, write
+from workbench.ending import Refused, Words, write
 from workbench.origin import read_source
 from workbench.program import answered
 from workbench.source import plain
@@ -342,13 +342,9 @@ def main():
     words.add_argument("--name", metavar="NAME", help="the network's name")
     words.add_argument("-o", dest="to", metavar="FILE", help="writes the module there")
     given = words.parse_args()
-
-    def work():
-        if given.name and (not re.fullmatch(r"[a-z][A-Za-z0-9]*", given.name) or given.name in KEYWORDS | TAKEN):
-            raise Refused(f"--name: {given.name} is no name for a network in Haskell", 2)
-        try:
-            write(given.to, module_of(given.net, given.name))
-        except SyntaxFault as fault:
-            raise Refused(f"{given.net}: {fault}") from None
-
-    ended("haskell", work)
+    if given.name and (not re.fullmatch(r"[a-z][A-Za-z0-9]*", given.name) or given.name in KEYWORDS | TAKEN):
+        raise Refused(f"--name: {given.name} is no name for a network in Haskell", 2)
+    try:
+        write(given.to, module_of(given.net, given.name))
+    except SyntaxFault as fault:
+        raise Refused(f"{given.net}: {fault}") from None

@@ -38,12 +38,6 @@ def write_flat(node, pieces: list) -> None:
     pieces.append(")")
 
 
-def all_nodes(node):
-    yield node
-    for part in node.parts:
-        yield from all_nodes(part)
-
-
 # ---- how wide
 
 

@@ -7,7 +7,7 @@ from typing import IO, Any
 
 from model.texts import ValueFault, read_value, step_of
 from model.trees import is_form, shown
-from workbench.ending import Refused, Words, ended, writing
+from workbench.ending import Refused, Words, writing
 from workbench.program import again
 from workbench.records import columns
 from workbench.speaking import named_types
@@ -281,16 +281,12 @@ def csv_main() -> None:
     words.add_argument("--start", metavar="TIME", default="0", help="with --back: the first time")
     words.add_argument("-o", metavar="FILE", dest="to", help="writes there")
     given = words.parse_args()
-
-    def work():
-        into, output = types_of(again(given.net))
-        times = Times(given.ticks, given.start)
-        type_ = output if given.back and not given.input else into
-        named = names_in(given.columns, type_)
-        with writing(given.to) as out:
-            if given.back:
-                to_table(lines(out.flush), type_, times, columns_of(type_, given.lists), named, out)
-            else:
-                out.writelines(from_table(rows_in(lines(out.flush)), type_, times, named))
-
-    ended("csv", work)
+    into, output = types_of(again(given.net))
+    times = Times(given.ticks, given.start)
+    type_ = output if given.back and not given.input else into
+    named = names_in(given.columns, type_)
+    with writing(given.to) as out:
+        if given.back:
+            to_table(lines(out.flush), type_, times, columns_of(type_, given.lists), named, out)
+        else:
+            out.writelines(from_table(rows_in(lines(out.flush)), type_, times, named))

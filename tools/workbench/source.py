@@ -32,7 +32,7 @@ class Origin:
     node: Node
 
 
-def core(node, position=()):
+def core(node):
     """The tree in core forms, and for each position of it the node that was written there."""
     origins = {}
 
@@ -64,7 +64,7 @@ def core(node, position=()):
                 number += 1
         return tuple(made)
 
-    tree = convert(Origin(node), position, node)
+    tree = convert(Origin(node), (), node)
     return tree, origins
 
 

@@ -7,7 +7,7 @@ import sys
 from collections import Counter, deque
 from collections.abc import Callable, Iterator
 
-from workbench.ending import PIECE, Refused, Words, called, ended, unreadable, writing
+from workbench.ending import PIECE, Refused, Words, called, unreadable, writing
 from workbench.program import Run, again
 
 MOST_LINE = 1 << 20
@@ -104,17 +104,13 @@ def timed_main() -> None:
     words = Words("timed", TIMED)
     words.add_argument("net", metavar="NET")
     given = words.parse_args()
-
-    def work():
-        with Run(["run", again(given.net)], subprocess.PIPE) as run, writing(None) as out:
-            for made in timed(run.process):
-                out.write(made)
-                out.flush()
-            told = run.told()
-        if told.status:
-            raise Refused(told.refusal(), told.status)
-
-    ended("timed", work)
+    with Run(["run", again(given.net)], subprocess.PIPE) as run, writing(None) as out:
+        for made in timed(run.process):
+            out.write(made)
+            out.flush()
+        told = run.told()
+    if told.status:
+        raise Refused(told.refusal(), told.status)
 
 
 # ---- lines that are nearly a stream
@@ -146,13 +142,9 @@ def tidy_main() -> None:
     words = Words("tidy", TIDY)
     words.add_argument("-o", metavar="FILE", dest="to", help="writes there")
     given = words.parse_args()
-
-    def work():
-        mended: Counter[str] = Counter()
-        with writing(given.to) as out:
-            out.writelines(tidied(lines(out.flush), mended))
-        for what, count in mended.items():
-            if count:
-                print(f"yampa tidy: {what} taken off: {count}", file=sys.stderr)
-
-    ended("tidy", work)
+    mended: Counter[str] = Counter()
+    with writing(given.to) as out:
+        out.writelines(tidied(lines(out.flush), mended))
+    for what, count in mended.items():
+        if count:
+            print(f"yampa tidy: {what} taken off: {count}", file=sys.stderr)

@@ -29,13 +29,13 @@ use Rattle.cert_check.specs.declared.derivation.TheConstants.{MOST_STEPS}
 
 one_expression : (law : Law) (direction : Direction) (e : Expression) (given : Option Expression) (r s : Expression)
     → ExpressionAnswer law direction e given r → ExpressionAnswer law direction e given s → r ≡ s
-one_expression law direction e given r s (E.forward_answer {n = n} row) (E.forward_answer row') = one_right_side n e r s row row'
-one_expression law direction e given r s (E.backward_answer row) (E.backward_answer row') = refl
+one_expression law direction e given r s (E.forward_answer {n = n} is_law) (E.forward_answer is_law') = one_right_side n e r s is_law is_law'
+one_expression law direction e given r s (E.backward_answer is_law) (E.backward_answer is_law') = refl
 
 one_network : (olds : ℕ) (law : Law) (direction : Direction) (f : Network Expression) (given : Option (Network Expression)) (r s : Network Expression)
     → NetworkAnswer law direction f given olds r → NetworkAnswer law direction f given olds s → r ≡ s
-one_network olds law direction f given r s (N.forward_answer {n = n} row) (N.forward_answer row') = one-right_side n olds f r s row row'
-one_network olds law direction f given r s (N.backward_answer row) (N.backward_answer row') = refl
+one_network olds law direction f given r s (N.forward_answer {n = n} is_law) (N.forward_answer is_law') = one-right_side n olds f r s is_law is_law'
+one_network olds law direction f given r s (N.backward_answer is_law) (N.backward_answer is_law') = refl
 
 answer_unique : (olds : ℕ) (law : Law) (direction : Direction) (tree : Tree Expression) (given : Option (Tree Expression)) (r s : Tree Expression)
     → TreeAnswer olds law direction tree given r → TreeAnswer olds law direction tree given s → r ≡ s

@@ -21,7 +21,7 @@ use Rattle.net_syntax.proofs.SamePlaces.{same_place}
 use Rattle.net_meaning.proofs.SameOutputs.{alike-refl, same-sym, same-trans}
 use Rattle.net_meaning.proofs.StreamLaws.{alike-outputs, one-output-type}
 use Rattle.net_syntax.proofs.HoldsTypes.{holds_types}
-use Rattle.expr_laws.proofs.RowValues.{row_value}
+use Rattle.expr_laws.proofs.SideValues.{side_value}
 use Rattle.law_rules.proofs.SameSides.{same-side_outputs}
 use Rattle.expr_laws.specs.Answer as E
 use Rattle.expr_laws.specs.Answer.{ExpressionAnswer}
@@ -35,15 +35,15 @@ use Rattle.cert_check.proofs.Counted.{placed-stands}
 -- a law's answer does the same as the tree at hand, where both have one type
 expression_same : (Q : Standing) (C : TypeTree) (law : Law) (direction : Direction) (e : Expression) (given : Option Expression) (r : Expression)
     → ExpressionAnswer law direction e given r → ExpressionTyped e Q.params Q.input C → ExpressionTyped r Q.params Q.input C → SameValue Q.params Q.input e r
-expression_same Q C law direction e given r (E.forward_answer {n = n} row) d k = λ ps x hp hx. row_value n e r row Q.params Q.input C d ps x hp hx
-expression_same Q C law direction e given r (E.backward_answer {n = n} row) d k = λ ps x hp hx. sym (row_value n r e row Q.params Q.input C k ps x hp hx)
+expression_same Q C law direction e given r (E.forward_answer {n = n} is_law) d k = λ ps x hp hx. side_value n e r is_law Q.params Q.input C d ps x hp hx
+expression_same Q C law direction e given r (E.backward_answer {n = n} is_law) d k = λ ps x hp hx. sym (side_value n r e is_law Q.params Q.input C k ps x hp hx)
 
 network_same : (Q : Standing) (C : TypeTree) (olds : ℕ) (law : Law) (direction : Direction) (f : Network Expression) (given : Option (Network Expression))
     (r : Network Expression) → NetworkAnswer law direction f given olds r → length Q.olds ≡ olds → NetTyped Q.params Q.olds f Q.input C
     → NetTyped Q.params Q.olds r Q.input C → SameOutputs Q.params Q.olds Q.input f r
-network_same Q C olds law direction f given r (N.forward_answer {n = n} row) l d k = same-side_outputs n olds Q.params Q.olds Q.input C f r row l d k
-network_same Q C olds law direction f given r (N.backward_answer {n = n} row) l d k =
-    same-sym Q.params Q.olds Q.input r f (same-side_outputs n olds Q.params Q.olds Q.input C r f row l k d)
+network_same Q C olds law direction f given r (N.forward_answer {n = n} is_law) l d k = same-side_outputs n olds Q.params Q.olds Q.input C f r is_law l d k
+network_same Q C olds law direction f given r (N.backward_answer {n = n} is_law) l d k =
+    same-sym Q.params Q.olds Q.input r f (same-side_outputs n olds Q.params Q.olds Q.input C r f is_law l k d)
 
 answer_same : (Q : Standing) (C : TypeTree) (olds : ℕ) (law : Law) (direction : Direction) (tree : Tree Expression) (given : Option (Tree Expression))
     (new : Tree Expression) → TreeAnswer olds law direction tree given new → length Q.olds ≡ olds → TreeTyped Q tree C → TreeTyped Q new C

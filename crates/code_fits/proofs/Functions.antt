@@ -23,8 +23,8 @@ use Rattle.net_code.specs.declared.statement.Statement.TheVariants as T
 use Rattle.net_code.specs.declared.statement.Function.{Function}
 use Rattle.net_code.specs.declared.statement.Function.TheVariants as FN
 use Rattle.net_code.specs.Running.{Body, Kept, Given, Linked, Local, kept_at, split, given_value, given_kept, given_first, beside_in, is_none, cleared, taken_by, with_store, going, entered, exec, first_or}
-use Rattle.net_code.specs.Bodies.{answer, started, switch_body, k_switch_body, freezing_body, member_rows}
-use Rattle.net_code.specs.CodeView.{rows_of}
+use Rattle.net_code.specs.Bodies.{answer, started, switch_body, k_switch_body, freezing_body, member_statements}
+use Rattle.net_code.specs.CodeView.{body_of}
 use Rattle.net_code.specs.CodeLaw.{value_in}
 use Rattle.code_fits.specs.Layouts.{Layout, layout}
 use Rattle.code_fits.specs.Rules.{LeafTyped, Goes, goes, AllGo, none_go, one_goes, FunctionFits, arr_fits, seq_fits, first_fits, par_fits, loop_fits, cell_fits, time_fits, integral_fits, accum_fits, switch_fits, d_switch_fits, r_switch_fits, dr_switch_fits, k_switch_fits, p_switch_fits, old_fits, same_fits, initial_out_fits, initial_in_fits, collection_fits}
@@ -38,7 +38,7 @@ pub well-append : (bound : Bounds) (ws us : List Stand) → AllStandWell bound w
 well-append bound [] us h k = k
 well-append bound (w ∷ ws) us h k = (h.0, well-append bound ws us h.1 k)
 
--- a call's row, and those behind
+-- a call's statement, and those behind
 call-well : (bound : Bounds) (ws : List Stand) (w : Stand) (us : List Stand) → AllStandWell bound ws → StandsWell bound w → AllStandWell bound us → AllStandWell bound ((ws ++ w ∷ []) ++ us)
 call-well bound ws w us h i k = well-append bound (ws ++ w ∷ []) us (well-append bound ws (w ∷ []) h (i, tt)) k
 
@@ -76,7 +76,7 @@ module _ (bound : Bounds) (S : ℕ → Shape) where
         → LeafFits bound Ps A (expression_of e) ps x B
     leaf-well {Ps = Ps} {A = A} {B = B} e ps x h p f = leaf-fits bound (expression_of e) Ps A B h.typed h.lists ps x p f
 
-    -- what a function's rows come to
+    -- what a function's statements come to
     abbrev pub Done : Layout → Shape → Body → Given → Store → Moment → Datum → Type 0
     Done L sh b g s m v = Good bound sh L.output (body_stands L F N g b L.values (L.input ∷ []) (entered s (m, v)) []) (exec value_in F g b (entered s (m, v)))
 
@@ -103,9 +103,9 @@ module _ (bound : Bounds) (S : ℕ → Shape) where
     abbrev tracers_of : Given → List ℕ → List Tracer
     tracers_of g js = map (λ j. N j g) js
 
-    -- the rows of members, behind others
+    -- the statements of members, behind others
     members-stand : (L : Layout) (g : Given) (js : List ℕ) (b : Body) (Us Ts : List TypeTree) (rs : List Datum) (s : Store) (m : Moment) (hs : List Stepper) (ns : List Tracer)
-        → body_stands L F N g (member_rows js ++ b) Us Ts (local rs s m hs) ns ≡ body_stands L F N g b Us Ts (local rs s m (hs ++ steps_of g js)) (ns ++ tracers_of g js)
+        → body_stands L F N g (member_statements js ++ b) Us Ts (local rs s m hs) ns ≡ body_stands L F N g b Us Ts (local rs s m (hs ++ steps_of g js)) (ns ++ tracers_of g js)
     members-stand L g [] b Us Ts rs s m hs ns =
         ap (λ hs. body_stands L F N g b Us Ts (local rs s m hs) ns) (sym (append-nil hs))
         ∙ ap (λ ns. body_stands L F N g b Us Ts (local rs s m (hs ++ [])) ns) (sym (append-nil ns))
@@ -115,17 +115,17 @@ module _ (bound : Bounds) (S : ℕ → Shape) where
         ∙ ap (λ ns. body_stands L F N g b Us Ts (local rs s m (hs ++ F j g ∷ steps_of g js)) ns) (append_assoc ns (N j g ∷ []) (tracers_of g js))
 
     members-run : (g : Given) (js : List ℕ) (b : Body) (rs : List Datum) (s : Store) (m : Moment) (hs : List Stepper)
-        → exec value_in F g (member_rows js ++ b) (local rs s m hs) ≡ exec value_in F g b (local rs s m (hs ++ steps_of g js))
+        → exec value_in F g (member_statements js ++ b) (local rs s m hs) ≡ exec value_in F g b (local rs s m (hs ++ steps_of g js))
     members-run g [] b rs s m hs = ap (λ hs. exec value_in F g b (local rs s m hs)) (sym (append-nil hs))
     members-run g (j ∷ js) b rs s m hs =
         members-run g js b rs s m (hs ++ F j g ∷ []) ∙ ap (λ hs. exec value_in F g b (local rs s m hs)) (append_assoc hs (F j g ∷ []) (steps_of g js))
 
-    -- behind the rows of members
+    -- behind the statements of members
     behind-members : (L : Layout) (sh : Shape) (js : List ℕ) (b : Body) (g : Given) (s : Store) (m : Moment) (v : Datum)
         → Good bound sh L.output (body_stands L F N g b L.values (L.input ∷ []) (local (v ∷ []) s m (steps_of g js)) (tracers_of g js)) (exec value_in F g b (local (v ∷ []) s m (steps_of g js)))
-        → Done L sh (member_rows js ++ b) g s m v
+        → Done L sh (member_statements js ++ b) g s m v
     behind-members L sh js b g s m v h =
-        subst (λ ws. Good bound sh L.output ws (exec value_in F g (member_rows js ++ b) (entered s (m, v)))) (sym (members-stand L g js b L.values (L.input ∷ []) (v ∷ []) s m [] []))
+        subst (λ ws. Good bound sh L.output ws (exec value_in F g (member_statements js ++ b) (entered s (m, v)))) (sym (members-stand L g js b L.values (L.input ∷ []) (v ∷ []) s m [] []))
         (subst (λ r. Good bound sh L.output (body_stands L F N g b L.values (L.input ∷ []) (local (v ∷ []) s m (steps_of g js)) (tracers_of g js)) r) (sym (members-run g js b (v ∷ []) s m [])) h)
 
     -- what members on one value come to
@@ -192,7 +192,7 @@ module _ (bound : Bounds) (S : ℕ → Shape) where
         later : {k : Cell} → CellFits bound C.AccumBy V k → AllStandWell bound (leaf_stands Ps (pair_ty V U) e ps (Some (pair (accumulator_of k) u)))
         later (accumulator_fits j) = (pair_fits j k, ((V, f _ (pair_fits j k)), tt))
 
-    -- the types of the rows at a switch's event behind the first
+    -- the types of the statements at a switch's event behind the first
     abbrev switch-more : TypeTree → Timing → List TypeTree
     switch-more B at_once = []
     switch-more B delayed = B ∷ []
@@ -669,7 +669,7 @@ module _ (bound : Bounds) (S : ℕ → Shape) where
             keeps = subst (EntriesFit bound MS TS V) (sym (entries-stored r.0)) h.1.1.1;
           }
 
-    pub done : (L : Layout) (f : Function) → FunctionFits bound Ls L f → AllDone L (shape_of S L f) (rows_of f)
+    pub done : (L : Layout) (f : Function) → FunctionFits bound Ls L f → AllDone L (shape_of S L f) (body_of f)
     done L f (arr_fits {Ps = Ps} {Os = Os} {A = A} {B = B} {e = e} h) g p o s m v k x =
         let l : LeafFits bound _ _ (expression_of e) g.params v _ = leaf-well e g.params v h p x in
         record { well = ((_, l), (l.value, tt)); answer = l.value; keeps = tt }
@@ -749,7 +749,7 @@ module _ (bound : Bounds) (S : ℕ → Shape) where
         last u w a = let r : Good bound (S j) B (N j (given_first g n q) u (w, v)) (F j (given_first g n q) u (w, v)) = at u w a in
             record { well = well-append bound _ _ r.well (r.answer, tt); answer = r.answer; keeps = r.keeps }
 
-        by : (m : Moment) → At m (StoreFits bound (S j) s) → Done (layout Ps Os A B (B ∷ []) None) (S j) (rows_of (FN.Old i j n q)) g s m v
+        by : (m : Moment) → At m (StoreFits bound (S j) s) → Done (layout Ps Os A B (B ∷ []) None) (S j) (body_of (FN.Old i j n q)) g s m v
         by start a = last (kept_at g.olds i).0 (kept_at g.olds i).1 (old-at Os g.olds i j o e)
         by (step d) a = last s (step d) a
     done L f (switch_fits {Ps = Ps} {Os = Os} {A = A} {B = B} {V = V} {f = j} {t = i} hf ht) g p o s m v k x = switch-done Ps Os A B V j i hf ht g p o at_once s m v k x

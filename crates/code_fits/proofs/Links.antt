@@ -9,7 +9,7 @@ use Rattle.net_machine.specs.Store.{Moment, start, step, Store}
 use Rattle.net_machine.specs.Stepper.{Stepper}
 use Rattle.net_code.specs.declared.statement.Function.{Function}
 use Rattle.net_code.specs.Running.{Kept, Linked, body_step, numbered, nothing_done, link, latest, nothing_given}
-use Rattle.net_code.specs.CodeView.{rows_of, code_in}
+use Rattle.net_code.specs.CodeView.{body_of, code_in}
 use Rattle.net_code.specs.CodeLaw.{value_in}
 use Rattle.net_code.proofs.Links.{get-front, get-next}
 use Rattle.code_fits.specs.Layouts.{Layout}
@@ -71,18 +71,18 @@ module _ (bound : Bounds) where
   -- a function over those that keep to their layouts
   next-runs : (S : ℕ → Shape) (Ls : List Layout) (F : ℕ → Linked) (N : ℕ → Traced) → ((j : ℕ) (M : Layout) → slice_get Ls j ≡ Some M → Runs bound S M (S j) (F j) (N j))
       → (L : Layout) (f : Function) → FunctionFits bound Ls L f
-      → Runs bound S L (shape_of S L f) (body_step value_in F (rows_of f)) (function_stands F N (rows_of f) L)
+      → Runs bound S L (shape_of S L f) (body_step value_in F (body_of f)) (function_stands F N (body_of f) L)
   next-runs S Ls F N env L f h g p o s m v k x =
       let r : Good bound (shape_of S L f) L.output _ _ = done bound S Ls F N env L f h g p o s m v k x in
       record { well = well-append bound (values_stand L.params g.params) _ (params-well bound p) (x, r.well); answer = r.answer; keeps = r.keeps }
 
   -- one function more
   and-one : (shs : List Shape) (hs : List Linked) (ns : List Traced) (Ls : List Layout) (L : Layout) (f : Function) → Env shs hs ns Ls → FunctionFits bound Ls L f → AllBelow (length Ls) L.olds
-      → Env (shs ++ shape_of (shaped shs) L f ∷ []) (hs ++ body_step value_in (numbered hs) (rows_of f) ∷ []) (ns ++ function_stands (numbered hs) (traced ns) (rows_of f) L ∷ []) (Ls ++ L ∷ [])
+      → Env (shs ++ shape_of (shaped shs) L f ∷ []) (hs ++ body_step value_in (numbered hs) (body_of f) ∷ []) (ns ++ function_stands (numbered hs) (traced ns) (body_of f) L ∷ []) (Ls ++ L ∷ [])
   and-one shs hs ns Ls L f env h l =
       let sh : Shape = shape_of (shaped shs) L f in
-      let a : Linked = body_step value_in (numbered hs) (rows_of f) in
-      let n : Traced = function_stands (numbered hs) (traced ns) (rows_of f) L in
+      let a : Linked = body_step value_in (numbered hs) (body_of f) in
+      let n : Traced = function_stands (numbered hs) (traced ns) (body_of f) L in
       let e1 : length shs ≡ length Ls = env.many_shapes in
       let e2 : length hs ≡ length Ls = env.many_steps in
       let e3 : length ns ≡ length Ls = env.many_stands in
@@ -115,8 +115,8 @@ module _ (bound : Bounds) where
   all-keep shs hs ns Ls (f ∷ fs) [] env h = absurd h
   all-keep shs hs ns Ls (f ∷ fs) (M ∷ Ms) env h =
       let sh : Shape = shape_of (shaped shs) M f in
-      let a : Linked = body_step value_in (numbered hs) (rows_of f) in
-      let n : Traced = function_stands (numbered hs) (traced ns) (rows_of f) M in
+      let a : Linked = body_step value_in (numbered hs) (body_of f) in
+      let n : Traced = function_stands (numbered hs) (traced ns) (body_of f) M in
       subst (Env (link_shapes (shs ++ sh ∷ []) fs Ms) (link value_in (hs ++ a ∷ []) (code_in fs)) (link_stands (hs ++ a ∷ []) (ns ++ n ∷ []) (code_in fs) Ms)) (append_assoc Ls (M ∷ []) Ms)
       (all-keep (shs ++ sh ∷ []) (hs ++ a ∷ []) (ns ++ n ∷ []) (Ls ++ M ∷ []) fs Ms (and-one shs hs ns Ls M f env h.0 h.1) h.2)
 

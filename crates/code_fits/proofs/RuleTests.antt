@@ -13,7 +13,7 @@ use Rattle.cell_core.specs.declared.form.Form.TheVariants as C
 use Rattle.net_code.specs.declared.statement.Function.{Function}
 use Rattle.net_code.specs.declared.statement.Function.TheVariants as F
 use Rattle.code_fits.specs.declared.types.Types.{Types}
-use Rattle.code_fits.specs.declared.types.TypeRow.TheVariants as R
+use Rattle.code_fits.specs.declared.types.TypeEntry.TheVariants as R
 use Rattle.code_fits.specs.declared.layout.Layout as N
 use Rattle.code_fits.specs.Layouts.{Layout, layout}
 use Rattle.code_fits.specs.Rules.{CellTyped, i_pre_typed, delay_typed, hold_typed, after_typed, repeatedly_typed, LeafTyped, Goes, goes, AllGo, FunctionFits, arr_fits, seq_fits, first_fits, par_fits, loop_fits, cell_fits, time_fits, integral_fits, accum_fits, switch_fits, d_switch_fits, r_switch_fits, dr_switch_fits, k_switch_fits, p_switch_fits, old_fits, same_fits, initial_out_fits, initial_in_fits, collection_fits}
@@ -79,7 +79,7 @@ module _ (ts : Types) (ns : List ℕ) (Es : List N.Layout) (L : N.Layout) where
   abbrev at : ℕ → TypeTree
   at = tree_at ts
 
-  -- the rows' values have the types of these numbers
+  -- the statements' values have the types of these numbers
   values-are : (vs : List ℕ) → L.values.items ≡ vs → trees_at ts L.values.items ≡ trees_at ts vs
   values-are vs e = ap (trees_at ts) e
 
@@ -109,7 +109,7 @@ module _ (ts : Types) (ns : List ℕ) (Es : List N.Layout) (L : N.Layout) where
       (at a ∷ at b ∷ at d ∷ pair_ty (at b) (at d) ∷ []) None
       ei eo (ev ∙ ap (λ x. at a ∷ at b ∷ at d ∷ x ∷ []) eo) (none-kept k) (first_fits g)
 
-  pub par-ok : (fs : Vec ℕ Global) (b : ℕ) → slice_get ts.rows.items L.output ≡ Some (R.List b)
+  pub par-ok : (fs : Vec ℕ Global) (b : ℕ) → slice_get ts.entries.items L.output ≡ Some (R.List b)
       → AllGo (map (layout_of ts) Es) Ps L.olds.items (at L.input) (at b) fs.items
       → length fs.items ≤ beside (at L.output) (map type_of ts.trees.items) ns → L.values.items ≡ L.output ∷ [] → L.kept ≡ None → FitsOver ts ns Es L (F.Par fs)
   par-ok fs b o g w v k t =
@@ -151,13 +151,13 @@ module _ (ts : Types) (ns : List ℕ) (Es : List N.Layout) (L : N.Layout) where
   pub repeatedly-ok : (q v : ℕ) → 1 ≤ q → q ≤ 2 ^ 62 → IsEvent ts L.output v → TableHolds ts → CellTyped (C.Repeatedly q) (at v) (at L.input) (at L.output)
   repeatedly-ok q v l m o t = subst (λ y. CellTyped (C.Repeatedly q) (at v) (at L.input) y) (sym (t L.output (R.Event v) o)) (repeatedly_typed l m)
 
-  pub time-ok : slice_get ts.rows.items L.output ≡ Some R.Int → L.values.items ≡ L.output ∷ [] → L.kept ≡ None → FitsOver ts ns Es L (F.Clock C.Time)
+  pub time-ok : slice_get ts.entries.items L.output ≡ Some R.Int → L.values.items ≡ L.output ∷ [] → L.kept ≡ None → FitsOver ts ns Es L (F.Clock C.Time)
   time-ok o v k t =
       let eo : at L.output ≡ int_ty = t L.output R.Int o in
       fitting (bound_of ts ns) (map (layout_of ts) Es) (F.Clock C.Time) (layout_of ts L) (at L.input) int_ty (int_ty ∷ []) None
       refl eo (values-are (L.output ∷ []) v ∙ ap (λ x. x ∷ []) eo) (none-kept k) time_fits
 
-  pub integral-ok : slice_get ts.rows.items L.output ≡ Some R.Int → slice_get ts.rows.items L.input ≡ Some R.Int → L.values.items ≡ L.output ∷ [] → L.kept ≡ None
+  pub integral-ok : slice_get ts.entries.items L.output ≡ Some R.Int → slice_get ts.entries.items L.input ≡ Some R.Int → L.values.items ≡ L.output ∷ [] → L.kept ≡ None
       → FitsOver ts ns Es L (F.Clock C.Integral)
   integral-ok o i v k t =
       let eo : at L.output ≡ int_ty = t L.output R.Int o in
@@ -248,7 +248,7 @@ module _ (ts : Types) (ns : List ℕ) (Es : List N.Layout) (L : N.Layout) where
       refl refl (frozen-values (f ∷ []) e t both event by tb w) (kept-is by w.kept)
       (k_switch_fits g (watcher-goes (f ∷ []) e t both event by tb w) w.resumer)
 
-  pub p_switch-ok : (r : Expr) (fs : Vec ℕ Global) (e t both event by b d : ℕ) → slice_get ts.rows.items L.output ≡ Some (R.List b)
+  pub p_switch-ok : (r : Expr) (fs : Vec ℕ Global) (e t both event by b d : ℕ) → slice_get ts.entries.items L.output ≡ Some (R.List b)
       → LeafTyped (bound_of ts ns) Ps r (pair_ty (at L.input) int_ty) (at d) → AllGo (map (layout_of ts) Es) Ps L.olds.items (at d) (at b) fs.items
       → length fs.items ≤ 64 → length fs.items ≤ beside (at L.output) (map type_of ts.trees.items) ns
       → Freezes ts Es L fs.items e t both event by → FitsOver ts ns Es L (F.PSwitch r fs e t)
@@ -285,7 +285,7 @@ module _ (ts : Types) (ns : List ℕ) (Es : List N.Layout) (L : N.Layout) where
       fitting (bound_of ts ns) (map (layout_of ts) Es) (F.InitialIn c f) (layout_of ts L) (at L.input) (at L.output) (at L.input ∷ at L.input ∷ at L.output ∷ []) None
       refl refl (values-are (L.input ∷ L.input ∷ L.output ∷ []) v) (none-kept k) (initial_in_fits l g)
 
-  pub collection-ok : (fs : Vec ℕ Global) (m : Expr) (t by b a event u : ℕ) → L.kept ≡ Some by → slice_get ts.rows.items L.output ≡ Some (R.List b)
+  pub collection-ok : (fs : Vec ℕ Global) (m : Expr) (t by b a event u : ℕ) → L.kept ≡ Some by → slice_get ts.entries.items L.output ≡ Some (R.List b)
       → IsPair ts L.input a event → IsEvent ts event u → AllGo (map (layout_of ts) Es) Ps L.olds.items (at a) (at b) fs.items → length fs.items ≤ 64
       → 64 ≤ beside (at L.output) (map type_of ts.trees.items) ns
       → LeafTyped (bound_of ts ns) Ps m (at u) (pair_ty (list_ty int_ty) (list_ty (at by))) → TakesOver ts Es L L.olds.items t by a b

@@ -3,7 +3,7 @@ use Rattle.std.specs.Prelude.{ℕ, List, Option, Some, None}
 use Rattle.sample_core.specs.TypeTree.{TypeTree, unit_ty}
 
 -- the types of a function's parameters, the functions of the frozen networks in its scope, the types
--- of its input, its answer and its rows' values, and of the value that it keeps itself
+-- of its input, its answer and its statements' values, and of the value that it keeps itself
 pub record Layout : Type 0 where
   pub params : List TypeTree
   pub olds : List ℕ

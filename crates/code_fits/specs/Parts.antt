@@ -2,7 +2,7 @@
 use Rattle.std.specs.Prelude.{◌≡◌, ℕ, List, [], ◌∷◌, ◌++◌, map, slice_get, Some}
 use Rattle.sample_core.specs.TypeTree.{TypeTree}
 use Rattle.code_fits.specs.declared.types.Types.{Types}
-use Rattle.code_fits.specs.declared.types.TypeRow.TheVariants as R
+use Rattle.code_fits.specs.declared.types.TypeEntry.TheVariants as R
 use Rattle.code_fits.specs.declared.layout.Layout.{Layout}
 use Rattle.code_fits.specs.Rules.{Goes}
 use Rattle.code_fits.specs.Tables.{tree_at, trees_at, layout_of}
@@ -19,13 +19,13 @@ TakesOver ts Es L os t by a b =
     Goes (map (layout_of ts) Es) t (trees_at ts L.params.items ++ tree_at ts by ∷ []) os
     (tree_at ts a) (tree_at ts b)
 
--- row k of the table is of pairs of a and b
+-- entry k of the table is of pairs of a and b
 abbrev pub IsPair : Types → ℕ → ℕ → ℕ → Type 0
-IsPair ts k a b = slice_get ts.rows.items k ≡ Some (R.Pair a b)
+IsPair ts k a b = slice_get ts.entries.items k ≡ Some (R.Pair a b)
 
--- row k of the table is of events of a
+-- entry k of the table is of events of a
 abbrev pub IsEvent : Types → ℕ → ℕ → Type 0
-IsEvent ts k a = slice_get ts.rows.items k ≡ Some (R.Event a)
+IsEvent ts k a = slice_get ts.entries.items k ≡ Some (R.Event a)
 
 -- a switch watches what f answers, of a type of pairs with an event; its value starts t
 pub record Watches (ts : Types) (Es : List Layout) (L : Layout) (f t answer event by : ℕ) : Type 0

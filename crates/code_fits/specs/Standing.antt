@@ -177,12 +177,12 @@ module _ (L : Layout) (F : ℕ → Linked) (N : ℕ → Traced) (g : Given) wher
   effect_members (E.Member j) ns = ns ++ N j g ∷ []
   effect_members e ns = ns
 
-  -- a row's value of the type, where that is given
-  abbrev pub row_stands : List TypeTree → Datum → List Stand
-  row_stands [] v = untyped ∷ []
-  row_stands (T ∷ Ts) v = value T v ∷ []
+  -- a statement's value of the type, where that is given
+  abbrev pub value_stands : List TypeTree → Datum → List Stand
+  value_stands [] v = untyped ∷ []
+  value_stands (T ∷ Ts) v = value T v ∷ []
 
-  -- the types of the rows behind
+  -- the types of the statements behind
   abbrev pub behind : List TypeTree → List TypeTree
   behind [] = []
   behind (T ∷ Ts) = Ts
@@ -192,20 +192,20 @@ module _ (L : Layout) (F : ℕ → Linked) (N : ℕ → Traced) (g : Given) wher
   and_type Ts [] = Ts
   and_type Ts (T ∷ Us) = Ts ++ T ∷ []
 
-  -- a function's rows, whose values have the types Us, over registers of the types Ts
+  -- a function's statements, whose values have the types Us, over registers of the types Ts
   abbrev pub body_stands : Body → List TypeTree → List TypeTree → Local → List Tracer → List Stand
   body_stands [] Us Ts l ns = untyped ∷ []
   body_stands (S.Set a ∷ ss) Us Ts l ns =
-      act_stands a Ts l ns ++ row_stands Us (act value_in F g a l).1
+      act_stands a Ts l ns ++ value_stands Us (act value_in F g a l).1
       ++ body_stands ss (behind Us) (and_type Ts Us) (with_register l (act value_in F g a l)) ns
   body_stands (S.Exit c a ∷ ss) Us Ts l ns =
-      if holds value_in F g c l then act_stands a Ts l ns ++ row_stands Us (act value_in F g a l).1
+      if holds value_in F g c l then act_stands a Ts l ns ++ value_stands Us (act value_in F g a l).1
       else body_stands ss (behind Us) Ts l ns
   body_stands (S.Do e ∷ ss) Us Ts l ns =
       effect_stands e l
       ++ body_stands ss Us Ts (affect value_in F g e l) (effect_members e ns)
 
--- a function: its parameters, its input, and its rows
+-- a function: its parameters, its input, and its statements
 abbrev pub function_stands : (ℕ → Linked) → (ℕ → Traced) → Body → Layout → Traced
 function_stands F N b L g s x =
     values_stand L.params g.params

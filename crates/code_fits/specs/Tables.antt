@@ -8,8 +8,8 @@ use Rattle.leaf_code.specs.Operation as O
 use Rattle.leaf_code.specs.Fitting.{Bounds}
 use Rattle.net_code.specs.declared.statement.Function.{Function}
 use Rattle.code_fits.specs.declared.types.Types.{Types}
-use Rattle.code_fits.specs.declared.types.TypeRow.{TypeRow}
-use Rattle.code_fits.specs.declared.types.TypeRow.TheVariants as R
+use Rattle.code_fits.specs.declared.types.TypeEntry.{TypeEntry}
+use Rattle.code_fits.specs.declared.types.TypeEntry.TheVariants as R
 use Rattle.code_fits.specs.declared.layout.Layout as N
 use Rattle.code_fits.specs.Layouts.{Layout, layout}
 use Rattle.code_fits.specs.Rules.{FunctionFits, CodeFits}
@@ -33,18 +33,18 @@ layout_of ts L =
     layout (trees_at ts L.params.items) L.olds.items (tree_at ts L.input) (tree_at ts L.output)
     (trees_at ts L.values.items) (tree_if ts L.kept)
 
--- a row as a type, whose parts have these numbers
-abbrev pub row_tree : Types → TypeRow → TypeTree
-row_tree ts R.Unit = unit_ty
-row_tree ts R.Bool = bool_ty
-row_tree ts R.Int = int_ty
-row_tree ts (R.Pair a b) = pair_ty (tree_at ts a) (tree_at ts b)
-row_tree ts (R.Event a) = event_ty (tree_at ts a)
-row_tree ts (R.List a) = list_ty (tree_at ts a)
+-- an entry as a type, whose parts have these numbers
+abbrev pub entry_tree : Types → TypeEntry → TypeTree
+entry_tree ts R.Unit = unit_ty
+entry_tree ts R.Bool = bool_ty
+entry_tree ts R.Int = int_ty
+entry_tree ts (R.Pair a b) = pair_ty (tree_at ts a) (tree_at ts b)
+entry_tree ts (R.Event a) = event_ty (tree_at ts a)
+entry_tree ts (R.List a) = list_ty (tree_at ts a)
 
--- each row of a table is the tree at its number
+-- each entry of a table is the tree at its number
 abbrev pub TableHolds : Types → Type 0
-TableHolds ts = (k : ℕ) (r : TypeRow) → slice_get ts.rows.items k ≡ Some r → tree_at ts k ≡ row_tree ts r
+TableHolds ts = (k : ℕ) (r : TypeEntry) → slice_get ts.entries.items k ≡ Some r → tree_at ts k ≡ entry_tree ts r
 
 -- the number beside the first of some types that is this one, 0 where none is
 abbrev pub beside : TypeTree → List TypeTree → List ℕ → ℕ

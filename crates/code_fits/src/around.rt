@@ -1,4 +1,4 @@
-// Small tests of a function's layout: of types, of its rows' values, of what it calls, of its
+// Small tests of a function's layout: of types, of its statements' values, of what it calls, of its
 // expressions. Each refuses by `Untyped`.
 
 ghost use Rattle.std.specs.Prelude.{◌≡◌, ◌≤◌, ◌++◌, IfOk, None, Some, map, slice_get};
@@ -58,7 +58,7 @@ pub(crate) fn joined(all: &[usize], front: &[usize], back: &[usize]) -> Result<(
     Ok(())
 }
 
-/// The values of the function's rows have these types.
+/// The values of the function's statements have these types.
 pub(crate) fn has(around: Around<'_>, values: &[usize]) -> Result<(), Unlaid>
     ensures { IfOk result (λ _. around.entry.layout.now.values.items ≡ values.now) }
 {

@@ -2,7 +2,7 @@
 
 use crate::layout::Layout;
 use crate::leaves::{code_of, constant_of, leaf_input, leaf_of};
-use crate::types::{TypeRow, Types};
+use crate::types::{TypeEntry, Types};
 use leaf_code::{Operation, Step};
 use leaf_core::Expr;
 use net_code::Function;
@@ -43,9 +43,9 @@ fn raise(list: usize, most: usize, bounds: &mut Vec<usize>) -> Result<(), Memory
 
 /// At least 1 for each type of lists.
 fn add_rest(types: &Types, bounds: &mut Vec<usize>) -> Result<(), Memory> {
-    for (k, row) in types.rows.iter().enumerate() {
-        match row {
-            TypeRow::List(_) => raise(k, 1, bounds)?,
+    for (k, entry) in types.entries.iter().enumerate() {
+        match entry {
+            TypeEntry::List(_) => raise(k, 1, bounds)?,
             _ => raise(k, 0, bounds)?,
         }
     }
@@ -116,7 +116,7 @@ fn add_function(
         _ => {}
     }
     if let Some(c) = constant_of(function) {
-        let unit = types.row(alloc, TypeRow::Unit)?;
+        let unit = types.entry_number(alloc, TypeEntry::Unit)?;
         add_leaf(alloc, layout, unit, c, types, bounds)?;
     }
     match leaf_of(function) {

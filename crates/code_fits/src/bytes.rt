@@ -1,7 +1,7 @@
 // How many bytes values and what is kept take at most, where no type is aligned to more than 8 bytes.
 
 use crate::layout::Layout;
-use crate::types::TypeRow;
+use crate::types::TypeEntry;
 use cell_core::Form;
 use net_code::Function;
 use net_tree::MOST_MEMBERS;
@@ -24,25 +24,25 @@ pub(crate) fn at(all: &[u64], k: usize) -> u64 {
 /// The bytes of a value of each type, whose lists have at most so many elements.
 pub(crate) fn value_bytes(
     alloc: Global,
-    rows: &[TypeRow],
+    entries: &[TypeEntry],
     bounds: &[usize],
 ) -> Result<Vec<u64>, Memory> {
     let mut all = Vec::new(alloc);
-    for (row, most) in rows.iter().zip(bounds.iter()) {
-        let bytes = row_bytes(*row, *most as u64, all.as_slice());
+    for (entry, most) in entries.iter().zip(bounds.iter()) {
+        let bytes = entry_bytes(*entry, *most as u64, all.as_slice());
         all.push(bytes)?;
     }
     Ok(all)
 }
 
 /// The bytes of a value of a type, over those of earlier ones.
-fn row_bytes(row: TypeRow, most: u64, earlier: &[u64]) -> u64 {
-    match row {
-        TypeRow::Unit | TypeRow::Bool => 1,
-        TypeRow::Int => 8,
-        TypeRow::Pair(a, b) => rounded(at(earlier, a)).saturating_add(rounded(at(earlier, b))),
-        TypeRow::Event(a) => rounded(at(earlier, a)).saturating_add(8),
-        TypeRow::List(a) => rounded(at(earlier, a).saturating_mul(most)).saturating_add(8),
+fn entry_bytes(entry: TypeEntry, most: u64, earlier: &[u64]) -> u64 {
+    match entry {
+        TypeEntry::Unit | TypeEntry::Bool => 1,
+        TypeEntry::Int => 8,
+        TypeEntry::Pair(a, b) => rounded(at(earlier, a)).saturating_add(rounded(at(earlier, b))),
+        TypeEntry::Event(a) => rounded(at(earlier, a)).saturating_add(8),
+        TypeEntry::List(a) => rounded(at(earlier, a).saturating_mul(most)).saturating_add(8),
     }
 }
 

@@ -4,19 +4,19 @@ ghost use Rattle.std.specs.Prelude.{◌≡◌, IfOk, slice_get, Some};
 ghost use Rattle.sample_core.specs.TypeView.{type_of};
 ghost use Rattle.code_fits.specs.Rules.{AllBelow};
 ghost use Rattle.code_fits.specs.Programs.{HasWhole};
-ghost use Rattle.code_fits.specs.Tables.{LayoutsFit, TableHolds, row_tree, tree_at};
+ghost use Rattle.code_fits.specs.Tables.{LayoutsFit, TableHolds, entry_tree, tree_at};
 
 use crate::around::{Around, equal, layout_at, type_at};
 use crate::layout::Layout;
 use crate::rules::function_fits;
-use crate::types::{TypeRow, Types};
+use crate::types::{TypeEntry, Types};
 use crate::walk::Unlaid;
 use net_code::Function;
 use net_syntax::TypedNet;
 use sample_core::{Ty, TyChild, same_type};
 use std::alloc::Global;
 
-/// Tests that each row of the table is the tree at its number, that functions fit their layouts by the
+/// Tests that each entry of the table is the tree at its number, that functions fit their layouts by the
 /// rules of `specs/Rules`, and that the last goes from the network's input to its output with nothing
 /// in scope: `Untyped` where they don't.
 pub(crate) fn test_program(
@@ -68,37 +68,37 @@ fn test_type(types: &Types, k: usize, ty: &Ty) -> Result<(), Unlaid>
     }
 }
 
-/// Each row is the tree at its number.
+/// Each entry is the tree at its number.
 fn test_table(types: &Types) -> Result<(), Unlaid>
     ensures { IfOk result (λ _. TableHolds types.now) }
 {
-    for (k, row) in types.rows.iter().enumerate() {
+    for (k, entry) in types.entries.iter().enumerate() {
         match types.trees.get(k) {
-            Some(tree) => test_row(types, *row, tree)?,
+            Some(tree) => test_entry(types, *entry, tree)?,
             None => return Err(Unlaid::Untyped),
         }
     }
     Ok(())
 }
 
-/// A row is this type.
-fn test_row(types: &Types, row: TypeRow, tree: &Ty) -> Result<(), Unlaid>
-    ensures { IfOk result (λ _. type_of tree.now ≡ row_tree types.now row) }
+/// An entry is this type.
+fn test_entry(types: &Types, entry: TypeEntry, tree: &Ty) -> Result<(), Unlaid>
+    ensures { IfOk result (λ _. type_of tree.now ≡ entry_tree types.now entry) }
 {
-    match (row, tree) {
-        (TypeRow::Unit, Ty::Unit) => Ok(()),
-        (TypeRow::Bool, Ty::Bool) => Ok(()),
-        (TypeRow::Int, Ty::Int) => Ok(()),
-        (TypeRow::Pair(i, j), Ty::Pair(a, b)) => {
+    match (entry, tree) {
+        (TypeEntry::Unit, Ty::Unit) => Ok(()),
+        (TypeEntry::Bool, Ty::Bool) => Ok(()),
+        (TypeEntry::Int, Ty::Int) => Ok(()),
+        (TypeEntry::Pair(i, j), Ty::Pair(a, b)) => {
             test_part(types, i, a)?;
             test_part(types, j, b)?;
             Ok(())
         }
-        (TypeRow::Event(i), Ty::Event(a)) => {
+        (TypeEntry::Event(i), Ty::Event(a)) => {
             test_part(types, i, a)?;
             Ok(())
         }
-        (TypeRow::List(i), Ty::List(a)) => {
+        (TypeEntry::List(i), Ty::List(a)) => {
             test_part(types, i, a)?;
             Ok(())
         }

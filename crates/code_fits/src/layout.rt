@@ -16,7 +16,7 @@ pub struct Layout {
     pub input: usize,
     /// The type of what it answers.
     pub output: usize,
-    /// The types of its rows' values, in order, of those that set a register or answer.
+    /// The types of its statements' values, in order, of those that set a register or answer.
     pub values: Vec<usize>,
     /// The type of the value that it keeps itself: what is fed back, what a cell keeps, what has
     /// taken over.

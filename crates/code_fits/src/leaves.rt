@@ -1,7 +1,7 @@
 // The expressions of functions, and their code.
 
 use crate::layout::Layout;
-use crate::types::{TypeRow, Types};
+use crate::types::{TypeEntry, Types};
 use crate::walk::trees;
 use leaf_code::{LeafCode, compile_expr};
 use leaf_core::Expr;
@@ -9,7 +9,7 @@ use net_code::Function;
 use sample_core::Memory;
 use std::alloc::Global;
 
-/// The expressions of a function, in the order of its rows: those that look at no input, and at most
+/// The expressions of a function, in the order of its statements: those that look at no input, and at most
 /// one that does.
 pub(crate) fn constant_of(function: &Function) -> Option<&Expr> {
     match function {
@@ -47,13 +47,13 @@ pub(crate) fn leaf_input(
                 Err(_) => layout.input,
             };
             match layout.kept {
-                Some(kept) => types.row(alloc, TypeRow::Pair(kept, value)),
+                Some(kept) => types.entry_number(alloc, TypeEntry::Pair(kept, value)),
                 None => Ok(value),
             }
         }
         Function::PSwitch(..) => {
-            let int = types.row(alloc, TypeRow::Int)?;
-            types.row(alloc, TypeRow::Pair(layout.input, int))
+            let int = types.entry_number(alloc, TypeEntry::Int)?;
+            types.entry_number(alloc, TypeEntry::Pair(layout.input, int))
         }
         Function::Collection(..) => Ok(event_value(layout.input, types)),
         _ => Ok(layout.input),

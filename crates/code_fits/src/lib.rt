@@ -25,5 +25,5 @@ mod walk;
 pub use laws::fit_laws;
 pub use layout::{Layout, Program};
 pub use program::{MOST_STATE, Refused, program_of};
-pub use types::{TypeRow, Types};
+pub use types::{TypeEntry, Types};
 pub use walk::Unlaid;

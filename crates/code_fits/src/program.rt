@@ -128,7 +128,7 @@ fn state_bytes(
     types: &Types,
     bounds: &[usize],
 ) -> Result<u64, Refused> {
-    let values = value_bytes(alloc, types.rows.as_slice(), bounds)?;
+    let values = value_bytes(alloc, types.entries.as_slice(), bounds)?;
     let kept = kept_bytes(alloc, functions, layouts, values.as_slice())?;
     match kept.as_slice().iter().position(|bytes| *bytes > MOST_STATE) {
         Some(k) => Err(Refused::State(position_of(alloc, layouts, k)?)),

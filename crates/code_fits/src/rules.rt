@@ -4,7 +4,7 @@ ghost use Rattle.std.specs.Prelude.{◌≡◌, ◌≤◌, IfOk, Some, slice_get,
 ghost use Rattle.sample_core.specs.TypeTree.{int_ty, list_ty, pair_ty};
 ghost use Rattle.cell_core.specs.declared.form.Form.TheVariants as C;
 ghost use Rattle.net_code.specs.declared.statement.Function.TheVariants as F;
-ghost use Rattle.code_fits.specs.declared.types.TypeRow.TheVariants as R;
+ghost use Rattle.code_fits.specs.declared.types.TypeEntry.TheVariants as R;
 ghost use Rattle.code_fits.specs.Rules.{CellTyped, LeafTyped};
 ghost use Rattle.code_fits.specs.Parts.{Freezes, IsEvent, IsPair, Restarts, Watches};
 ghost use Rattle.code_fits.specs.Tables.{FitsOver, TableHolds, bound_of, tree_at, trees_at};
@@ -13,7 +13,7 @@ use crate::around::{
     Around, all_go, answers_many, equal, goes, has, keeps_none, kept, layout_at, leaf, leaf_at,
     leaf_beside, leaf_to, number_at, resumes, same, takes_over,
 };
-use crate::types::TypeRow;
+use crate::types::TypeEntry;
 use crate::walk::Unlaid;
 use cell_core::Form;
 use leaf_core::Expr;
@@ -234,10 +234,10 @@ fn repeatedly(around: Around<'_>, q: u64, v: usize) -> Result<(), Unlaid>
 
 /// A type of the table is that of numbers.
 fn is_int(around: Around<'_>, k: usize) -> Result<(), Unlaid>
-    ensures { IfOk result (λ _. slice_get around.entry.types.now.rows.items k ≡ Some R.Int) }
+    ensures { IfOk result (λ _. slice_get around.entry.types.now.entries.items k ≡ Some R.Int) }
 {
-    match around.types.rows.get(k) {
-        Some(TypeRow::Int) => Ok(()),
+    match around.types.entries.get(k) {
+        Some(TypeEntry::Int) => Ok(()),
         _ => Err(Unlaid::Untyped),
     }
 }

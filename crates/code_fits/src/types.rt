@@ -2,7 +2,7 @@
 
 ghost use Rattle.std.specs.Prelude.{◌≡◌, IfOk, Some, slice_get};
 ghost use Rattle.sample_core.specs.TypeView.{type_of};
-ghost use Rattle.code_fits.specs.declared.types.TypeRow.TheVariants as R;
+ghost use Rattle.code_fits.specs.declared.types.TypeEntry.TheVariants as R;
 ghost use Rattle.code_fits.specs.Tables.{tree_at};
 
 use crate::walk::Unlaid;
@@ -11,7 +11,7 @@ use std::alloc::Global;
 
 /// A type over earlier ones, which are named by their numbers.
 #[derive(Clone, Copy, PartialEq, Eq)]
-pub enum TypeRow {
+pub enum TypeEntry {
     /// The one value `unit`.
     Unit,
     /// `true` and `false`.
@@ -29,8 +29,8 @@ pub enum TypeRow {
 /// Types, each once, its parts before it.
 #[derive(Drop)]
 pub struct Types {
-    /// The types as rows.
-    pub rows: Vec<TypeRow>,
+    /// The types, each as an entry.
+    pub entries: Vec<TypeEntry>,
     /// The same as trees.
     pub trees: Vec<Ty>,
 }
@@ -39,7 +39,7 @@ impl Types {
     /// No types.
     pub(crate) fn new(alloc: Global) -> Types {
         Types {
-            rows: Vec::new(alloc),
+            entries: Vec::new(alloc),
             trees: Vec::new(alloc),
         }
     }
@@ -48,17 +48,17 @@ impl Types {
     #[cycle(number)]
     pub(crate) fn number(&mut self, alloc: Global, ty: &Ty) -> Result<usize, Memory> {
         match ty {
-            Ty::Unit => self.row(alloc, TypeRow::Unit),
-            Ty::Bool => self.row(alloc, TypeRow::Bool),
-            Ty::Int => self.row(alloc, TypeRow::Int),
+            Ty::Unit => self.entry_number(alloc, TypeEntry::Unit),
+            Ty::Bool => self.entry_number(alloc, TypeEntry::Bool),
+            Ty::Int => self.entry_number(alloc, TypeEntry::Int),
             Ty::Pair(a, b) => self.number_pair(alloc, a, b),
             Ty::Event(a) => {
                 let a = self.number(alloc, a.get())?;
-                self.row(alloc, TypeRow::Event(a))
+                self.entry_number(alloc, TypeEntry::Event(a))
             }
             Ty::List(a) => {
                 let a = self.number(alloc, a.get())?;
-                self.row(alloc, TypeRow::List(a))
+                self.entry_number(alloc, TypeEntry::List(a))
             }
         }
     }
@@ -68,33 +68,37 @@ impl Types {
     fn number_pair(&mut self, alloc: Global, a: &TyChild, b: &TyChild) -> Result<usize, Memory> {
         let a = self.number(alloc, a.get())?;
         let b = self.number(alloc, b.get())?;
-        self.row(alloc, TypeRow::Pair(a, b))
+        self.entry_number(alloc, TypeEntry::Pair(a, b))
     }
 
-    /// The number of a row, which is added if it isn't there.
-    pub(crate) fn row(&mut self, alloc: Global, row: TypeRow) -> Result<usize, Memory> {
-        if let Some(k) = self.rows.iter().position(|known| *known == row) {
+    /// The number of an entry, which is added if it isn't there.
+    pub(crate) fn entry_number(
+        &mut self,
+        alloc: Global,
+        entry: TypeEntry,
+    ) -> Result<usize, Memory> {
+        if let Some(k) = self.entries.iter().position(|known| *known == entry) {
             return Ok(k);
         }
-        let tree = self.tree_of(alloc, row)?;
+        let tree = self.tree_of(alloc, entry)?;
         self.trees.push(tree)?;
-        self.rows.push(row)?;
-        Ok(self.rows.len().saturating_sub(1))
+        self.entries.push(entry)?;
+        Ok(self.entries.len().saturating_sub(1))
     }
 
-    /// A row as a tree.
-    fn tree_of(&self, alloc: Global, row: TypeRow) -> Result<Ty, Memory> {
-        match row {
-            TypeRow::Unit => Ok(Ty::Unit),
-            TypeRow::Bool => Ok(Ty::Bool),
-            TypeRow::Int => Ok(Ty::Int),
-            TypeRow::Pair(a, b) => {
+    /// An entry as a tree.
+    fn tree_of(&self, alloc: Global, entry: TypeEntry) -> Result<Ty, Memory> {
+        match entry {
+            TypeEntry::Unit => Ok(Ty::Unit),
+            TypeEntry::Bool => Ok(Ty::Bool),
+            TypeEntry::Int => Ok(Ty::Int),
+            TypeEntry::Pair(a, b) => {
                 let a = self.child(alloc, a)?;
                 let b = self.child(alloc, b)?;
                 Ok(Ty::Pair(a, b))
             }
-            TypeRow::Event(a) => Ok(Ty::Event(self.child(alloc, a)?)),
-            TypeRow::List(a) => Ok(Ty::List(self.child(alloc, a)?)),
+            TypeEntry::Event(a) => Ok(Ty::Event(self.child(alloc, a)?)),
+            TypeEntry::List(a) => Ok(Ty::List(self.child(alloc, a)?)),
         }
     }
 
@@ -115,30 +119,30 @@ impl Types {
 
     /// The parts of a type of pairs.
     pub(crate) fn parts(&self, k: usize) -> Result<(usize, usize), Unlaid>
-        ensures { IfOk result (λ p. slice_get self.now.rows.items k ≡ Some (R.Pair p.0 p.1)) }
+        ensures { IfOk result (λ p. slice_get self.now.entries.items k ≡ Some (R.Pair p.0 p.1)) }
     {
-        match self.rows.get(k) {
-            Some(TypeRow::Pair(a, b)) => Ok((*a, *b)),
+        match self.entries.get(k) {
+            Some(TypeEntry::Pair(a, b)) => Ok((*a, *b)),
             _ => Err(Unlaid::Untyped),
         }
     }
 
     /// The type of what an event carries.
     pub(crate) fn carried(&self, k: usize) -> Result<usize, Unlaid>
-        ensures { IfOk result (λ a. slice_get self.now.rows.items k ≡ Some (R.Event a)) }
+        ensures { IfOk result (λ a. slice_get self.now.entries.items k ≡ Some (R.Event a)) }
     {
-        match self.rows.get(k) {
-            Some(TypeRow::Event(a)) => Ok(*a),
+        match self.entries.get(k) {
+            Some(TypeEntry::Event(a)) => Ok(*a),
             _ => Err(Unlaid::Untyped),
         }
     }
 
     /// The type of a list's elements.
     pub(crate) fn element(&self, k: usize) -> Result<usize, Unlaid>
-        ensures { IfOk result (λ a. slice_get self.now.rows.items k ≡ Some (R.List a)) }
+        ensures { IfOk result (λ a. slice_get self.now.entries.items k ≡ Some (R.List a)) }
     {
-        match self.rows.get(k) {
-            Some(TypeRow::List(a)) => Ok(*a),
+        match self.entries.get(k) {
+            Some(TypeEntry::List(a)) => Ok(*a),
             _ => Err(Unlaid::Untyped),
         }
     }

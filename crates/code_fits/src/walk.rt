@@ -6,7 +6,7 @@ ghost use Rattle.code_fits.specs.Tables.{trees_at};
 
 use crate::around::same;
 use crate::layout::Layout;
-use crate::types::{TypeRow, Types};
+use crate::types::{TypeEntry, Types};
 use leaf_core::{Expr, ExprFault, type_of_expr};
 use net_syntax::TypedNet;
 use net_tree::{Members, Net, NetChild};
@@ -94,8 +94,8 @@ fn numbers(alloc: Global, all: &[usize]) -> Result<Vec<usize>, Memory> {
     Ok(copies)
 }
 
-/// Adds the layout of a node, whose rows' values have these types; the type of what it answers, that
-/// of its last row.
+/// Adds the layout of a node, whose statements' values have these types; the type of what it answers, that
+/// of its last statement.
 fn push(
     frame: Frame<'_>,
     input: usize,
@@ -182,13 +182,13 @@ pub(crate) fn trees(alloc: Global, numbers: &[usize], types: &Types) -> Result<V
 
 /// The type of a constant.
 fn constant(frame: Frame<'_>, c: &Expr, to: &mut Layouts) -> Result<usize, Unlaid> {
-    let unit = to.types.row(frame.alloc, TypeRow::Unit)?;
+    let unit = to.types.entry_number(frame.alloc, TypeEntry::Unit)?;
     leaf(frame, unit, c, to)
 }
 
 /// The type of pairs of these.
 fn pair(frame: Frame<'_>, a: usize, b: usize, to: &mut Layouts) -> Result<usize, Memory> {
-    to.types.row(frame.alloc, TypeRow::Pair(a, b))
+    to.types.entry_number(frame.alloc, TypeEntry::Pair(a, b))
 }
 
 /// The position of child k.
@@ -387,20 +387,20 @@ fn lay_accum(
     let value = to.types.carried(input)?;
     let both = pair(frame, kept, value, to)?;
     same(leaf(frame, both, g, to)?, kept)?;
-    let output = to.types.row(frame.alloc, TypeRow::Event(kept))?;
+    let output = to.types.entry_number(frame.alloc, TypeEntry::Event(kept))?;
     push(frame, input, &[kept, output], Some(kept), true, to)
 }
 
 /// `after`, `repeatedly`.
 fn lay_timer(frame: Frame<'_>, c: &Expr, input: usize, to: &mut Layouts) -> Result<usize, Unlaid> {
     let kept = constant(frame, c, to)?;
-    let output = to.types.row(frame.alloc, TypeRow::Event(kept))?;
+    let output = to.types.entry_number(frame.alloc, TypeEntry::Event(kept))?;
     push(frame, input, &[kept, output], Some(kept), true, to)
 }
 
 /// `time`, `integral`.
 fn lay_clock(frame: Frame<'_>, input: usize, to: &mut Layouts) -> Result<usize, Unlaid> {
-    let int = to.types.row(frame.alloc, TypeRow::Int)?;
+    let int = to.types.entry_number(frame.alloc, TypeEntry::Int)?;
     push(frame, input, &[int], None, true, to)
 }
 
@@ -601,7 +601,7 @@ fn lay_p_switch(
     input: usize,
     to: &mut Layouts,
 ) -> Result<usize, Unlaid> {
-    let int = to.types.row(frame.alloc, TypeRow::Int)?;
+    let int = to.types.entry_number(frame.alloc, TypeEntry::Int)?;
     let numbered = pair(frame, input, int, to)?;
     let routed = leaf(frame, numbered, r, to)?;
     let mut functions = Vec::new(frame.alloc);
@@ -612,7 +612,9 @@ fn lay_p_switch(
         input: routed,
         output: members.output,
     };
-    let b = to.types.row(frame.alloc, TypeRow::List(members.output))?;
+    let b = to
+        .types
+        .entry_number(frame.alloc, TypeEntry::List(members.output))?;
     lay_frozen(frame, frozen, rest, b, input, to)
 }
 
@@ -667,7 +669,9 @@ fn lay_par(
 ) -> Result<usize, Unlaid> {
     let mut functions = Vec::new(frame.alloc);
     let members = lay_members(frame, 0, fs.as_slice(), input, &mut functions, to)?;
-    let output = to.types.row(frame.alloc, TypeRow::List(members.output))?;
+    let output = to
+        .types
+        .entry_number(frame.alloc, TypeEntry::List(members.output))?;
     push(frame, input, &[output], None, members.keeps, to)
 }
 
@@ -687,7 +691,9 @@ fn lay_collection(
     let by = started(frame, event, m, to)?;
     let t = taker(frame, members.behind.saturating_add(1), t.get(), by, d, to)?;
     same(t.output, members.output)?;
-    let output = to.types.row(frame.alloc, TypeRow::List(members.output))?;
+    let output = to
+        .types
+        .entry_number(frame.alloc, TypeEntry::List(members.output))?;
     push(frame, input, &[output], Some(by), true, to)
 }
 
@@ -696,7 +702,7 @@ fn started(frame: Frame<'_>, event: usize, m: &Expr, to: &mut Layouts) -> Result
     let value = to.types.carried(event)?;
     let chosen = leaf(frame, value, m, to)?;
     let (kept, made) = to.types.parts(chosen)?;
-    let int = to.types.row(frame.alloc, TypeRow::Int)?;
+    let int = to.types.entry_number(frame.alloc, TypeEntry::Int)?;
     same(to.types.element(kept)?, int)?;
     to.types.element(made)
 }

@@ -4,7 +4,7 @@ use Rattle.sample_core.specs.TypeTree.{TypeTree}
 use Rattle.net_code.specs.declared.statement.Scope.{Scope}
 use Rattle.net_code.specs.declared.statement.Scope.TheVariants as C
 use Rattle.code_text.specs.Piece.{Piece, text, name, number, letter, reg, pieces_text}
-use Rattle.code_text.specs.CellText.{Declared, zeros_row}
+use Rattle.code_text.specs.CellText.{Declared, zeros_pieces}
 use Rattle.code_text.specs.ScopeText.{Named, Caller, type_at, members, call_text, leaf_call_text}
 
 -- the type of this number, if there is one
@@ -17,9 +17,9 @@ abbrev pub kept_type : Caller → Option TypeTree
 kept_type c = type_in c.named c.layout.kept
 
 -- the letters of a type, if there is one
-abbrev pub letters_row : Option TypeTree → List Piece
-letters_row None = []
-letters_row (Some T) = letter T ∷ []
+abbrev pub letters_pieces : Option TypeTree → List Piece
+letters_pieces None = []
+letters_pieces (Some T) = letter T ∷ []
 
 -- the first so many members are the written ones
 abbrev pub written_text : List ℕ → ℕ → List ℕ
@@ -60,8 +60,8 @@ module _ (c : Caller) (d : Declared) where
       (text (codes " }\n") ∷ d.indent ∷ text (codes "uint32_t kept = s->count;\n") ∷ []))
 
   -- the members that are named go on, on the other side
-  abbrev pub moved_rows : List Piece
-  moved_rows =
+  abbrev pub moved_pieces : List Piece
+  moved_pieces =
       text (codes ";\n")
       ∷ d.indent ∷ text (codes "    const struct ") ∷ name ∷ text (codes "_m") ∷ number c.number
       ∷ text (codes " *was = s->m[s->side];\n")
@@ -75,8 +75,8 @@ module _ (c : Caller) (d : Declared) where
       ∷ d.indent ∷ text (codes "    }\n") ∷ []
 
   -- others start behind them, as long as there are at most 64
-  abbrev pub started_rows : List Piece
-  started_rows =
+  abbrev pub started_pieces : List Piece
+  started_pieces =
       d.indent ∷ text (codes "    uint32_t all = kept;\n")
       ∷ d.indent ∷ text (codes "    for (uint32_t i = 0; (i < w.b.n) && (all < 64); i++) {\n")
       ∷ d.indent ∷ text (codes "        to[all].origin = ") ∷ number written_count
@@ -88,14 +88,14 @@ module _ (c : Caller) (d : Declared) where
 
   -- the event beside register k is asked which go on, and which start
   abbrev pub choice_text : ℕ → ℕ → List ℕ
-  choice_text row k =
+  choice_text index k =
       pieces_text c.named.prefix
       (d.indent ∷ text (codes "if (") ∷ reg k ∷ text (codes ".b.is) {\n")
       ∷ d.indent ∷ text (codes "    const struct ") ∷ name ∷ text (codes "_plil") ∷ [])
-      ++ (pieces_text c.named.prefix (letters_row (kept_type c))
+      ++ (pieces_text c.named.prefix (letters_pieces (kept_type c))
       ++ (pieces_text c.named.prefix (text (codes " w = ") ∷ [])
-      ++ (leaf_call_text c row (text (codes "&") ∷ reg k ∷ text (codes ".b.v") ∷ [])
-      ++ (pieces_text c.named.prefix moved_rows ++ pieces_text c.named.prefix started_rows))))
+      ++ (leaf_call_text c index (text (codes "&") ∷ reg k ∷ text (codes ".b.v") ∷ [])
+      ++ (pieces_text c.named.prefix moved_pieces ++ pieces_text c.named.prefix started_pieces))))
 
   -- the answer of the written member i, function f
   abbrev pub case_text : ℕ → ℕ → ℕ → List ℕ
@@ -136,8 +136,8 @@ module _ (c : Caller) (d : Declared) where
       ++ pieces_text c.named.prefix
       (d.indent ∷ text (codes "    }\n") ∷ d.indent ∷ text (codes "}\n") ∷ [])))
 
-  -- the answers of a collection, in a row, of the members and of function t, at register k
+  -- the answers of a collection, in a statement, of the members and of function t, at register k
   abbrev pub collection_text : ℕ → ℕ → ℕ → List ℕ
-  collection_text row t k =
-      pieces_text c.named.prefix (zeros_row d [])
-      ++ (beginning_text ++ (choice_text row k ++ turns_text t k))
+  collection_text index t k =
+      pieces_text c.named.prefix (zeros_pieces d [])
+      ++ (beginning_text ++ (choice_text index k ++ turns_text t k))

@@ -14,7 +14,7 @@ use Rattle.code_text.specs.PieceView.{pieces_if}
 use Rattle.code_text.specs.NamedText.{with_each}
 use Rattle.code_text.specs.TypeText.{structs_text, helpers_text}
 use Rattle.code_text.specs.ScopeText.{Named, Caller}
-use Rattle.code_text.specs.FixedText.{use_rows, opening_rows, prototype_rows, numbers_text, entries_text}
+use Rattle.code_text.specs.FixedText.{use_pieces, opening_pieces, prototype_pieces, numbers_text, entries_text}
 use Rattle.code_text.specs.KeptText.{own_structs}
 use Rattle.code_text.specs.FunctionText.{input_type, output_type, comment_text, function_text}
 use Rattle.code_text.specs.FilterText.{filter_text}
@@ -80,34 +80,34 @@ type_name T s =
     ∷ spelt T ∷ text (codes " */") ∷ []
 
 -- what POSIX has, where there is a filter
-abbrev pub posix_rows : Printed → List Piece
-posix_rows P.Filter = text POSIX.now ∷ []
-posix_rows P.Functions = []
-posix_rows P.Header = []
+abbrev pub posix_pieces : Printed → List Piece
+posix_pieces P.Filter = text POSIX.now ∷ []
+posix_pieces P.Functions = []
+posix_pieces P.Header = []
 
 -- the file of a program, of which c is the last function
 module _ (c : Caller) (o : Options) where
   -- the comment at the top: the types, the network's lines, how it is used, and its figures
-  abbrev pub types_row : List Piece
-  types_row =
+  abbrev pub types_pieces : List Piece
+  types_pieces =
       text (codes "/* ") ∷ name ∷ text (codes ": ") ∷ spelt (input_type c) ∷ text (codes " -> ")
       ∷ spelt (output_type c) ∷ text (codes ". By `yampa compile`, of the network\n *\n * ") ∷ []
 
-  abbrev pub figures_row : List Piece
-  figures_row =
+  abbrev pub figures_pieces : List Piece
+  figures_pieces =
       text (codes " *\n * Weight ") ∷ number o.weight ∷ text (codes ". The state has at most ")
       ∷ number c.named.program.state_bytes ∷ text (codes " bytes, lists of the input at most ")
       ∷ number o.most ∷ text (codes " elements. */\n") ∷ []
 
   abbrev pub about_text : List ℕ
   about_text =
-      pieces_text o.prefix types_row
+      pieces_text o.prefix types_pieces
       ++ (with_each 10 (codes "\n * ") o.network
-      ++ (pieces_text o.prefix use_rows ++ pieces_text o.prefix figures_row))
+      ++ (pieces_text o.prefix use_pieces ++ pieces_text o.prefix figures_pieces))
 
   -- the struct of all that is kept: what the last function keeps
-  abbrev pub stored_row : List Piece
-  stored_row =
+  abbrev pub stored_pieces : List Piece
+  stored_pieces =
       pieces_if c.layout.keeps
       (text (codes "    struct ") ∷ name ∷ text (codes "_s") ∷ number c.number ∷ text (codes " s;\n")
       ∷ [])
@@ -118,17 +118,17 @@ module _ (c : Caller) (o : Options) where
       ++ (pieces_text o.prefix (type_name (output_type c) (codes "_output"))
       ++ (pieces_text o.prefix
       (text (codes "\nstruct ") ∷ name ∷ text (codes "_state {\n    bool started;\n") ∷ [])
-      ++ (pieces_text o.prefix stored_row ++ pieces_text o.prefix (text (codes "};\n") ∷ []))))
+      ++ (pieces_text o.prefix stored_pieces ++ pieces_text o.prefix (text (codes "};\n") ∷ []))))
 
   -- the declarations: the comment, types, structs, and what a program calls
   abbrev pub declarations_text : List ℕ
   declarations_text =
       about_text
-      ++ (pieces_text o.prefix (posix_rows o.printed)
-      ++ (pieces_text o.prefix opening_rows
+      ++ (pieces_text o.prefix (posix_pieces o.printed)
+      ++ (pieces_text o.prefix opening_pieces
       ++ (structs_text o.prefix c.named.program.bounds.items 0 (types_of c.named)
       ++ (all_kept c.named 0 c.named.program.functions.items
-      ++ (state_text ++ pieces_text o.prefix prototype_rows)))))
+      ++ (state_text ++ pieces_text o.prefix prototype_pieces)))))
 
   -- the functions: on numbers and types, of the network, and the two that a program calls
   abbrev pub definitions_text : List ℕ

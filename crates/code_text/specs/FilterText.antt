@@ -30,20 +30,20 @@ reader_head T =
     ∷ name ∷ text (codes "_reader *r, ") ∷ ty T ∷ text (codes " *v)\n{\n") ∷ []
 
 -- its lines; a list has at most so many elements
-abbrev pub reading_rows : ℕ → TypeTree → List Piece
-reading_rows most (pair_ty A B) =
+abbrev pub reading_pieces : ℕ → TypeTree → List Piece
+reading_pieces most (pair_ty A B) =
     text (codes "    return ") ∷ name ∷ text (codes "_word(r, 'P', \"(pair\", 5) && ") ∷ name
     ∷ text (codes "_byte(r, ' ') && ") ∷ name ∷ text (codes "_read_") ∷ letter A
     ∷ text (codes "(r, &v->a)\n        && ") ∷ name ∷ text (codes "_byte(r, ' ') && ") ∷ name
     ∷ text (codes "_read_") ∷ letter B ∷ text (codes "(r, &v->b) && ") ∷ name
     ∷ text (codes "_byte(r, ')');\n") ∷ []
-reading_rows most (event_ty A) =
+reading_pieces most (event_ty A) =
     text (codes "    v->is = ") ∷ name
     ∷ text (codes "_is_word(r, \"(event\", 6);\n    if (v->is) {\n        return ") ∷ name
     ∷ text (codes "_byte(r, ' ') && ") ∷ name ∷ text (codes "_read_") ∷ letter A
     ∷ text (codes "(r, &v->v) && ") ∷ name ∷ text (codes "_byte(r, ')');\n    }\n    return ") ∷ name
     ∷ text (codes "_word(r, 'E', \"none\", 4);\n") ∷ []
-reading_rows most (list_ty A) =
+reading_pieces most (list_ty A) =
     text (codes "    if (!") ∷ name
     ∷ text
     (codes "_word(r, 'L', \"(list\", 5)) {\n        return false;\n    }\n    for (v->n = 0; *r->at != ')'; v->n++) {\n        if (!")
@@ -52,13 +52,13 @@ reading_rows most (list_ty A) =
     ∷ text
     (codes "(r, &v->e[v->n])) {\n            return false;\n        }\n    }\n    r->at++;\n    return true;\n")
     ∷ []
-reading_rows most T = []
+reading_pieces most T = []
 
 -- the function
 abbrev pub reader_text : List ℕ → ℕ → TypeTree → List ℕ
 reader_text P most T =
     pieces_text P (reader_head T)
-    ++ (pieces_text P (reading_rows most T) ++ pieces_text P (text (codes "}\n") ∷ []))
+    ++ (pieces_text P (reading_pieces most T) ++ pieces_text P (text (codes "}\n") ∷ []))
 
 -- where a type has parts, and U has it
 unfoldable pub reader_if : List ℕ → ℕ → TypeTree → TypeTree → List ℕ
@@ -76,31 +76,31 @@ writer_head T =
     ∷ ty T ∷ text (codes " *v)\n{\n") ∷ []
 
 -- its lines
-abbrev pub writing_rows : TypeTree → List Piece
-writing_rows (pair_ty A B) =
+abbrev pub writing_pieces : TypeTree → List Piece
+writing_pieces (pair_ty A B) =
     text (codes "    ") ∷ name ∷ text (codes "_put(\"(pair \", 6);\n    ") ∷ name
     ∷ text (codes "_put_") ∷ letter A ∷ text (codes "(&v->a);\n    ") ∷ name
     ∷ text (codes "_put(\" \", 1);\n    ") ∷ name ∷ text (codes "_put_") ∷ letter B
     ∷ text (codes "(&v->b);\n    ") ∷ name ∷ text (codes "_put(\")\", 1);\n") ∷ []
-writing_rows (event_ty A) =
+writing_pieces (event_ty A) =
     text (codes "    if (v->is) {\n        ") ∷ name
     ∷ text (codes "_put(\"(event \", 7);\n        ") ∷ name ∷ text (codes "_put_") ∷ letter A
     ∷ text (codes "(&v->v);\n        ") ∷ name
     ∷ text (codes "_put(\")\", 1);\n    } else {\n        ") ∷ name
     ∷ text (codes "_put(\"none\", 4);\n    }\n") ∷ []
-writing_rows (list_ty A) =
+writing_pieces (list_ty A) =
     text (codes "    ") ∷ name
     ∷ text
     (codes "_put(\"(list\", 5);\n    for (uint32_t i = 0; i < v->n; i++) {\n        ")
     ∷ name ∷ text (codes "_put(\" \", 1);\n        ") ∷ name ∷ text (codes "_put_") ∷ letter A
     ∷ text (codes "(&v->e[i]);\n    }\n    ") ∷ name ∷ text (codes "_put(\")\", 1);\n") ∷ []
-writing_rows T = []
+writing_pieces T = []
 
 -- the function
 abbrev pub writer_text : List ℕ → TypeTree → List ℕ
 writer_text P T =
     pieces_text P (writer_head T)
-    ++ (pieces_text P (writing_rows T) ++ pieces_text P (text (codes "}\n") ∷ []))
+    ++ (pieces_text P (writing_pieces T) ++ pieces_text P (text (codes "}\n") ∷ []))
 
 -- where a type has parts, and U has it
 abbrev pub writer_if : List ℕ → TypeTree → TypeTree → List ℕ
@@ -112,8 +112,8 @@ writers_text P U [] = []
 writers_text P U (T ∷ Ts) = writer_if P U T ++ writers_text P U Ts
 
 -- how a sample's input, of type A, is read, and its output, of type B, written
-abbrev pub sample_rows : TypeTree → TypeTree → List Piece
-sample_rows A B =
+abbrev pub sample_pieces : TypeTree → TypeTree → List Piece
+sample_pieces A B =
     text (codes "\nstatic bool ") ∷ name ∷ text (codes "_read_input(struct ") ∷ name
     ∷ text (codes "_reader *r, ") ∷ name ∷ text (codes "_input *input)\n{\n    return ") ∷ name
     ∷ text (codes "_read_") ∷ letter A ∷ text (codes "(r, input);\n}\n\nstatic void ") ∷ name
@@ -125,4 +125,4 @@ abbrev pub filter_text : List ℕ → List TypeTree → TypeTree → TypeTree �
 filter_text P Ts A B most =
     named_text P HEAD.now
     ++ (readers_text P most A Ts
-    ++ (writers_text P B Ts ++ (pieces_text P (sample_rows A B) ++ named_text P TAIL.now)))
+    ++ (writers_text P B Ts ++ (pieces_text P (sample_pieces A B) ++ named_text P TAIL.now)))

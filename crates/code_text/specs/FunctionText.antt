@@ -1,4 +1,4 @@
--- The C of a function: its leaves, and its rows.
+-- The C of a function: its leaves, and its statements.
 use Rattle.std.specs.Prelude.{ℕ, zero, suc, ◌+◌, Bool, true, false, List, [], ◌∷◌, ◌++◌, codes, map, get_or, Option, Some, None}
 use Rattle.sample_core.specs.TypeTree.{TypeTree, unit_ty, int_ty, pair_ty, event_ty}
 use Rattle.leaf_core.specs.declared.expr.Expr.{Expr}
@@ -15,13 +15,13 @@ use Rattle.net_code.specs.declared.statement.Statement.TheVariants as S
 use Rattle.net_code.specs.declared.statement.Function.{Function}
 use Rattle.net_code.specs.declared.statement.Function.TheVariants as F
 use Rattle.net_code.specs.Running.{Body}
-use Rattle.net_code.specs.CodeView.{rows_of}
+use Rattle.net_code.specs.CodeView.{body_of}
 use Rattle.code_text.specs.Piece.{Piece, text, name, number, ty, spelt, reg, pieces_text}
 use Rattle.code_text.specs.PieceView.{pieces_if}
 use Rattle.code_text.specs.LeafText.{Leaf, leaf_text}
 use Rattle.code_text.specs.CellText.{Declared}
 use Rattle.code_text.specs.ScopeText.{Caller, type_at, arguments_text, unused_line}
-use Rattle.code_text.specs.RowText.{action_text, effect_text, guard_row}
+use Rattle.code_text.specs.StatementText.{action_text, effect_text, guard_pieces}
 use Rattle.code_text.specs.CollectionText.{kept_type}
 
 -- the word of a cell's form
@@ -74,17 +74,17 @@ abbrev pub chosen_type : TypeTree → TypeTree
 chosen_type (pair_ty A (event_ty B)) = B
 chosen_type T = unit_ty
 
--- whether a row answers under a condition
+-- whether a statement answers under a condition
 abbrev pub is_guarded : Guard → Bool
 is_guarded G.Always = false
 is_guarded g = true
 
--- what stands before the lines of a row that answers
+-- what stands before the lines of a statement that answers
 abbrev pub exit_indent : Bool → List ℕ
 exit_indent true = codes "        "
 exit_indent false = codes "    "
 
--- how many registers a row sets, and of how many values it gives a type
+-- how many registers a statement sets, and of how many values it gives a type
 abbrev pub sets : Statement → ℕ
 sets (S.Set a) = 1
 sets s = 0
@@ -117,12 +117,12 @@ module _ (c : Caller) where
       (text (codes "): ") ∷ spelt input_type ∷ text (codes " -> ") ∷ spelt output_type
       ∷ text (codes " */\n") ∷ []))
 
-  -- the leaf in row i, an expression at an input of type A
+  -- the leaf in statement i, an expression at an input of type A
   abbrev pub leaf_at : ℕ → Bool → TypeTree → Expr → Leaf
   leaf_at i constant A e =
-      record { function = c.number; row = i; input = A; constant = constant; params = param_types; code = leaf_code param_types A (expression_of e) }
+      record { function = c.number; index = i; input = A; constant = constant; params = param_types; code = leaf_code param_types A (expression_of e) }
 
-  -- the function of the leaf of an action in row i, if it has one
+  -- the function of the leaf of an action in statement i, if it has one
   abbrev pub leaf_of_text : ℕ → Action → List ℕ
   leaf_of_text i (A.Leaf e k) = leaf_text c.named.prefix (leaf_at i false input_type e)
   leaf_of_text i (A.Constant e) = leaf_text c.named.prefix (leaf_at i true unit_ty e)
@@ -135,44 +135,44 @@ module _ (c : Caller) where
       leaf_text c.named.prefix (leaf_at i false (chosen_type input_type) e)
   leaf_of_text i a = []
 
-  -- that of row i
+  -- that of statement i
   abbrev pub leaf_in_text : ℕ → Statement → List ℕ
   leaf_in_text i (S.Set a) = leaf_of_text i a
   leaf_in_text i (S.Exit g a) = leaf_of_text i a
   leaf_in_text i (S.Do e) = []
 
-  -- those of rows, from number i on
+  -- those of statements, from number i on
   abbrev pub leaves_text : ℕ → Body → List ℕ
   leaves_text i [] = []
   leaves_text i (s ∷ ss) = leaf_in_text i s ++ leaves_text (suc i) ss
 
-  -- row i sets register k, of type T
+  -- statement i sets register k, of type T
   abbrev pub set_text : ℕ → ℕ → TypeTree → Action → List ℕ
   set_text i k T a =
       action_text c (record { value = reg k; kind = T; indent = text (codes "    ") }) i a
       ++ pieces_text c.named.prefix (text (codes "    (void)") ∷ reg k ∷ text (codes ";\n") ∷ [])
 
-  -- row i answers, with a value of type T
+  -- statement i answers, with a value of type T
   abbrev pub exit_text : ℕ → TypeTree → Guard → Action → List ℕ
   exit_text i T g a =
-      pieces_text c.named.prefix (guard_row g)
+      pieces_text c.named.prefix (guard_pieces g)
       ++ (action_text c
       (record { value = text (codes "y"); kind = T; indent = text (exit_indent (is_guarded g)) }) i a
       ++ (pieces_text c.named.prefix
       (text (exit_indent (is_guarded g)) ∷ text (codes "return y;\n") ∷ [])
       ++ pieces_text c.named.prefix (pieces_if (is_guarded g) (text (codes "    }\n") ∷ []))))
 
-  -- row i, where register k is the next to be set, and value n the next of which a type is given
-  abbrev pub row_text : ℕ → ℕ → ℕ → Statement → List ℕ
-  row_text i k n (S.Set a) = set_text i k (value_type n) a
-  row_text i k n (S.Exit g a) = exit_text i (value_type n) g a
-  row_text i k n (S.Do e) = effect_text c e
+  -- statement i, where register k is the next to be set, and value n the next of which a type is given
+  abbrev pub statement_text : ℕ → ℕ → ℕ → Statement → List ℕ
+  statement_text i k n (S.Set a) = set_text i k (value_type n) a
+  statement_text i k n (S.Exit g a) = exit_text i (value_type n) g a
+  statement_text i k n (S.Do e) = effect_text c e
 
-  -- rows, from number i on
-  abbrev pub rows_text : ℕ → ℕ → ℕ → Body → List ℕ
-  rows_text i k n [] = []
-  rows_text i k n (s ∷ ss) =
-      row_text i k n s ++ rows_text (suc i) (k + sets s) (n + gives s) ss
+  -- statements, from number i on
+  abbrev pub statements_text : ℕ → ℕ → ℕ → Body → List ℕ
+  statements_text i k n [] = []
+  statements_text i k n (s ∷ ss) =
+      statement_text i k n s ++ statements_text (suc i) (k + sets s) (n + gives s) ss
 
   -- the head of a function
   abbrev pub head_text : List ℕ
@@ -184,10 +184,10 @@ module _ (c : Caller) where
 
   -- a function's lines, between braces
   abbrev pub lines_text : Body → List ℕ
-  lines_text rows =
+  lines_text body =
       pieces_text c.named.prefix (text (codes "\n{\n") ∷ [])
       ++ (unused_line c
-      ++ (rows_text 0 1 0 rows
+      ++ (statements_text 0 1 0 body
       ++ pieces_text c.named.prefix (text (codes "}\n") ∷ [])))
 
   -- a function, behind those of its leaves
@@ -195,4 +195,4 @@ module _ (c : Caller) where
   function_text =
       pieces_text c.named.prefix (text (codes "\n") ∷ [])
       ++ (comment_text
-      ++ (leaves_text 0 (rows_of c.function) ++ (head_text ++ lines_text (rows_of c.function))))
+      ++ (leaves_text 0 (body_of c.function) ++ (head_text ++ lines_text (body_of c.function))))

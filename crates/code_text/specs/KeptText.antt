@@ -8,7 +8,7 @@ use Rattle.net_code.specs.declared.statement.Function.TheVariants as F
 use Rattle.code_text.specs.Piece.{text, name, number, ty, pieces_text}
 use Rattle.code_text.specs.PieceView.{pieces_if}
 use Rattle.code_text.specs.ScopeText.{Caller, keeps}
-use Rattle.code_text.specs.RowText.{keeps_any}
+use Rattle.code_text.specs.StatementText.{keeps_any}
 use Rattle.code_text.specs.CollectionText.{kept_type}
 
 -- a field of a type, if there is one

@@ -11,11 +11,11 @@ use Rattle.leaf_code.specs.CodeView.{leaf_of}
 use Rattle.code_text.specs.declared.leaf.Leaf as D
 use Rattle.code_text.specs.Piece.{Piece, text, name, number, signed, ty, letter, reg, at, pieces_text}
 
--- an expression's code in a function of a network's: the function and the row in which it stands,
+-- an expression's code in a function of a network's: the function and the statement in which it stands,
 -- its input's type, whether it is a constant, the types of the parameters, and the code
 pub record Leaf : Type 0 where
   pub function : ℕ
-  pub row : ℕ
+  pub index : ℕ
   pub input : TypeTree
   pub constant : Bool
   pub params : List TypeTree
@@ -24,7 +24,7 @@ pub record Leaf : Type 0 where
 -- the leaf that a `Leaf` is
 abbrev pub leaf_in : D.Leaf → Leaf
 leaf_in l =
-    record { function = l.function; row = l.row; input = type_of l.input.now; constant = l.is_constant; params = map type_of l.params.now; code = leaf_of l.code.now }
+    record { function = l.function; index = l.index; input = type_of l.input.now; constant = l.is_constant; params = map type_of l.params.now; code = leaf_of l.code.now }
 
 -- the type of a register
 abbrev pub register_type : Leaf → ℕ → TypeTree
@@ -56,8 +56,8 @@ truth true = codes "true"
 truth false = codes "false"
 
 -- a number: the least one has a name, since C has no literal of it
-abbrev pub int_row : ℤ → List Piece
-int_row n =
+abbrev pub int_pieces : ℤ → List Piece
+int_pieces n =
     if int_eq n (neg_ℤ (pos (2 ^ 63))) then text (codes "INT64_MIN") ∷ []
     else text (codes "INT64_C(") ∷ signed n ∷ text (codes ")") ∷ []
 
@@ -71,34 +71,34 @@ between i s j = reg i ∷ text s ∷ reg j ∷ []
 
 -- what a register is declared as; t: the types of registers
 module _ (t : ℕ → TypeTree) where
-  abbrev pub value_row : Operation → List Piece
-  value_row (O.param k) = text (codes "*p") ∷ number k ∷ []
-  value_row O.unit = text (codes "0") ∷ []
-  value_row (O.bool b) = text (truth b) ∷ []
-  value_row (O.int n) = int_row n
-  value_row (O.left i) = reg i ∷ text (codes ".a") ∷ []
-  value_row (O.right i) = reg i ∷ text (codes ".b") ∷ []
-  value_row (O.neg i) = name ∷ text (codes "_neg(") ∷ reg i ∷ text (codes ")") ∷ []
-  value_row (O.add i j) = call_two (codes "_add(") i j
-  value_row (O.sub i j) = call_two (codes "_sub(") i j
-  value_row (O.mul i j) = call_two (codes "_mul(") i j
-  value_row (O.less i j) = between i (codes " < ") j
-  value_row (O.equal i j) =
+  abbrev pub value_pieces : Operation → List Piece
+  value_pieces (O.param k) = text (codes "*p") ∷ number k ∷ []
+  value_pieces O.unit = text (codes "0") ∷ []
+  value_pieces (O.bool b) = text (truth b) ∷ []
+  value_pieces (O.int n) = int_pieces n
+  value_pieces (O.left i) = reg i ∷ text (codes ".a") ∷ []
+  value_pieces (O.right i) = reg i ∷ text (codes ".b") ∷ []
+  value_pieces (O.neg i) = name ∷ text (codes "_neg(") ∷ reg i ∷ text (codes ")") ∷ []
+  value_pieces (O.add i j) = call_two (codes "_add(") i j
+  value_pieces (O.sub i j) = call_two (codes "_sub(") i j
+  value_pieces (O.mul i j) = call_two (codes "_mul(") i j
+  value_pieces (O.less i j) = between i (codes " < ") j
+  value_pieces (O.equal i j) =
       name ∷ text (codes "_same_") ∷ letter (t i) ∷ text (codes "(") ∷ at i ∷ text (codes ", ") ∷ at j
       ∷ text (codes ")") ∷ []
-  value_row (O.not i) = text (codes "!") ∷ reg i ∷ []
-  value_row (O.and i j) = between i (codes " && ") j
-  value_row (O.or i j) = between i (codes " || ") j
-  value_row (O.choose c i j) =
+  value_pieces (O.not i) = text (codes "!") ∷ reg i ∷ []
+  value_pieces (O.and i j) = between i (codes " && ") j
+  value_pieces (O.or i j) = between i (codes " || ") j
+  value_pieces (O.choose c i j) =
       reg c ∷ text (codes " ? ") ∷ reg i ∷ text (codes " : ") ∷ reg j ∷ []
-  value_row (O.is_event i) = reg i ∷ text (codes ".is") ∷ []
-  value_row (O.carried i) =
+  value_pieces (O.is_event i) = reg i ∷ text (codes ".is") ∷ []
+  value_pieces (O.carried i) =
       name ∷ text (codes "_value_") ∷ letter (t i) ∷ text (codes "(") ∷ at i ∷ text (codes ")") ∷ []
-  value_row (O.nth i j d) =
+  value_pieces (O.nth i j d) =
       name ∷ text (codes "_nth_") ∷ letter (t i) ∷ text (codes "(") ∷ at i ∷ text (codes ", ") ∷ reg j
       ∷ text (codes ", ") ∷ at d ∷ text (codes ")") ∷ []
-  value_row (O.len i) = text (codes "(int64_t)") ∷ reg i ∷ text (codes ".n") ∷ []
-  value_row _ = []
+  value_pieces (O.len i) = text (codes "(int64_t)") ∷ reg i ∷ text (codes ".n") ∷ []
+  value_pieces _ = []
 
   -- the declaration of register K, of type T
   abbrev pub declared_text : List ℕ → ℕ → TypeTree → Operation → List ℕ
@@ -115,7 +115,7 @@ module _ (t : ℕ → TypeTree) where
   declared_text P K T o =
       pieces_text P
       (text (codes "    const ") ∷ ty T ∷ text (codes " ") ∷ reg K ∷ text (codes " = ") ∷ [])
-      ++ pieces_text P (value_row o)
+      ++ pieces_text P (value_pieces o)
 
   -- the line of a step that sets register K
   abbrev pub step_text : List ℕ → ℕ → Step → List ℕ
@@ -129,9 +129,9 @@ module _ (t : ℕ → TypeTree) where
   steps_text P K (s ∷ ss) = step_text P K s ++ steps_text P (suc K) ss
 
 -- the first argument: the input; a constant's is a unit
-abbrev pub input_row : Bool → TypeTree → List Piece
-input_row true T = text (codes "uint8_t unit") ∷ []
-input_row false T = text (codes "const ") ∷ ty T ∷ text (codes " *x") ∷ []
+abbrev pub input_pieces : Bool → TypeTree → List Piece
+input_pieces true T = text (codes "uint8_t unit") ∷ []
+input_pieces false T = text (codes "const ") ∷ ty T ∷ text (codes " *x") ∷ []
 
 -- the parameters as arguments, from number k on
 abbrev pub params_text : List ℕ → ℕ → List TypeTree → List ℕ
@@ -141,9 +141,9 @@ params_text P k (T ∷ Ts) =
     ++ params_text P (suc k) Ts
 
 -- the beginning of the lines
-abbrev pub unit_row : Bool → List Piece
-unit_row true = text (codes ")\n{\n    const uint8_t *const x = &unit;\n    (void)x;") ∷ []
-unit_row false = text (codes ")\n{\n    (void)x;") ∷ []
+abbrev pub unit_pieces : Bool → List Piece
+unit_pieces true = text (codes ")\n{\n    const uint8_t *const x = &unit;\n    (void)x;") ∷ []
+unit_pieces false = text (codes ")\n{\n    (void)x;") ∷ []
 
 -- parameters that may stay unused, from number k on
 abbrev pub unused_params_text : List ℕ → ℕ → List TypeTree → List ℕ
@@ -155,7 +155,7 @@ unused_params_text P k (T ∷ Ts) =
 -- the first line
 abbrev pub unused_text : List ℕ → Bool → List TypeTree → List ℕ
 unused_text P b Ts =
-    pieces_text P (unit_row b)
+    pieces_text P (unit_pieces b)
     ++ (unused_params_text P 0 Ts ++ pieces_text P (text (codes "\n") ∷ []))
 
 -- the function of a leaf
@@ -163,8 +163,8 @@ abbrev pub leaf_text : List ℕ → Leaf → List ℕ
 leaf_text P l =
     pieces_text P
     (text (codes "\nstatic ") ∷ ty (register_type l l.code.1) ∷ text (codes " ") ∷ name
-    ∷ text (codes "_f") ∷ number l.function ∷ text (codes "_e") ∷ number l.row ∷ text (codes "(") ∷ [])
-    ++ (pieces_text P (input_row l.constant l.input)
+    ∷ text (codes "_f") ∷ number l.function ∷ text (codes "_e") ∷ number l.index ∷ text (codes "(") ∷ [])
+    ++ (pieces_text P (input_pieces l.constant l.input)
     ++ (params_text P 0 l.params
     ++ (unused_text P l.constant l.params
     ++ (steps_text (register_type l) P 1 l.code.0

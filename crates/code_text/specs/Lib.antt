@@ -10,6 +10,6 @@ pub mod FixedText
 pub mod FileText
 pub mod ScopeText
 pub mod CollectionText
-pub mod RowText
+pub mod StatementText
 pub mod KeptText
 pub mod FunctionText

@@ -218,11 +218,11 @@ module _ (c : Caller) where
       ++ (pieces_text c.named.prefix l.input
       ++ (scope_text l.scope l.by ++ pieces_text c.named.prefix (text (codes ")") ∷ []))))))
 
-  -- a call of the leaf in a row
+  -- a call of the leaf in a statement
   abbrev pub leaf_call_text : ℕ → List Piece → List ℕ
-  leaf_call_text row input =
+  leaf_call_text index input =
       pieces_text c.named.prefix
-      (name ∷ text (codes "_f") ∷ number c.number ∷ text (codes "_e") ∷ number row ∷ text (codes "(")
+      (name ∷ text (codes "_f") ∷ number c.number ∷ text (codes "_e") ∷ number index ∷ text (codes "(")
       ∷ [])
       ++ (pieces_text c.named.prefix input
       ++ (first_params c.named.prefix (length c.layout.params.items)

@@ -4,23 +4,23 @@ use Rattle.sample_core.specs.TypeTree.{TypeTree, unit_ty, bool_ty, int_ty, pair_
 use Rattle.code_text.specs.Piece.{Piece, text, name, number, ty, letter, spelt, pieces_text}
 
 -- the struct of a type that has parts
-abbrev pub struct_row : TypeTree → ℕ → List Piece
-struct_row (pair_ty A B) n =
+abbrev pub struct_pieces : TypeTree → ℕ → List Piece
+struct_pieces (pair_ty A B) n =
     ty (pair_ty A B) ∷ text (codes " { ") ∷ ty A ∷ text (codes " a; ") ∷ ty B ∷ text (codes " b; }; /* ")
     ∷ spelt (pair_ty A B) ∷ text (codes " */\n") ∷ []
-struct_row (event_ty A) n =
+struct_pieces (event_ty A) n =
     ty (event_ty A) ∷ text (codes " { bool is; ") ∷ ty A ∷ text (codes " v; }; /* ")
     ∷ spelt (event_ty A) ∷ text (codes " */\n") ∷ []
-struct_row (list_ty A) n =
+struct_pieces (list_ty A) n =
     ty (list_ty A) ∷ text (codes " { uint32_t n; ") ∷ ty A ∷ text (codes " e[") ∷ number n
     ∷ text (codes "]; }; /* ") ∷ spelt (list_ty A) ∷ text (codes " */\n") ∷ []
-struct_row T n = []
+struct_pieces T n = []
 
 -- the structs of types, from number k on, with the bounds of all
 abbrev pub structs_text : List ℕ → List ℕ → ℕ → List TypeTree → List ℕ
 structs_text P ns k [] = []
 structs_text P ns k (T ∷ Ts) =
-    pieces_text P (struct_row T (slice_index ns k)) ++ structs_text P ns (suc k) Ts
+    pieces_text P (struct_pieces T (slice_index ns k)) ++ structs_text P ns (suc k) Ts
 
 -- whether two values of a type are the same: the function's head
 abbrev pub same_head : TypeTree → List Piece
@@ -53,24 +53,24 @@ same_text P T =
     ++ (pieces_text P (same_body T) ++ pieces_text P (text (codes "}\n") ∷ []))
 
 -- what an event carries, or zeros; the element of a list at a number, or another value
-abbrev pub access_row : TypeTree → List Piece
-access_row (event_ty A) =
+abbrev pub access_pieces : TypeTree → List Piece
+access_pieces (event_ty A) =
     text (codes "\nstatic inline ") ∷ ty A ∷ text (codes " ") ∷ name ∷ text (codes "_value_")
     ∷ letter (event_ty A) ∷ text (codes "(const ") ∷ ty (event_ty A) ∷ text (codes " *v)\n{\n    ")
     ∷ ty A
     ∷ text
     (codes " z;\n    memset(&z, 0, sizeof z);\n    if (v->is) {\n        z = v->v;\n    }\n    return z;\n}\n")
     ∷ []
-access_row (list_ty A) =
+access_pieces (list_ty A) =
     text (codes "\nstatic inline ") ∷ ty A ∷ text (codes " ") ∷ name ∷ text (codes "_nth_")
     ∷ letter (list_ty A) ∷ text (codes "(const ") ∷ ty (list_ty A)
     ∷ text (codes " *v, int64_t i, const ") ∷ ty A
     ∷ text (codes " *d)\n{\n    return ((uint64_t)i < v->n) ? v->e[i] : *d;\n}\n") ∷ []
-access_row T = []
+access_pieces T = []
 
 -- what is computed on a type
 unfoldable pub helper_text : List ℕ → TypeTree → List ℕ
-helper_text P T = same_text P T ++ pieces_text P (access_row T)
+helper_text P T = same_text P T ++ pieces_text P (access_pieces T)
 
 -- what is computed on types
 abbrev pub helpers_text : List ℕ → List TypeTree → List ℕ

@@ -2,7 +2,7 @@
 
 ghost use Rattle.std.specs.Prelude.{◌≡◌, ◌++◌, IfOk, string_bytes};
 ghost use Rattle.code_text.specs.{Piece.pieces_text, PieceView.piece_of};
-ghost use Rattle.code_text.specs.CellText.{after_rows, declared_in, delay_rows, hold_rows, i_pre_rows, integral_rows, repeatedly_rows, time_rows};
+ghost use Rattle.code_text.specs.CellText.{after_pieces, declared_in, delay_pieces, hold_pieces, i_pre_pieces, integral_pieces, repeatedly_pieces, time_pieces};
 
 use crate::declared::Declared;
 use crate::piece::{Piece, push};
@@ -17,7 +17,7 @@ pub(crate) fn push_i_pre<'a>(
     x: Piece<'a>,
 ) -> Result<(), Memory>
     ensures { IfOk result (λ _. string_bytes text.new ≡ string_bytes text.old
-        ++ pieces_text prefix.now (i_pre_rows (declared_in declared.entry) (piece_of c.entry) (piece_of x.entry))) }
+        ++ pieces_text prefix.now (i_pre_pieces (declared_in declared.entry) (piece_of c.entry) (piece_of x.entry))) }
 {
     push(
         text,
@@ -50,7 +50,7 @@ pub(crate) fn push_hold<'a>(
     x: Piece<'a>,
 ) -> Result<(), Memory>
     ensures { IfOk result (λ _. string_bytes text.new ≡ string_bytes text.old
-        ++ pieces_text prefix.now (hold_rows (declared_in declared.entry) (piece_of c.entry) (piece_of x.entry))) }
+        ++ pieces_text prefix.now (hold_pieces (declared_in declared.entry) (piece_of c.entry) (piece_of x.entry))) }
 {
     push(
         text,
@@ -87,7 +87,7 @@ pub(crate) fn push_after<'a>(
     c: Piece<'a>,
 ) -> Result<(), Memory>
     ensures { IfOk result (λ _. string_bytes text.new ≡ string_bytes text.old
-        ++ pieces_text prefix.now (after_rows (declared_in declared.entry) q (piece_of c.entry))) }
+        ++ pieces_text prefix.now (after_pieces (declared_in declared.entry) q (piece_of c.entry))) }
 {
     push(
         text,
@@ -128,7 +128,7 @@ pub(crate) fn push_repeatedly<'a>(
     c: Piece<'a>,
 ) -> Result<(), Memory>
     ensures { IfOk result (λ _. string_bytes text.new ≡ string_bytes text.old
-        ++ pieces_text prefix.now (repeatedly_rows (declared_in declared.entry) q (piece_of c.entry))) }
+        ++ pieces_text prefix.now (repeatedly_pieces (declared_in declared.entry) q (piece_of c.entry))) }
 {
     push(
         text,
@@ -173,7 +173,7 @@ pub(crate) fn push_time<'a>(
     declared: Declared<'a>,
 ) -> Result<(), Memory>
     ensures { IfOk result (λ _. string_bytes text.new ≡ string_bytes text.old
-        ++ pieces_text prefix.now (time_rows (declared_in declared.entry))) }
+        ++ pieces_text prefix.now (time_pieces (declared_in declared.entry))) }
 {
     push(
         text,
@@ -203,7 +203,7 @@ pub(crate) fn push_integral<'a>(
     x: Piece<'a>,
 ) -> Result<(), Memory>
     ensures { IfOk result (λ _. string_bytes text.new ≡ string_bytes text.old
-        ++ pieces_text prefix.now (integral_rows (declared_in declared.entry) (piece_of x.entry))) }
+        ++ pieces_text prefix.now (integral_pieces (declared_in declared.entry) (piece_of x.entry))) }
 {
     push(
         text,
@@ -241,7 +241,7 @@ pub(crate) fn push_delay<'a>(
     x: Piece<'a>,
 ) -> Result<(), Memory>
     ensures { IfOk result (λ _. string_bytes text.new ≡ string_bytes text.old
-        ++ pieces_text prefix.now (delay_rows (declared_in declared.entry) q (piece_of c.entry) (piece_of x.entry))) }
+        ++ pieces_text prefix.now (delay_pieces (declared_in declared.entry) q (piece_of c.entry) (piece_of x.entry))) }
 {
     push(
         text,

@@ -3,12 +3,12 @@
 ghost use Rattle.std.specs.Prelude.{◌≡◌, ◌++◌, IfOk, string_bytes};
 ghost use Rattle.code_text.specs.Piece.{pieces_text};
 ghost use Rattle.code_text.specs.{CellText.declared_in, ScopeText.caller_in};
-ghost use Rattle.code_text.specs.CollectionText.{beginning_text, case_call, case_text, cases_text, choice_text, collection_text, default_call, default_text, kept_type, letters_row, moved_rows, started_rows, turns_head, turns_text, written_text};
+ghost use Rattle.code_text.specs.CollectionText.{beginning_text, case_call, case_text, cases_text, choice_text, collection_text, default_call, default_text, kept_type, letters_pieces, moved_pieces, started_pieces, turns_head, turns_text, written_text};
 
 use crate::declared::Declared;
 use crate::piece::{Piece, push};
-use crate::row::push_zeros;
 use crate::scope::{Call, Caller, members_of, push_call, push_leaf_call};
+use crate::statement::push_zeros;
 use net_code::Scope;
 use sample_core::Memory;
 
@@ -21,7 +21,7 @@ pub(crate) fn push_collection(
     k: usize,
 ) -> Result<(), Memory>
     ensures { IfOk result (λ _. string_bytes text.new ≡ string_bytes text.old
-        ++ collection_text (caller_in caller.entry) (declared_in declared.entry) declared.entry.row t k) }
+        ++ collection_text (caller_in caller.entry) (declared_in declared.entry) declared.entry.index t k) }
 {
     push_zeros(text, caller.named.prefix, declared)?;
     push_beginning(text, caller, declared)?;
@@ -93,7 +93,7 @@ fn push_choice(
     k: usize,
 ) -> Result<(), Memory>
     ensures { IfOk result (λ _. string_bytes text.new ≡ string_bytes text.old
-        ++ choice_text (caller_in caller.entry) (declared_in declared.entry) declared.entry.row k) }
+        ++ choice_text (caller_in caller.entry) (declared_in declared.entry) declared.entry.index k) }
 {
     push(
         text,
@@ -114,7 +114,7 @@ fn push_choice(
     push_leaf_call(
         text,
         caller,
-        declared.row,
+        declared.index,
         &[Piece::Text("&"), Piece::Reg(k), Piece::Text(".b.v")],
     )?;
     push_moved(text, caller, declared)?;
@@ -125,7 +125,7 @@ fn push_choice(
 /// The letters of the type of the values by which members are made.
 fn push_kept_letters(text: &mut String, caller: Caller<'_>) -> Result<(), Memory>
     ensures { IfOk result (λ _. string_bytes text.new ≡ string_bytes text.old
-        ++ pieces_text caller.entry.named.prefix.now (letters_row (kept_type (caller_in caller.entry)))) }
+        ++ pieces_text caller.entry.named.prefix.now (letters_pieces (kept_type (caller_in caller.entry)))) }
 {
     match caller.layout.kept {
         Some(kept) => {
@@ -140,7 +140,7 @@ fn push_kept_letters(text: &mut String, caller: Caller<'_>) -> Result<(), Memory
 /// The members that are named go on, on the other side.
 fn push_moved(text: &mut String, caller: Caller<'_>, declared: Declared<'_>) -> Result<(), Memory>
     ensures { IfOk result (λ _. string_bytes text.new ≡ string_bytes text.old
-        ++ pieces_text caller.entry.named.prefix.now (moved_rows (caller_in caller.entry) (declared_in declared.entry))) }
+        ++ pieces_text caller.entry.named.prefix.now (moved_pieces (caller_in caller.entry) (declared_in declared.entry))) }
 {
     let indent = Piece::Text(declared.indent);
     push(
@@ -178,7 +178,7 @@ fn push_moved(text: &mut String, caller: Caller<'_>, declared: Declared<'_>) -> 
 /// Others start behind them.
 fn push_started(text: &mut String, caller: Caller<'_>, declared: Declared<'_>) -> Result<(), Memory>
     ensures { IfOk result (λ _. string_bytes text.new ≡ string_bytes text.old
-        ++ pieces_text caller.entry.named.prefix.now (started_rows (caller_in caller.entry) (declared_in declared.entry))) }
+        ++ pieces_text caller.entry.named.prefix.now (started_pieces (caller_in caller.entry) (declared_in declared.entry))) }
 {
     let indent = Piece::Text(declared.indent);
     let members = members_of(caller.function);

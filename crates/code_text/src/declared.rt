@@ -1,13 +1,13 @@
-// A value that a row declares.
+// A value that a statement declares.
 
 use crate::piece::Piece;
 use sample_core::Ty;
 
-/// A value that a row declares: its name, its type, the row's number, and what stands before its lines.
+/// A value that a statement declares: its name, its type, the statement's number, and what stands before its lines.
 #[derive(Clone, Copy)]
 pub(crate) struct Declared<'a> {
     pub(crate) name: Piece<'a>,
     pub(crate) ty: &'a Ty,
-    pub(crate) row: usize,
+    pub(crate) index: usize,
     pub(crate) indent: &'a str,
 }

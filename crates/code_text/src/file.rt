@@ -3,7 +3,7 @@
 ghost use Rattle.std.specs.Prelude.{◌≡◌, ◌++◌, IfOk, slice_get, string_bytes};
 ghost use Rattle.sample_core.specs.TypeView.{type_of};
 ghost use Rattle.code_text.specs.{Piece.pieces_text, ScopeText.caller_in, ScopeText.named_in};
-ghost use Rattle.code_text.specs.FileText.{about_text, all_functions, all_kept, c_of, declarations_text, definitions_text, figures_row, file_of, file_text, filtered_text, function_at, kept_at, kept_struct, kept_text, last_at, options_in, plain_text, posix_rows, printed_text, state_text, stored_row, type_name, types_row};
+ghost use Rattle.code_text.specs.FileText.{about_text, all_functions, all_kept, c_of, declarations_text, definitions_text, figures_pieces, file_of, file_text, filtered_text, function_at, kept_at, kept_struct, kept_text, last_at, options_in, plain_text, posix_pieces, printed_text, state_text, stored_pieces, type_name, types_pieces};
 
 use crate::file_text::{FILTER_INCLUDES, PLAIN_INCLUDES, POSIX};
 use crate::filter::push_filter;
@@ -196,7 +196,7 @@ fn push_declarations(
 /// What POSIX has, where there is a filter.
 fn push_posix(text: &mut String, options: Options<'_>) -> Result<(), Memory>
     ensures { IfOk result (λ _. string_bytes text.new
-        ≡ string_bytes text.old ++ pieces_text options.entry.prefix.now (posix_rows options.entry.printed)) }
+        ≡ string_bytes text.old ++ pieces_text options.entry.prefix.now (posix_pieces options.entry.printed)) }
 {
     match options.printed {
         Printed::Filter => push(text, options.prefix, &[Piece::Text(POSIX)])?,
@@ -220,7 +220,7 @@ fn push_about(text: &mut String, last: Caller<'_>, options: Options<'_>) -> Resu
 /// Its first line.
 fn push_types(text: &mut String, last: Caller<'_>, options: Options<'_>) -> Result<(), Memory>
     ensures { IfOk result (λ _. string_bytes text.new ≡ string_bytes text.old
-        ++ pieces_text options.entry.prefix.now (types_row (caller_in last.entry) (options_in options.entry))) }
+        ++ pieces_text options.entry.prefix.now (types_pieces (caller_in last.entry) (options_in options.entry))) }
 {
     let input = last.named.ty(last.layout.input);
     let output = last.named.ty(last.layout.output);
@@ -243,7 +243,7 @@ fn push_types(text: &mut String, last: Caller<'_>, options: Options<'_>) -> Resu
 /// Its figures.
 fn push_figures(text: &mut String, last: Caller<'_>, options: Options<'_>) -> Result<(), Memory>
     ensures { IfOk result (λ _. string_bytes text.new ≡ string_bytes text.old
-        ++ pieces_text options.entry.prefix.now (figures_row (caller_in last.entry) (options_in options.entry))) }
+        ++ pieces_text options.entry.prefix.now (figures_pieces (caller_in last.entry) (options_in options.entry))) }
 {
     push(
         text,
@@ -345,7 +345,7 @@ fn push_state(text: &mut String, last: Caller<'_>, options: Options<'_>) -> Resu
 /// What the last function keeps, if it keeps something.
 fn push_stored(text: &mut String, last: Caller<'_>, options: Options<'_>) -> Result<(), Memory>
     ensures { IfOk result (λ _. string_bytes text.new ≡ string_bytes text.old
-        ++ pieces_text options.entry.prefix.now (stored_row (caller_in last.entry) (options_in options.entry))) }
+        ++ pieces_text options.entry.prefix.now (stored_pieces (caller_in last.entry) (options_in options.entry))) }
 {
     push_if(
         text,

@@ -4,7 +4,7 @@ ghost use Rattle.std.specs.Prelude.{◌≡◌, ◌++◌, IfOk, map, string_bytes
 ghost use Rattle.sample_core.specs.{TypeTree.event_ty, TypeTree.list_ty, TypeTree.pair_ty, TypeView.type_of};
 ghost use Rattle.leaf_core.specs.TypeLimits.{same_tree};
 ghost use Rattle.code_text.specs.Piece.{pieces_text};
-ghost use Rattle.code_text.specs.FilterText.{filter_text, has_parts, is_part, reader_head, reader_if, reader_text, readers_text, reading_rows, sample_rows, writer_head, writer_if, writer_text, writers_text, writing_rows};
+ghost use Rattle.code_text.specs.FilterText.{filter_text, has_parts, is_part, reader_head, reader_if, reader_text, readers_text, reading_pieces, sample_pieces, writer_head, writer_if, writer_text, writers_text, writing_pieces};
 
 use crate::filter_text::{HEAD, TAIL};
 use crate::named::push_named;
@@ -39,7 +39,7 @@ fn push_sample<'a>(
     output: &'a Ty,
 ) -> Result<(), Memory>
     ensures { IfOk result (λ _. string_bytes text.new
-        ≡ string_bytes text.old ++ pieces_text prefix.now (sample_rows (type_of input.now) (type_of output.now))) }
+        ≡ string_bytes text.old ++ pieces_text prefix.now (sample_pieces (type_of input.now) (type_of output.now))) }
 {
     push(
         text,
@@ -161,7 +161,7 @@ fn push_reader(text: &mut String, prefix: &str, ty: &Ty, most: usize) -> Result<
 /// The lines of a reader.
 fn push_reading(text: &mut String, prefix: &str, ty: &Ty, most: usize) -> Result<(), Memory>
     ensures { IfOk result (λ _. string_bytes text.new
-        ≡ string_bytes text.old ++ pieces_text prefix.now (reading_rows most (type_of ty.now))) }
+        ≡ string_bytes text.old ++ pieces_text prefix.now (reading_pieces most (type_of ty.now))) }
 {
     match ty {
         Ty::Unit | Ty::Bool | Ty::Int => {}
@@ -190,7 +190,7 @@ fn push_reading_pair<'a>(
     b: &'a Ty,
 ) -> Result<(), Memory>
     ensures { IfOk result (λ _. string_bytes text.new
-        ≡ string_bytes text.old ++ pieces_text prefix.now (reading_rows 0 (pair_ty (type_of a.now) (type_of b.now)))) }
+        ≡ string_bytes text.old ++ pieces_text prefix.now (reading_pieces 0 (pair_ty (type_of a.now) (type_of b.now)))) }
 {
     push(
         text,
@@ -221,7 +221,7 @@ fn push_reading_pair<'a>(
 /// The lines of a reader of events.
 fn push_reading_event(text: &mut String, prefix: &str, a: &Ty) -> Result<(), Memory>
     ensures { IfOk result (λ _. string_bytes text.new
-        ≡ string_bytes text.old ++ pieces_text prefix.now (reading_rows 0 (event_ty (type_of a.now)))) }
+        ≡ string_bytes text.old ++ pieces_text prefix.now (reading_pieces 0 (event_ty (type_of a.now)))) }
 {
     push(
         text,
@@ -248,7 +248,7 @@ fn push_reading_event(text: &mut String, prefix: &str, a: &Ty) -> Result<(), Mem
 /// The lines of a reader of lists.
 fn push_reading_list(text: &mut String, prefix: &str, a: &Ty, most: usize) -> Result<(), Memory>
     ensures { IfOk result (λ _. string_bytes text.new
-        ≡ string_bytes text.old ++ pieces_text prefix.now (reading_rows most (list_ty (type_of a.now)))) }
+        ≡ string_bytes text.old ++ pieces_text prefix.now (reading_pieces most (list_ty (type_of a.now)))) }
 {
     push(
         text,
@@ -324,7 +324,7 @@ fn push_writer(text: &mut String, prefix: &str, ty: &Ty) -> Result<(), Memory>
 /// The lines of a writer.
 fn push_writing(text: &mut String, prefix: &str, ty: &Ty) -> Result<(), Memory>
     ensures { IfOk result (λ _. string_bytes text.new
-        ≡ string_bytes text.old ++ pieces_text prefix.now (writing_rows (type_of ty.now))) }
+        ≡ string_bytes text.old ++ pieces_text prefix.now (writing_pieces (type_of ty.now))) }
 {
     match ty {
         Ty::Unit | Ty::Bool | Ty::Int => {}
@@ -353,7 +353,7 @@ fn push_writing_pair<'a>(
     b: &'a Ty,
 ) -> Result<(), Memory>
     ensures { IfOk result (λ _. string_bytes text.new
-        ≡ string_bytes text.old ++ pieces_text prefix.now (writing_rows (pair_ty (type_of a.now) (type_of b.now)))) }
+        ≡ string_bytes text.old ++ pieces_text prefix.now (writing_pieces (pair_ty (type_of a.now) (type_of b.now)))) }
 {
     push(
         text,
@@ -382,7 +382,7 @@ fn push_writing_pair<'a>(
 /// The lines of a writer of events.
 fn push_writing_event(text: &mut String, prefix: &str, a: &Ty) -> Result<(), Memory>
     ensures { IfOk result (λ _. string_bytes text.new
-        ≡ string_bytes text.old ++ pieces_text prefix.now (writing_rows (event_ty (type_of a.now)))) }
+        ≡ string_bytes text.old ++ pieces_text prefix.now (writing_pieces (event_ty (type_of a.now)))) }
 {
     push(
         text,
@@ -407,7 +407,7 @@ fn push_writing_event(text: &mut String, prefix: &str, a: &Ty) -> Result<(), Mem
 /// The lines of a writer of lists.
 fn push_writing_list(text: &mut String, prefix: &str, a: &Ty) -> Result<(), Memory>
     ensures { IfOk result (λ _. string_bytes text.new
-        ≡ string_bytes text.old ++ pieces_text prefix.now (writing_rows (list_ty (type_of a.now)))) }
+        ≡ string_bytes text.old ++ pieces_text prefix.now (writing_pieces (list_ty (type_of a.now)))) }
 {
     push(
         text,

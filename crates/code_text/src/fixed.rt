@@ -2,7 +2,7 @@
 
 ghost use Rattle.std.specs.Prelude.{◌≡◌, ◌++◌, IfOk, codes, string_bytes};
 ghost use Rattle.code_text.specs.Piece.{pieces_text};
-ghost use Rattle.code_text.specs.FixedText.{binary_rows, entries_text, init_rows, numbers_text, opening_rows, passed, prototype_rows, step_rows, use_rows, wrapped_rows};
+ghost use Rattle.code_text.specs.FixedText.{binary_pieces, entries_text, init_pieces, numbers_text, opening_pieces, passed, prototype_pieces, step_pieces, use_pieces, wrapped_pieces};
 
 use crate::piece::{Piece, push};
 use sample_core::Memory;
@@ -10,7 +10,7 @@ use sample_core::Memory;
 /// How a program uses the file, in the comment.
 pub(crate) fn push_use(text: &mut String, prefix: &str) -> Result<(), Memory>
     ensures { IfOk result (λ _. string_bytes text.new
-        ≡ string_bytes text.old ++ pieces_text prefix.now (use_rows)) }
+        ≡ string_bytes text.old ++ pieces_text prefix.now (use_pieces)) }
 {
     push(
         text,
@@ -35,7 +35,7 @@ pub(crate) fn push_use(text: &mut String, prefix: &str) -> Result<(), Memory>
 /// The beginning of the declarations.
 pub(crate) fn push_opening(text: &mut String, prefix: &str) -> Result<(), Memory>
     ensures { IfOk result (λ _. string_bytes text.new
-        ≡ string_bytes text.old ++ pieces_text prefix.now (opening_rows)) }
+        ≡ string_bytes text.old ++ pieces_text prefix.now (opening_pieces)) }
 {
     push(
         text,
@@ -54,7 +54,7 @@ pub(crate) fn push_opening(text: &mut String, prefix: &str) -> Result<(), Memory
 /// What a program calls.
 pub(crate) fn push_prototypes(text: &mut String, prefix: &str) -> Result<(), Memory>
     ensures { IfOk result (λ _. string_bytes text.new
-        ≡ string_bytes text.old ++ pieces_text prefix.now (prototype_rows)) }
+        ≡ string_bytes text.old ++ pieces_text prefix.now (prototype_pieces)) }
 {
     push(
         text,
@@ -81,7 +81,7 @@ pub(crate) fn push_prototypes(text: &mut String, prefix: &str) -> Result<(), Mem
 /// Numbers, which wrap, without a conversion that C leaves to its compilers.
 fn push_wrapped(text: &mut String, prefix: &str) -> Result<(), Memory>
     ensures { IfOk result (λ _. string_bytes text.new
-        ≡ string_bytes text.old ++ pieces_text prefix.now (wrapped_rows)) }
+        ≡ string_bytes text.old ++ pieces_text prefix.now (wrapped_pieces)) }
 {
     push(
         text,
@@ -106,7 +106,7 @@ fn push_wrapped(text: &mut String, prefix: &str) -> Result<(), Memory>
 /// A fresh state.
 fn push_init(text: &mut String, prefix: &str) -> Result<(), Memory>
     ensures { IfOk result (λ _. string_bytes text.new
-        ≡ string_bytes text.old ++ pieces_text prefix.now (init_rows)) }
+        ≡ string_bytes text.old ++ pieces_text prefix.now (init_pieces)) }
 {
     push(
         text,
@@ -130,7 +130,7 @@ fn push_binary<'a>(
     sign: &'a str,
 ) -> Result<(), Memory>
     ensures { IfOk result (λ _. string_bytes text.new
-        ≡ string_bytes text.old ++ pieces_text prefix.now (binary_rows word.now sign.now)) }
+        ≡ string_bytes text.old ++ pieces_text prefix.now (binary_pieces word.now sign.now)) }
 {
     push(
         text,
@@ -184,7 +184,7 @@ fn passed(keeps: bool) -> &'static str
 /// A step of the last function; the first one's moment is 0.
 fn push_step(text: &mut String, prefix: &str, last: usize, keeps: bool) -> Result<(), Memory>
     ensures { IfOk result (λ _. string_bytes text.new
-        ≡ string_bytes text.old ++ pieces_text prefix.now (step_rows last keeps)) }
+        ≡ string_bytes text.old ++ pieces_text prefix.now (step_pieces last keeps)) }
 {
     let passed = passed(keeps);
     push(

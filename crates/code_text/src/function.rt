@@ -1,18 +1,18 @@
-// The C of a function: its leaves, and its rows.
+// The C of a function: its leaves, and its statements.
 
 ghost use Rattle.std.specs.Prelude.{◌≡◌, ◌≤◌, ◌++◌, IfOk, false, map, string_bytes};
 ghost use Rattle.sample_core.specs.{TypeTree.int_ty, TypeTree.pair_ty, TypeView.type_of};
-ghost use Rattle.net_code.specs.CodeView.{rows_of};
+ghost use Rattle.net_code.specs.CodeView.{body_of};
 ghost use Rattle.code_text.specs.{ScopeText.caller_in, ScopeText.named_in, ScopeText.type_at};
 ghost use Rattle.code_text.specs.LeafText.{leaf_text};
 ghost use Rattle.code_text.specs.CollectionText.{kept_type, type_in};
-ghost use Rattle.code_text.specs.FunctionText.{accumulated_type, cell_word, chosen_type, comment_text, exit_indent, exit_text, function_text, gives, head_text, input_type, is_guarded, leaf_at, leaf_in_text, leaf_of_text, leaves_text, lines_text, position_text, row_text, rows_text, set_text, sets, value_type, word_of};
+ghost use Rattle.code_text.specs.FunctionText.{accumulated_type, cell_word, chosen_type, comment_text, exit_indent, exit_text, function_text, gives, head_text, input_type, is_guarded, leaf_at, leaf_in_text, leaf_of_text, leaves_text, lines_text, position_text, statement_text, statements_text, set_text, sets, value_type, word_of};
 
 use crate::declared::Declared;
 use crate::leaf::{Leaf, push_leaf};
 use crate::piece::{Piece, push, push_if};
-use crate::row::{push_action, push_effect, push_guard};
 use crate::scope::{Caller, Named, push_arguments, push_unused};
+use crate::statement::{push_action, push_effect, push_guard};
 use cell_core::Form;
 use leaf_code::compile_expr;
 use leaf_core::Expr;
@@ -117,8 +117,8 @@ pub(crate) fn push_function(
     ensures { IfOk result (λ _. string_bytes text.new
         ≡ string_bytes text.old ++ function_text (caller_in caller.entry)) }
 {
-    let rows = caller.function.rows(alloc)?;
-    let statements = rows.as_slice();
+    let body = caller.function.body(alloc)?;
+    let statements = body.as_slice();
     push(text, caller.named.prefix, &[Piece::Text("\n")])?;
     push_comment(text, caller)?;
     push_leaves(alloc, text, caller, statements)?;
@@ -152,33 +152,33 @@ fn push_head(text: &mut String, caller: Caller<'_>) -> Result<(), Memory>
 }
 
 /// A function's lines, between braces.
-fn push_lines(text: &mut String, caller: Caller<'_>, rows: &[Statement]) -> Result<(), Memory>
+fn push_lines(text: &mut String, caller: Caller<'_>, body: &[Statement]) -> Result<(), Memory>
     ensures { IfOk result (λ _. string_bytes text.new
-        ≡ string_bytes text.old ++ lines_text (caller_in caller.entry) rows.now) }
+        ≡ string_bytes text.old ++ lines_text (caller_in caller.entry) body.now) }
 {
     push(text, caller.named.prefix, &[Piece::Text("\n{\n")])?;
     push_unused(text, caller)?;
-    push_rows(text, caller, rows)?;
+    push_statements(text, caller, body)?;
     push(text, caller.named.prefix, &[Piece::Text("}\n")])?;
     Ok(())
 }
 
-/// The rows, each of which sets the next register, answers or keeps something.
-fn push_rows(text: &mut String, caller: Caller<'_>, rows: &[Statement]) -> Result<(), Memory>
+/// The statements, each of which sets the next register, answers or keeps something.
+fn push_statements(text: &mut String, caller: Caller<'_>, body: &[Statement]) -> Result<(), Memory>
     ensures { IfOk result (λ _. string_bytes text.new
-        ≡ string_bytes text.old ++ rows_text (caller_in caller.entry) 0 1 0 rows.now) }
+        ≡ string_bytes text.old ++ statements_text (caller_in caller.entry) 0 1 0 body.now) }
 {
     let mut register = 1usize;
     let mut value = 0usize;
-    for (row, statement) in rows.iter().enumerate() {
-        push_row(text, caller, (row, register, value), statement)?;
+    for (index, statement) in body.iter().enumerate() {
+        push_statement(text, caller, (index, register, value), statement)?;
         register += sets(statement);
         value += gives(statement);
     }
     Ok(())
 }
 
-/// How many registers a row sets.
+/// How many registers a statement sets.
 fn sets(statement: &Statement) -> usize
     ensures value { result ≡ sets statement.now }
     ensures few { result ≤ 1 }
@@ -189,7 +189,7 @@ fn sets(statement: &Statement) -> usize
     }
 }
 
-/// Of how many values a row gives the type.
+/// Of how many values a statement gives the type.
 fn gives(statement: &Statement) -> usize
     ensures value { result ≡ gives statement.now }
     ensures few { result ≤ 1 }
@@ -200,15 +200,15 @@ fn gives(statement: &Statement) -> usize
     }
 }
 
-/// A row by its number, with the numbers of the next register and value.
-fn push_row(
+/// A statement by its number, with the numbers of the next register and value.
+fn push_statement(
     text: &mut String,
     caller: Caller<'_>,
     at: (usize, usize, usize),
     statement: &Statement,
 ) -> Result<(), Memory>
     ensures { IfOk result (λ _. string_bytes text.new ≡ string_bytes text.old
-        ++ row_text (caller_in caller.entry) at.0 at.1 at.2 statement.now) }
+        ++ statement_text (caller_in caller.entry) at.0 at.1 at.2 statement.now) }
 {
     match statement {
         Statement::Set(action) => push_set(
@@ -231,7 +231,7 @@ fn push_row(
     Ok(())
 }
 
-/// The type of a row's value.
+/// The type of a statement's value.
 fn value_type<'a>(caller: Caller<'a>, k: usize) -> &'a Ty
     ensures { type_of result.now ≡ value_type (caller_in caller.entry) k }
 {
@@ -241,7 +241,7 @@ fn value_type<'a>(caller: Caller<'a>, k: usize) -> &'a Ty
     }
 }
 
-/// A row that sets a register.
+/// A statement that sets a register.
 fn push_set(
     text: &mut String,
     caller: Caller<'_>,
@@ -255,7 +255,7 @@ fn push_set(
     let declared = Declared {
         name: Piece::Reg(at.1),
         ty,
-        row: at.0,
+        index: at.0,
         indent: "    ",
     };
     push_action(text, caller, declared, action)?;
@@ -271,24 +271,24 @@ fn push_set(
     Ok(())
 }
 
-/// A row that answers.
+/// A statement that answers.
 fn push_exit(
     text: &mut String,
     caller: Caller<'_>,
-    row: usize,
+    index: usize,
     ty: &Ty,
     guard: Guard,
     action: &Action,
 ) -> Result<(), Memory>
     ensures { IfOk result (λ _. string_bytes text.new ≡ string_bytes text.old
-        ++ exit_text (caller_in caller.entry) row (type_of ty.now) guard action.now) }
+        ++ exit_text (caller_in caller.entry) index (type_of ty.now) guard action.now) }
 {
     let guarded = is_guarded(guard);
     let indent = exit_indent(guarded);
     let declared = Declared {
         name: Piece::Text("y"),
         ty,
-        row,
+        index,
         indent,
     };
     push_guard(text, caller.named.prefix, guard)?;
@@ -307,7 +307,7 @@ fn push_exit(
     Ok(())
 }
 
-/// Whether a row answers under a condition.
+/// Whether a statement answers under a condition.
 fn is_guarded(guard: Guard) -> bool
     ensures { result ≡ is_guarded guard }
 {
@@ -317,43 +317,43 @@ fn is_guarded(guard: Guard) -> bool
     }
 }
 
-/// What stands before the lines of a row that answers.
+/// What stands before the lines of a statement that answers.
 fn exit_indent(is_guarded: bool) -> &'static str
     ensures { result.now ≡ exit_indent is_guarded }
 {
     if is_guarded { "        " } else { "    " }
 }
 
-/// The functions of the leaves in rows.
+/// The functions of the leaves in statements.
 fn push_leaves(
     alloc: Global,
     text: &mut String,
     caller: Caller<'_>,
-    rows: &[Statement],
+    body: &[Statement],
 ) -> Result<(), Memory>
     ensures { IfOk result (λ _. string_bytes text.new
-        ≡ string_bytes text.old ++ leaves_text (caller_in caller.entry) 0 rows.now) }
+        ≡ string_bytes text.old ++ leaves_text (caller_in caller.entry) 0 body.now) }
 {
-    for (row, statement) in rows.iter().enumerate() {
-        push_leaf_in(alloc, text, caller, row, statement)?;
+    for (index, statement) in body.iter().enumerate() {
+        push_leaf_in(alloc, text, caller, index, statement)?;
     }
     Ok(())
 }
 
-/// The function of the leaf in a row, if it has one.
+/// The function of the leaf in a statement, if it has one.
 fn push_leaf_in(
     alloc: Global,
     text: &mut String,
     caller: Caller<'_>,
-    row: usize,
+    index: usize,
     statement: &Statement,
 ) -> Result<(), Memory>
     ensures { IfOk result (λ _. string_bytes text.new
-        ≡ string_bytes text.old ++ leaf_in_text (caller_in caller.entry) row statement.now) }
+        ≡ string_bytes text.old ++ leaf_in_text (caller_in caller.entry) index statement.now) }
 {
     match statement {
         Statement::Set(action) | Statement::Exit(_, action) => push_leaf_of(
-            alloc, text, caller, row, action,
+            alloc, text, caller, index, action,
         )?,
         Statement::Do(_) => {}
     }
@@ -365,18 +365,18 @@ fn push_leaf_of(
     alloc: Global,
     text: &mut String,
     caller: Caller<'_>,
-    row: usize,
+    index: usize,
     action: &Action,
 ) -> Result<(), Memory>
     ensures { IfOk result (λ _. string_bytes text.new
-        ≡ string_bytes text.old ++ leaf_of_text (caller_in caller.entry) row action.now) }
+        ≡ string_bytes text.old ++ leaf_of_text (caller_in caller.entry) index action.now) }
 {
     match action {
-        Action::Leaf(e, _) => push_input_leaf(alloc, text, caller, row, e)?,
-        Action::Constant(e) => push_leaf_at(alloc, text, caller, (row, true), &Ty::Unit, e)?,
-        Action::Routed(e, _, _) => push_routed_leaf(alloc, text, caller, row, e)?,
-        Action::Accumulate(e, _, _) => push_accumulated_leaf(alloc, text, caller, row, e)?,
-        Action::Collect(e, _, _) => push_chosen_leaf(alloc, text, caller, row, e)?,
+        Action::Leaf(e, _) => push_input_leaf(alloc, text, caller, index, e)?,
+        Action::Constant(e) => push_leaf_at(alloc, text, caller, (index, true), &Ty::Unit, e)?,
+        Action::Routed(e, _, _) => push_routed_leaf(alloc, text, caller, index, e)?,
+        Action::Accumulate(e, _, _) => push_accumulated_leaf(alloc, text, caller, index, e)?,
+        Action::Collect(e, _, _) => push_chosen_leaf(alloc, text, caller, index, e)?,
         _ => {}
     }
     Ok(())
@@ -387,14 +387,14 @@ fn push_input_leaf(
     alloc: Global,
     text: &mut String,
     caller: Caller<'_>,
-    row: usize,
+    index: usize,
     e: &Expr,
 ) -> Result<(), Memory>
     ensures { IfOk result (λ _. string_bytes text.new ≡ string_bytes text.old
-        ++ leaf_text caller.entry.named.prefix.now (leaf_at (caller_in caller.entry) row false (input_type (caller_in caller.entry)) e.now)) }
+        ++ leaf_text caller.entry.named.prefix.now (leaf_at (caller_in caller.entry) index false (input_type (caller_in caller.entry)) e.now)) }
 {
     let input = caller.named.ty(caller.layout.input);
-    push_leaf_at(alloc, text, caller, (row, false), input, e)?;
+    push_leaf_at(alloc, text, caller, (index, false), input, e)?;
     Ok(())
 }
 
@@ -403,15 +403,15 @@ fn push_routed_leaf(
     alloc: Global,
     text: &mut String,
     caller: Caller<'_>,
-    row: usize,
+    index: usize,
     e: &Expr,
 ) -> Result<(), Memory>
     ensures { IfOk result (λ _. string_bytes text.new ≡ string_bytes text.old
-        ++ leaf_text caller.entry.named.prefix.now (leaf_at (caller_in caller.entry) row false (pair_ty (input_type (caller_in caller.entry)) int_ty) e.now)) }
+        ++ leaf_text caller.entry.named.prefix.now (leaf_at (caller_in caller.entry) index false (pair_ty (input_type (caller_in caller.entry)) int_ty) e.now)) }
 {
     let input = caller.named.ty(caller.layout.input);
     let ty = pair_of(alloc, input, &Ty::Int)?;
-    push_leaf_at(alloc, text, caller, (row, false), &ty, e)?;
+    push_leaf_at(alloc, text, caller, (index, false), &ty, e)?;
     Ok(())
 }
 
@@ -420,15 +420,15 @@ fn push_accumulated_leaf(
     alloc: Global,
     text: &mut String,
     caller: Caller<'_>,
-    row: usize,
+    index: usize,
     e: &Expr,
 ) -> Result<(), Memory>
     ensures { IfOk result (λ _. string_bytes text.new ≡ string_bytes text.old
-        ++ leaf_text caller.entry.named.prefix.now (leaf_at (caller_in caller.entry) row false (accumulated_type (kept_type (caller_in caller.entry)) (input_type (caller_in caller.entry))) e.now)) }
+        ++ leaf_text caller.entry.named.prefix.now (leaf_at (caller_in caller.entry) index false (accumulated_type (kept_type (caller_in caller.entry)) (input_type (caller_in caller.entry))) e.now)) }
 {
     let input = caller.named.ty(caller.layout.input);
     let ty = accumulated_type(alloc, caller.named, caller.layout.kept, input)?;
-    push_leaf_at(alloc, text, caller, (row, false), &ty, e)?;
+    push_leaf_at(alloc, text, caller, (index, false), &ty, e)?;
     Ok(())
 }
 
@@ -437,19 +437,19 @@ fn push_chosen_leaf(
     alloc: Global,
     text: &mut String,
     caller: Caller<'_>,
-    row: usize,
+    index: usize,
     e: &Expr,
 ) -> Result<(), Memory>
     ensures { IfOk result (λ _. string_bytes text.new ≡ string_bytes text.old
-        ++ leaf_text caller.entry.named.prefix.now (leaf_at (caller_in caller.entry) row false (chosen_type (input_type (caller_in caller.entry))) e.now)) }
+        ++ leaf_text caller.entry.named.prefix.now (leaf_at (caller_in caller.entry) index false (chosen_type (input_type (caller_in caller.entry))) e.now)) }
 {
     let input = caller.named.ty(caller.layout.input);
     let ty = chosen_type(alloc, input)?;
-    push_leaf_at(alloc, text, caller, (row, false), &ty, e)?;
+    push_leaf_at(alloc, text, caller, (index, false), &ty, e)?;
     Ok(())
 }
 
-/// The function of a leaf in a row, at an input of a type.
+/// The function of a leaf in a statement, at an input of a type.
 fn push_leaf_at(
     alloc: Global,
     text: &mut String,
@@ -468,7 +468,7 @@ fn push_leaf_at(
         caller.named.prefix,
         Leaf {
             function: caller.number,
-            row: at.0,
+            index: at.0,
             input,
             is_constant: at.1,
             params: params.as_slice(),

@@ -5,8 +5,8 @@ ghost use Rattle.code_text.specs.ScopeText.{caller_in};
 ghost use Rattle.code_text.specs.KeptText.{cell_fields, collection_fields, counted_fields, fields_of, freezing_fields, frozen_fields, k_switch_fields, own_structs, loop_fields, member_field, member_fields, members_text, own_field, p_switch_fields, part_field, queue_fields, sequence_fields, store_field, store_text, stores_text, struct_head, switch_fields, taken_fields, turn_struct, watched_fields, watcher_fields};
 
 use crate::piece::{Piece, push, push_if};
-use crate::row::keeps_any;
 use crate::scope::Caller;
+use crate::statement::keeps_any;
 use cell_core::Form;
 use net_code::Function;
 use sample_core::Memory;

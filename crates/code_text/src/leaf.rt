@@ -5,18 +5,18 @@ ghost use Rattle.sample_core.specs.{TypeTree.unit_ty, TypeView.type_of};
 ghost use Rattle.leaf_code.specs.CodeView.{literal_in, operation_of, step_of};
 ghost use Rattle.leaf_code.specs.Operation as O;
 ghost use Rattle.code_text.specs.{Piece.letter, Piece.pieces_text, Piece.ty, PieceView.piece_of};
-ghost use Rattle.code_text.specs.LeafText.{between, call_two, declared_text, elements_text, input_row, leaf_in, leaf_text, list_text, params_text, register_type, step_text, steps_text, unit_row, unused_params_text, unused_text, value_row, zeros};
+ghost use Rattle.code_text.specs.LeafText.{between, call_two, declared_text, elements_text, input_pieces, leaf_in, leaf_text, list_text, params_text, register_type, step_text, steps_text, unit_pieces, unused_params_text, unused_text, value_pieces, zeros};
 
 use crate::piece::{Piece, push};
 use leaf_code::{LeafCode, Operation, Step};
 use leaf_core::Literal;
 use sample_core::{Memory, Ty};
 
-/// A leaf: the function and the row in which it stands, its input's type (a constant has none), and the types of the parameters.
+/// A leaf: the function and the statement in which it stands, its input's type (a constant has none), and the types of the parameters.
 #[derive(Clone, Copy)]
 pub(crate) struct Leaf<'a> {
     pub(crate) function: usize,
-    pub(crate) row: usize,
+    pub(crate) index: usize,
     pub(crate) input: &'a Ty,
     pub(crate) is_constant: bool,
     pub(crate) params: &'a [Ty],
@@ -66,7 +66,7 @@ pub(crate) fn push_leaf(text: &mut String, prefix: &str, leaf: Leaf<'_>) -> Resu
             Piece::Text("_f"),
             Piece::Number(leaf.function),
             Piece::Text("_e"),
-            Piece::Number(leaf.row),
+            Piece::Number(leaf.index),
             Piece::Text("("),
         ],
     )?;
@@ -89,7 +89,7 @@ pub(crate) fn push_leaf(text: &mut String, prefix: &str, leaf: Leaf<'_>) -> Resu
 /// The first argument: the input; a constant's is a unit.
 fn push_input(text: &mut String, prefix: &str, leaf: Leaf<'_>) -> Result<(), Memory>
     ensures { IfOk result (λ _. string_bytes text.new ≡ string_bytes text.old
-        ++ pieces_text prefix.now (input_row leaf.entry.is_constant (type_of leaf.entry.input.now))) }
+        ++ pieces_text prefix.now (input_pieces leaf.entry.is_constant (type_of leaf.entry.input.now))) }
 {
     if leaf.is_constant {
         push(text, prefix, &[Piece::Text("uint8_t unit")])?;
@@ -141,7 +141,7 @@ fn push_unused(text: &mut String, prefix: &str, leaf: Leaf<'_>) -> Result<(), Me
 /// The beginning of the first line.
 fn push_unit(text: &mut String, prefix: &str, is_constant: bool) -> Result<(), Memory>
     ensures { IfOk result (λ _. string_bytes text.new
-        ≡ string_bytes text.old ++ pieces_text prefix.now (unit_row is_constant)) }
+        ≡ string_bytes text.old ++ pieces_text prefix.now (unit_pieces is_constant)) }
 {
     if is_constant {
         push(
@@ -343,7 +343,7 @@ fn push_value(
     operation: &Operation,
 ) -> Result<(), Memory>
     ensures { IfOk result (λ _. string_bytes text.new
-        ≡ string_bytes text.old ++ pieces_text prefix.now (value_row (register_type (leaf_in leaf.entry)) (operation_of operation.now))) }
+        ≡ string_bytes text.old ++ pieces_text prefix.now (value_pieces (register_type (leaf_in leaf.entry)) (operation_of operation.now))) }
 {
     match operation {
         Operation::Param(k) => push(
@@ -405,7 +405,7 @@ fn push_same(
     j: usize,
 ) -> Result<(), Memory>
     ensures { IfOk result (λ _. string_bytes text.new ≡ string_bytes text.old
-        ++ pieces_text prefix.now (value_row (register_type (leaf_in leaf.entry)) (O.equal i j))) }
+        ++ pieces_text prefix.now (value_pieces (register_type (leaf_in leaf.entry)) (O.equal i j))) }
 {
     push(
         text,
@@ -427,7 +427,7 @@ fn push_same(
 /// What an event in a register carries.
 fn push_carried(text: &mut String, prefix: &str, leaf: Leaf<'_>, i: usize) -> Result<(), Memory>
     ensures { IfOk result (λ _. string_bytes text.new ≡ string_bytes text.old
-        ++ pieces_text prefix.now (value_row (register_type (leaf_in leaf.entry)) (O.carried i))) }
+        ++ pieces_text prefix.now (value_pieces (register_type (leaf_in leaf.entry)) (O.carried i))) }
 {
     push(
         text,
@@ -454,7 +454,7 @@ fn push_nth(
     d: usize,
 ) -> Result<(), Memory>
     ensures { IfOk result (λ _. string_bytes text.new ≡ string_bytes text.old
-        ++ pieces_text prefix.now (value_row (register_type (leaf_in leaf.entry)) (O.nth i j d))) }
+        ++ pieces_text prefix.now (value_pieces (register_type (leaf_in leaf.entry)) (O.nth i j d))) }
 {
     push(
         text,
@@ -478,7 +478,7 @@ fn push_nth(
 /// A literal.
 fn push_literal(text: &mut String, prefix: &str, literal: Literal) -> Result<(), Memory>
     ensures { IfOk result (λ _. string_bytes text.new
-        ≡ string_bytes text.old ++ pieces_text prefix.now (value_row (λ k. unit_ty) (literal_in literal))) }
+        ≡ string_bytes text.old ++ pieces_text prefix.now (value_pieces (λ k. unit_ty) (literal_in literal))) }
 {
     match literal {
         Literal::Unit => push(text, prefix, &[Piece::Text("0")])?,

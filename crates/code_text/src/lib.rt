@@ -2,7 +2,7 @@
 //!
 //!     let text = print_c(alloc, &program, options)?;
 //!
-//! A row of code is a line of C: `src/row.rt`, `src/cell.rt` and `src/collection.rt`; a step of an expression too: `src/leaf.rt`. What
+//! A statement of code is a line of C: `src/statement.rt`, `src/cell.rt` and `src/collection.rt`; a step of an expression too: `src/leaf.rt`. What
 //! functions keep is a struct each: `src/kept.rt`. `src/file.rt` puts all together, and `src/filter.rt` adds a program that runs on
 //! standard input.
 #![tactic(auto)]
@@ -20,8 +20,8 @@ mod kept;
 mod leaf;
 mod named;
 mod piece;
-mod row;
 mod scope;
+mod statement;
 mod types;
 
 pub use file::{Options, Printed, print_c};

@@ -442,15 +442,15 @@ fn push_frozen_member(
     Ok(())
 }
 
-/// A call of the leaf of a row.
+/// A call of the leaf of a statement.
 pub(crate) fn push_leaf_call(
     text: &mut String,
     caller: Caller<'_>,
-    row: usize,
+    index: usize,
     input: &[Piece<'_>],
 ) -> Result<(), Memory>
     ensures { IfOk result (λ _. string_bytes text.new ≡ string_bytes text.old
-        ++ leaf_call_text (caller_in caller.entry) row (map piece_of input.now)) }
+        ++ leaf_call_text (caller_in caller.entry) index (map piece_of input.now)) }
 {
     let prefix = caller.named.prefix;
     push(
@@ -461,7 +461,7 @@ pub(crate) fn push_leaf_call(
             Piece::Text("_f"),
             Piece::Number(caller.number),
             Piece::Text("_e"),
-            Piece::Number(row),
+            Piece::Number(index),
             Piece::Text("("),
         ],
     )?;

@@ -3,7 +3,7 @@
 ghost use Rattle.std.specs.Prelude.{◌≡◌, ◌++◌, IfOk, map, slice_index, string_bytes};
 ghost use Rattle.sample_core.specs.TypeView.{type_of};
 ghost use Rattle.code_text.specs.Piece.{pieces_text};
-ghost use Rattle.code_text.specs.TypeText.{access_row, helper_text, helpers_text, same_body, same_text, struct_row, structs_text};
+ghost use Rattle.code_text.specs.TypeText.{access_pieces, helper_text, helpers_text, same_body, same_text, struct_pieces, structs_text};
 
 use crate::piece::{Piece, push};
 use sample_core::{Memory, Ty};
@@ -37,7 +37,7 @@ fn bound_at(bounds: &[usize], k: usize) -> usize
 /// The struct of a type; a list has room for so many elements.
 fn push_struct(text: &mut String, prefix: &str, ty: &Ty, most: usize) -> Result<(), Memory>
     ensures { IfOk result (λ _. string_bytes text.new
-        ≡ string_bytes text.old ++ pieces_text prefix.now (struct_row (type_of ty.now) most)) }
+        ≡ string_bytes text.old ++ pieces_text prefix.now (struct_pieces (type_of ty.now) most)) }
 {
     match ty {
         Ty::Unit | Ty::Bool | Ty::Int => {}
@@ -209,7 +209,7 @@ fn push_same_body(text: &mut String, prefix: &str, ty: &Ty) -> Result<(), Memory
 /// What an event carries, or zeros; the element of a list at a number, or another value.
 fn push_access(text: &mut String, prefix: &str, ty: &Ty) -> Result<(), Memory>
     ensures { IfOk result (λ _. string_bytes text.new
-        ≡ string_bytes text.old ++ pieces_text prefix.now (access_row (type_of ty.now))) }
+        ≡ string_bytes text.old ++ pieces_text prefix.now (access_pieces (type_of ty.now))) }
 {
     match ty {
         Ty::Event(a) => {

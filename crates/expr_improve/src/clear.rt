@@ -1,15 +1,16 @@
 // An expression is cleared up at its root.
 
 use crate::log::{Aim, Log, with_part};
+use crate::multiply::{multiplied_out, wants_multiplying};
 use crate::order::is_after;
-use crate::terms::{MOST_ORDERED, is_literal, ordered, wants_order};
+use crate::terms::{in_order, is_literal, taken};
 use crate::weight::extent_of;
 use leaf_core::{Expr, ExprChild, same_expr};
 use sample_core::Memory;
 
 /// What the first law of its form that matches makes of the expression; of a sum or product its terms
 /// in order, of an `and`, `or` or `equal` what a part decides, and for the normal form of a difference
-/// a sum. Another expression is left as it is.
+/// or a product of sums a sum. Another expression is left as it is.
 pub(crate) fn cleared(log: &mut Log, e: ExprChild) -> Result<ExprChild, Memory> {
     for number in laws_of(e.get()) {
         if let Some(right) = log.take(*number, &e)? {
@@ -17,7 +18,8 @@ pub(crate) fn cleared(log: &mut Log, e: ExprChild) -> Result<ExprChild, Memory> 
         }
     }
     match e.get() {
-        Expr::Sub(..) if log.aim == Aim::Normal && may_be_sum(log, e.get()) => summed(log, e),
+        Expr::Sub(..) if log.aim.orders_all() && may_be_sum(log, e.get()) => summed(log, e),
+        Expr::Mul(..) if wants_multiplying(log, e.get()) => multiplied_out(log, e),
         Expr::And(..) | Expr::Or(..) => decided(log, 23, e),
         Expr::Equal(..) => decided(log, 26, e),
         _ => in_order(log, e),
@@ -43,14 +45,6 @@ fn laws_of(e: &Expr) -> &'static [u8] {
         | Expr::And(..)
         | Expr::Or(..) => &[15],
         _ => &[],
-    }
-}
-
-/// The expression; a sum or product with its terms in order, where that is aimed at.
-fn in_order(log: &mut Log, e: ExprChild) -> Result<ExprChild, Memory> {
-    match wants_order(log, e.get()) {
-        Some(operator) => ordered(log, operator, e, MOST_ORDERED),
-        None => Ok(e),
     }
 }
 
@@ -102,14 +96,6 @@ fn decided(log: &mut Log, number: u8, e: ExprChild) -> Result<ExprChild, Memory>
     }
 }
 
-/// What law E`number` makes of the expression; as it is where the law doesn't match.
-fn taken(log: &mut Log, number: u8, e: ExprChild) -> Result<ExprChild, Memory> {
-    match log.take(number, &e)? {
-        Some(right) => Ok(right),
-        None => Ok(e),
-    }
-}
-
 /// Whether the second part is to stand first: a literal, and for the normal form what the order puts
 /// first.
 fn wants_swap(aim: Aim, e: &Expr) -> bool {
@@ -118,7 +104,7 @@ fn wants_swap(aim: Aim, e: &Expr) -> bool {
             is_literal(b.get())
         }
         Expr::And(a, b) | Expr::Or(a, b) | Expr::Equal(a, b) => {
-            aim == Aim::Normal && is_after(aim, a.get(), b.get())
+            aim.orders_all() && is_after(aim, a.get(), b.get())
         }
         _ => false,
     }

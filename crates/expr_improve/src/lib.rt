@@ -1,4 +1,4 @@
-//! Rewriting of expressions by their laws but E22: what costs less, a normal form, and the forms that
+//! Rewriting of expressions by their laws: what costs less, a normal form, and the forms that
 //! laws of networks want, each with the steps to it.
 //!
 //!     let means = Means::new(alloc, nodes)?;
@@ -21,6 +21,7 @@ mod clear;
 mod found;
 mod improve;
 mod log;
+mod multiply;
 mod order;
 mod push;
 mod shapes;

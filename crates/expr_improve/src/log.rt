@@ -17,10 +17,19 @@ const MOST_STEPS: usize = 20_000;
 pub(crate) enum Aim {
     /// To the cheapest.
     Cheap,
-    /// To the normal form.
+    /// To terms, factors and parts in order.
+    Ordered,
+    /// To the normal form: the same, with products of sums multiplied out.
     Normal,
     /// To what is carried inwards always, and not cleared up.
     Plain,
+}
+
+impl Aim {
+    /// Whether terms, factors and parts are all put in order.
+    pub(crate) fn orders_all(self) -> bool {
+        matches!(self, Aim::Ordered | Aim::Normal)
+    }
 }
 
 /// A step of a law of expressions.

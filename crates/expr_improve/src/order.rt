@@ -2,16 +2,16 @@
 
 use crate::log::Aim;
 use crate::weight::{DEPTH, part_count};
-use leaf_core::{Expr, Literal, part};
+use leaf_core::{Expr, Literal, part, tag};
 use std::cmp::Ordering;
 
 /// Whether the one term is to come behind the other: literals behind all others, and for the normal
 /// form each where its form and its parts put it.
 pub(crate) fn is_after(aim: Aim, a: &Expr, b: &Expr) -> bool {
-    match aim {
-        Aim::Normal => matches!(compared(a, b, DEPTH), Ordering::Greater),
-        _ => matches!(a, Expr::Literal(_)) && !matches!(b, Expr::Literal(_)),
+    if aim.orders_all() {
+        return matches!(compared(a, b, DEPTH), Ordering::Greater);
     }
+    matches!(a, Expr::Literal(_)) && !matches!(b, Expr::Literal(_))
 }
 
 /// The order of two expressions: by their forms, then by their own numbers, then part by part.
@@ -47,29 +47,8 @@ fn compared_parts(a: &Expr, b: &Expr, depth: u32) -> Ordering {
 /// The place of the form in the order; literals come last.
 fn form_number(e: &Expr) -> u8 {
     match e {
-        Expr::Input => 0,
-        Expr::Param(_) => 1,
-        Expr::Pair(..) => 2,
-        Expr::Fst(_) => 3,
-        Expr::Snd(_) => 4,
-        Expr::Then(..) => 5,
-        Expr::Neg(_) => 6,
-        Expr::Add(..) => 7,
-        Expr::Sub(..) => 8,
-        Expr::Mul(..) => 9,
-        Expr::Less(..) => 10,
-        Expr::Equal(..) => 11,
-        Expr::Not(_) => 12,
-        Expr::And(..) => 13,
-        Expr::Or(..) => 14,
-        Expr::If(..) => 15,
-        Expr::NoEvent(_) => 16,
-        Expr::Event(_) => 17,
-        Expr::On(..) => 18,
-        Expr::List(..) => 19,
-        Expr::Nth(..) => 20,
-        Expr::Len(_) => 21,
-        Expr::Literal(_) => 22,
+        Expr::Literal(_) => u8::MAX,
+        _ => tag(e),
     }
 }
 

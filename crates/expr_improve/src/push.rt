@@ -66,7 +66,7 @@ fn pushed_inwards(log: &mut Log, f: &ExprChild, e: &Expr, depth: u32) -> Result<
     let inner = through(log, f, e, depth)?;
     match log.aim {
         Aim::Cheap => cheaper(log, mark, inner, f, e),
-        Aim::Normal | Aim::Plain => Ok(inner),
+        Aim::Ordered | Aim::Normal | Aim::Plain => Ok(inner),
     }
 }
 

@@ -13,14 +13,13 @@ use std::alloc::Global;
 /// `(pair (then (fst x) g) (snd x))` and the steps to it. Nothing where the expression isn't that.
 /// `Memory` if allocation fails.
 pub fn as_left(means: &Means, e: &Expr) -> Result<Option<Rewriting>, Memory> {
+    let first = first_input(means.alloc)?;
     let second = second_input(means.alloc)?;
     match e {
-        Expr::Pair(_, b) if same_expr(b.get(), second.get()) => looked_at(
-            Log::new(means, Aim::Plain)?,
-            e,
-            &[0],
-            first_input(means.alloc)?,
-        ),
+        Expr::Pair(_, b) if same_expr(b.get(), second.get()) => {
+            looked_at(Log::new(means, Aim::Plain)?, e, &[0], first)
+        }
+        Expr::Input => input_as_pair(means, 0, first),
         _ => Ok(None),
     }
 }
@@ -29,24 +28,23 @@ pub fn as_left(means: &Means, e: &Expr) -> Result<Option<Rewriting>, Memory> {
 /// `Memory` if allocation fails.
 pub fn as_right(means: &Means, e: &Expr) -> Result<Option<Rewriting>, Memory> {
     let first = first_input(means.alloc)?;
+    let second = second_input(means.alloc)?;
     match e {
-        Expr::Pair(a, _) if same_expr(a.get(), first.get()) => looked_at(
-            Log::new(means, Aim::Plain)?,
-            e,
-            &[1],
-            second_input(means.alloc)?,
-        ),
-        Expr::Input => input_as_right(means, first),
+        Expr::Pair(a, _) if same_expr(a.get(), first.get()) => {
+            looked_at(Log::new(means, Aim::Plain)?, e, &[1], second)
+        }
+        Expr::Input => input_as_pair(means, 1, second),
         _ => Ok(None),
     }
 }
 
-/// `(pair (fst x) (then (snd x) g))` and the steps to it, of `x`.
-fn input_as_right(means: &Means, first: ExprChild) -> Result<Option<Rewriting>, Memory> {
-    let both = beside_second(means.alloc, first)?;
+/// `(pair (fst x) (snd x))`, of which the part of the number is `(then look x)`, and the steps to it, of
+/// `x`.
+fn input_as_pair(means: &Means, number: u32, look: ExprChild) -> Result<Option<Rewriting>, Memory> {
+    let both = beside_second(means.alloc, first_input(means.alloc)?)?;
     let mut log = Log::new(means, Aim::Plain)?;
     log.backward(9, both.try_copy()?);
-    looked_at(log, both.get(), &[1], second_input(means.alloc)?)
+    looked_at(log, both.get(), &[number], look)
 }
 
 /// `(then (pair a x) (pair (fst x) (then (snd x) b)))` and the steps to it, of `(pair a b)`.

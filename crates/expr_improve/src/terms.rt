@@ -1,9 +1,9 @@
-// The terms of a sum or the factors of a product in order, literals joined.
+// The terms of a sum or the factors of a product in order, those made one that can be.
 
 use crate::log::{Aim, Log};
 use crate::order::is_after;
 use crate::weight::extent_of;
-use leaf_core::{Expr, ExprChild};
+use leaf_core::{Expr, ExprChild, same_expr};
 use sample_core::Memory;
 use std::alloc::Global;
 
@@ -52,16 +52,24 @@ impl Operator {
     }
 }
 
+/// The expression; a sum or product with its terms in order, where that is aimed at.
+pub(crate) fn in_order(log: &mut Log, e: ExprChild) -> Result<ExprChild, Memory> {
+    match wants_order(log, e.get()) {
+        Some(operator) => ordered(log, operator, e, MOST_ORDERED),
+        None => Ok(e),
+    }
+}
+
 /// The operator of the expression, where its terms are to be put in order: of any for the normal form;
 /// for the cheapest one of two literals or more, or of a literal before another term of a sum.
-pub(crate) fn wants_order(log: &Log, e: &Expr) -> Option<Operator> {
+fn wants_order(log: &Log, e: &Expr) -> Option<Operator> {
     let operator = match e {
         Expr::Add(..) => Operator::Sum,
         Expr::Mul(..) => Operator::Product,
         _ => return None,
     };
     let wanted = match log.aim {
-        Aim::Normal => true,
+        Aim::Ordered | Aim::Normal => true,
         Aim::Cheap => literals_in(operator, e) > 1 || begins_with_literal(e),
         Aim::Plain => false,
     };
@@ -94,7 +102,7 @@ fn may_nest(log: &Log, operator: Operator, e: &Expr) -> bool {
 }
 
 /// How many terms the expression has, and the height of the tallest.
-fn terms_in(operator: Operator, e: &Expr) -> (u32, u32) {
+pub(crate) fn terms_in(operator: Operator, e: &Expr) -> (u32, u32) {
     match (operator, e) {
         (Operator::Sum, Expr::Add(a, b)) | (Operator::Product, Expr::Mul(a, b)) => {
             let (count, tallest) = terms_in(operator, a.get());
@@ -122,10 +130,10 @@ pub(crate) fn is_literal(e: &Expr) -> bool {
 }
 
 /// How deep terms are put in order: three levels for each that fits, and more.
-pub(crate) const MOST_ORDERED: u32 = 4 * MOST_NESTED;
+const MOST_ORDERED: u32 = 4 * MOST_NESTED;
 
 /// The sum or product with its terms nested to the right and in order.
-pub(crate) fn ordered(
+fn ordered(
     log: &mut Log,
     operator: Operator,
     e: ExprChild,
@@ -159,7 +167,7 @@ fn inserted(
         Some((next, last)) => (next, Some(last)),
         None => (rest, None),
     };
-    let joined = is_literal(term.get()) && is_literal(next.get());
+    let joined = are_one(log.aim, operator, term.get(), next.get());
     let stays = !joined && !is_after(log.aim, term.get(), next.get());
     match last {
         _ if stays || depth == 0 || !log.spend(1) => operator.of_two(log.alloc, term, rest),
@@ -169,7 +177,58 @@ fn inserted(
     }
 }
 
-/// Two terms in the other order, or two literals joined.
+/// Whether two terms are made one: literals, and for the normal form those of a sum that differ in
+/// their literal factor alone.
+fn are_one(aim: Aim, operator: Operator, a: &Expr, b: &Expr) -> bool {
+    match (aim, operator, a, b) {
+        (_, _, Expr::Literal(_), Expr::Literal(_)) => true,
+        (Aim::Normal, Operator::Sum, Expr::Mul(..), Expr::Mul(..)) => are_like(a, b),
+        _ => false,
+    }
+}
+
+/// Whether both are literals, or products of the same factors before a literal.
+fn are_like(a: &Expr, b: &Expr) -> bool {
+    match (a, b) {
+        (Expr::Literal(_), Expr::Literal(_)) => true,
+        (Expr::Mul(a, p), Expr::Mul(b, q)) => {
+            same_expr(a.get(), b.get()) && are_like(p.get(), q.get())
+        }
+        _ => false,
+    }
+}
+
+/// Two terms that are made one: of two products the first factor is taken out, as often as there is
+/// one.
+fn made_one(
+    log: &mut Log,
+    operator: Operator,
+    a: &ExprChild,
+    b: &ExprChild,
+) -> Result<ExprChild, Memory> {
+    let both = operator.of_two(log.alloc, a, b)?;
+    match (a.get(), b.get()) {
+        (Expr::Mul(factor, p), Expr::Mul(_, q)) => {
+            let sum = operator.of_two(log.alloc, p, q)?;
+            log.backward(22, Operator::Product.of_two(log.alloc, factor, &sum)?);
+            log.enter(1);
+            let rest = made_one(log, operator, p, q)?;
+            log.leave();
+            Operator::Product.of_two(log.alloc, factor, &rest)
+        }
+        _ => taken(log, 15, both),
+    }
+}
+
+/// What law E`number` makes of the expression; as it is where the law doesn't match.
+pub(crate) fn taken(log: &mut Log, number: u8, e: ExprChild) -> Result<ExprChild, Memory> {
+    match log.take(number, &e)? {
+        Some(right) => Ok(right),
+        None => Ok(e),
+    }
+}
+
+/// Two terms in the other order, or made one.
 fn paired(
     log: &mut Log,
     operator: Operator,
@@ -177,12 +236,11 @@ fn paired(
     a: &ExprChild,
     b: &ExprChild,
 ) -> Result<ExprChild, Memory> {
-    let both = operator.of_two(log.alloc, a, b)?;
-    let number = if joined { 15 } else { operator.swap() };
-    match log.take(number, &both)? {
-        Some(right) => Ok(right),
-        None => Ok(both),
+    if joined {
+        return made_one(log, operator, a, b);
     }
+    let both = operator.of_two(log.alloc, a, b)?;
+    taken(log, operator.swap(), both)
 }
 
 /// Nests a term and the one behind it to the left, before the last ones, and answers what `paired`
@@ -204,7 +262,7 @@ fn paired_first(
     Ok(two)
 }
 
-/// Two literals and others, in order.
+/// Two terms that are made one and others, in order.
 #[cycle(insert)]
 fn joined_before(
     log: &mut Log,
@@ -214,8 +272,8 @@ fn joined_before(
     last: &ExprChild,
     depth: u32,
 ) -> Result<ExprChild, Memory> {
-    let literal = paired_first(log, operator, true, term, next, last)?;
-    inserted(log, operator, &literal, last, depth)
+    let one = paired_first(log, operator, true, term, next, last)?;
+    inserted(log, operator, &one, last, depth)
 }
 
 /// A term, the one that is to come before it, and others, in order.

@@ -1,6 +1,6 @@
 // What an expression costs, in instructions for each value, about.
 
-use leaf_core::{Expr, ExprChild, Shape, part, shape_of};
+use leaf_core::{Contents, Expr, ExprChild, Shape, inside, part, shape_of};
 
 /// How deep the walks over an expression go.
 pub(crate) const DEPTH: u32 = 400;
@@ -97,13 +97,12 @@ fn takes_apart(expr: &Expr, depth: u32) -> bool {
 
 /// How many parts the expression has.
 pub(crate) fn part_count(expr: &Expr) -> u32 {
-    match expr {
-        Expr::Input | Expr::Param(_) | Expr::Literal(_) | Expr::NoEvent(_) => 0,
-        Expr::Fst(_) | Expr::Snd(_) | Expr::Neg(_) | Expr::Not(_) | Expr::Event(_) | Expr::Len(_) =>
-            1,
-        Expr::If(..) | Expr::On(..) | Expr::Nth(..) => 3,
-        Expr::List(_, all) => u32::try_from(all.as_slice().len()).unwrap_or(u32::MAX),
-        _ => 2,
+    match inside(expr) {
+        Contents::One(_) => 1,
+        Contents::Two(..) => 2,
+        Contents::Three(..) => 3,
+        Contents::Elements(_, all) => u32::try_from(all.as_slice().len()).unwrap_or(u32::MAX),
+        _ => 0,
     }
 }
 

@@ -4,7 +4,7 @@ use Rattle.leaf_core.specs.Expression.{Expression, then_expr, list_expr, and_the
 use Rattle.leaf_core.specs.ExpressionView.{expression_of}
 use Rattle.leaf_core.specs.declared.expr.Expr.{Expr}
 use Rattle.sample_core.specs.TypeTree.{TypeTree}
-use Rattle.expr_laws.specs.Rows.{each_then, element_or, picked}
+use Rattle.expr_laws.specs.ExpressionLaw.{each_then, element_or, picked}
 use Rattle.expr_laws.specs.Direct.{is_constant, spread, picked_in}
 
 each_then-is : (f : Expression) (es : List Expression) → each_then f (expressions_of es) ≡ expressions_of (map (then_expr f) es)

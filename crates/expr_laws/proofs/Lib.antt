@@ -1,8 +1,8 @@
 pub mod NamedLaws
-pub mod TableRows
+pub mod TableLaws
 pub mod Numbers
-pub mod RowValues
-pub mod RowTypes
+pub mod SideValues
+pub mod SideTypes
 pub mod Elements
 pub mod Products
 pub mod Answered

@@ -13,15 +13,15 @@ use Rattle.net_tree.specs.declared.law_step.Law.{Law}
 use Rattle.net_tree.specs.declared.law_step.Law.TheVariants as L
 use Rattle.net_tree.specs.declared.law_step.Direction.{Direction}
 use Rattle.net_tree.specs.declared.law_step.Direction.TheVariants.{Forward, Backward}
-use Rattle.expr_laws.specs.Rows.{ExpressionRow}
+use Rattle.expr_laws.specs.ExpressionLaw.{ExpressionLaw}
 
 -- a law, its direction, the expression at hand, the one that is given, and the answer: forward,
--- with none given, the right side of the row whose left side is at hand; backward the one that is
--- given, where the row leads from it to exactly the one at hand
+-- with none given, the right side of the law whose left side is at hand; backward the one that is
+-- given, where the law leads from it to exactly the one at hand
 pub data ExpressionAnswer : Law → Direction → Expression → Option Expression → Expression → Type 0 where
-  forward_answer : {n : ℕ} {e r : Expression} → ExpressionRow n e r
+  forward_answer : {n : ℕ} {e r : Expression} → ExpressionLaw n e r
       → ExpressionAnswer (L.E n) Forward e None r
-  backward_answer : {n : ℕ} {e g : Expression} → ExpressionRow n g e
+  backward_answer : {n : ℕ} {e g : Expression} → ExpressionLaw n g e
       → ExpressionAnswer (L.E n) Backward e (Some g) g
 
 -- the expression that is given, if one is
@@ -36,11 +36,11 @@ IsExpressionAnswer law direction e given answer =
     ((r : Expression) → ExpressionAnswer law direction e given r → ⊥)
     (λ r. ExpressionAnswer law direction e given (expression_of r))
 
--- the right side of law n's row whose left side is e, or none where e is no left side of it
+-- the right side of law n whose left side is e, or none where e is no left side of it
 abbrev pub IsRightSide : ℕ → Expression → Option Expr → Type 0
 IsRightSide n e answer =
-    MatchOption answer ((r : Expression) → ExpressionRow n e r → ⊥)
-    (λ r. ExpressionRow n e (expression_of r))
+    MatchOption answer ((r : Expression) → ExpressionLaw n e r → ⊥)
+    (λ r. ExpressionLaw n e (expression_of r))
 
 -- there is at most one answer
 abbrev pub OneAnswerLaw : Type 0

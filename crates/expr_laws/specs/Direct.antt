@@ -6,7 +6,7 @@ use Rattle.leaf_core.specs.Expression.{Expression, Expressions, param, unit_expr
 use Rattle.leaf_core.specs.ExpressionValue.{value_of}
 use Rattle.leaf_core.specs.ExpressionCode.{expression_code}
 use Rattle.leaf_core.specs.EqualityByCode.{same_by}
-use Rattle.expr_laws.specs.Rows.{each_then, literal_for, picked, is_bool}
+use Rattle.expr_laws.specs.ExpressionLaw.{each_then, literal_for, picked, is_bool}
 
 -- an operator with each of its parts behind f
 abbrev pub spread : Expression → Expression → Option Expression

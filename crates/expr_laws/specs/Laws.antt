@@ -1,4 +1,4 @@
--- What is to hold of the rows.
+-- What is to hold of the laws.
 use Rattle.std.specs.Prelude.{ℕ, ◌≡◌, ◌↔◌, ◌≤◌, List}
 use Rattle.sample_core.specs.Datum.{Datum}
 use Rattle.sample_core.specs.TypeTree.{TypeTree}
@@ -6,26 +6,26 @@ use Rattle.sample_core.specs.HasType.{HasType, TypedParams}
 use Rattle.leaf_core.specs.Expression.{Expression}
 use Rattle.leaf_core.specs.ExpressionValue.{value_of}
 use Rattle.leaf_core.specs.ExpressionTyping.{ExpressionTyped}
-use Rattle.expr_laws.specs.Rows.{ExpressionRow}
+use Rattle.expr_laws.specs.ExpressionLaw.{ExpressionLaw}
 use Rattle.net_tree.specs.declared.law_step.TheConstants.{LAST_EXPRESSION_LAW}
 
--- where a row's left side is typed, both sides have one value at all parameters and inputs of those
+-- where a law's left side is typed, both sides have one value at all parameters and inputs of those
 -- types
-abbrev pub RowValueLaw : Type 0
-RowValueLaw = (n : ℕ) (l r : Expression) → ExpressionRow n l r → (Ps : List TypeTree) (A B : TypeTree)
+abbrev pub SidesValueLaw : Type 0
+SidesValueLaw = (n : ℕ) (l r : Expression) → ExpressionLaw n l r → (Ps : List TypeTree) (A B : TypeTree)
     → ExpressionTyped l Ps A B → (ps : List Datum) (x : Datum) → TypedParams Ps ps → HasType x A
     → value_of l ps x ≡ value_of r ps x
 
--- where a row's left side is typed, its right side has the same type
-abbrev pub RowTypeLaw : Type 0
-RowTypeLaw = (n : ℕ) (l r : Expression) → ExpressionRow n l r → (Ps : List TypeTree) (A B : TypeTree)
+-- where a law's left side is typed, its right side has the same type
+abbrev pub SidesTypeLaw : Type 0
+SidesTypeLaw = (n : ℕ) (l r : Expression) → ExpressionLaw n l r → (Ps : List TypeTree) (A B : TypeTree)
     → ExpressionTyped l Ps A B → ExpressionTyped r Ps A B
 
 -- a law's left side determines its right side
 abbrev pub OneRightSideLaw : Type 0
-OneRightSideLaw = (n : ℕ) (l r s : Expression) → ExpressionRow n l r → ExpressionRow n l s → r ≡ s
+OneRightSideLaw = (n : ℕ) (l r s : Expression) → ExpressionLaw n l r → ExpressionLaw n l s → r ≡ s
 
--- there is a row of a number exactly from 1 to the last law's
-abbrev pub RowNumbersLaw : Type 0
-RowNumbersLaw = (n : ℕ)
-    → ((l : Expression) × (r : Expression) × ExpressionRow n l r) ↔ ((1 ≤ n) × (n ≤ LAST_EXPRESSION_LAW))
+-- there is a law of a number exactly from 1 to the last law's
+abbrev pub LawNumbersLaw : Type 0
+LawNumbersLaw = (n : ℕ)
+    → ((l : Expression) × (r : Expression) × ExpressionLaw n l r) ↔ ((1 ≤ n) × (n ≤ LAST_EXPRESSION_LAW))

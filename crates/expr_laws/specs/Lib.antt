@@ -1,5 +1,5 @@
--- The laws of expressions: their rows, and what a law answers.
-pub mod Rows
+-- The laws of expressions, and what each answers.
+pub mod ExpressionLaw
 pub mod Direct
 pub mod Table
 pub mod Laws

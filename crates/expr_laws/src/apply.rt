@@ -2,7 +2,7 @@
 
 ghost use Rattle.std.specs.Prelude.{◌≡◌, IfOk, MatchOption, option_map};
 ghost use Rattle.leaf_core.specs.ExpressionView.{expression_of};
-ghost use Rattle.expr_laws.specs.Rows.{ExpressionRow};
+ghost use Rattle.expr_laws.specs.ExpressionLaw.{ExpressionLaw};
 ghost use Rattle.expr_laws.specs.Answer.{IsExpressionAnswer, IsRightSide, given_of};
 
 use crate::compare::compared;
@@ -18,9 +18,8 @@ use net_tree::{Direction, Law};
 use sample_core::Memory;
 use std::alloc::Global;
 
-/// What a law answers at an expression: forward, with none given, the right side of the law's row
-/// where the expression is its left side; backward the expression that is given, where the row
-/// leads from it forward to exactly the one at hand; else `None`. Types don't matter. `Memory` if
+/// What a law answers at an expression: forward, with none given, the law's right side where the
+/// expression is its left side; backward the expression that is given, where the law leads from it forward to exactly the one at hand; else `None`. Types don't matter. `Memory` if
 /// allocation fails.
 pub fn apply_expr(
     alloc: Global,
@@ -62,8 +61,8 @@ fn forward(alloc: Global, number: u8, expr: &Expr) -> Result<Option<Expr>, Memor
 /// The expression that is given, where the law leads from it forward to exactly the one at hand.
 fn backward(alloc: Global, number: u8, expr: &Expr, given: &Expr) -> Result<Option<Expr>, Memory>
     ensures { IfOk result (λ o. MatchOption o
-        (ExpressionRow number (expression_of given.now) (expression_of expr.now) → ⊥)
-        (λ r. ExpressionRow number (expression_of given.now) (expression_of expr.now)
+        (ExpressionLaw number (expression_of given.now) (expression_of expr.now) → ⊥)
+        (λ r. ExpressionLaw number (expression_of given.now) (expression_of expr.now)
         × (expression_of r ≡ expression_of given.now))) }
 {
     let Some(right) = forward(alloc, number, given)? else {

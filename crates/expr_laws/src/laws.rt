@@ -1,15 +1,15 @@
-// Laws of the rows and of answers: each function is a law, and does nothing.
+// Theorems of the laws and of their answers: each function is one, and does nothing.
 
 ghost use Rattle.expr_laws.specs.Answer.{AnswerValueLaw, OneAnswerLaw};
-ghost use Rattle.expr_laws.specs.Laws.{OneRightSideLaw, RowNumbersLaw, RowTypeLaw, RowValueLaw};
+ghost use Rattle.expr_laws.specs.Laws.{OneRightSideLaw, LawNumbersLaw, SidesTypeLaw, SidesValueLaw};
 
-/// Each row keeps the value and the type of a typed left side; a left side determines its right
+/// Each law keeps the value and the type of a typed left side; a left side determines its right
 /// side; the laws are numbered from 1 to `LAST_EXPRESSION_LAW`.
-pub fn row_laws()
-    ensures values { RowValueLaw }
-    ensures types { RowTypeLaw }
+pub fn side_laws()
+    ensures values { SidesValueLaw }
+    ensures types { SidesTypeLaw }
     ensures one_right_side { OneRightSideLaw }
-    ensures numbers { RowNumbersLaw }
+    ensures numbers { LawNumbersLaw }
 {}
 
 /// A law has at most one answer, which has the value of the expression at hand where both are typed

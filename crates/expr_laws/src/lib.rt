@@ -3,12 +3,12 @@
 //!
 //!     let right = apply_expr(alloc, law, Direction::Forward, &expr, None)?;
 //!
-//! The rows are `ExpressionRow`, in words that are read aloud; `apply_expr` answers exactly what
-//! the law's row allows: forward the right side, backward the tree that is given, where the row
-//! leads from it to exactly the tree at hand. Each row keeps the type and the value of a typed
-//! left side (`row_laws`), whatever it is put into (`answer_laws`).
+//! The laws are `ExpressionLaw`, in words that are read aloud; `apply_expr` answers exactly what
+//! a law allows: forward the right side, backward the tree that is given, where the law leads
+//! from it to exactly the tree at hand. Each law keeps the type and the value of a typed
+//! left side (`side_laws`), whatever it is put into (`answer_laws`).
 //!
-//! First `specs/Rows`, then `src/table.rt`, the rows as data, and `src/apply.rt`.
+//! First `specs/ExpressionLaw`, then `src/table.rt`, the laws as data, and `src/apply.rt`.
 #![tactic(auto)]
 
 mod apply;
@@ -22,4 +22,4 @@ mod table;
 mod turn;
 
 pub use apply::apply_expr;
-pub use laws::{answer_laws, row_laws};
+pub use laws::{answer_laws, side_laws};

@@ -5,7 +5,7 @@ ghost use Rattle.sample_core.specs.Datum.{unit};
 ghost use Rattle.sample_core.specs.ValueView.{datum_of};
 ghost use Rattle.leaf_core.specs.ExpressionValue.{value_of};
 ghost use Rattle.leaf_core.specs.ExpressionView.{expression_of, literal_of};
-ghost use Rattle.expr_laws.specs.Rows.{is_bool, literal_for};
+ghost use Rattle.expr_laws.specs.ExpressionLaw.{is_bool, literal_for};
 ghost use Rattle.expr_laws.specs.Direct.{are_alike, is_int, law15, on_literals};
 
 use leaf_core::{Expr, ExprChild, Literal, eval};

@@ -3,7 +3,7 @@
 ghost use Rattle.std.specs.Prelude.{◌≡◌, IfOk, map, option_map};
 ghost use Rattle.leaf_core.specs.Expression.{expressions_of};
 ghost use Rattle.leaf_core.specs.ExpressionView.{expression_of};
-ghost use Rattle.expr_laws.specs.Rows.{picked};
+ghost use Rattle.expr_laws.specs.ExpressionLaw.{picked};
 ghost use Rattle.expr_laws.specs.Direct.{law18, picked_from, picked_in};
 
 use leaf_core::{Expr, ExprChild, Exprs, Literal};

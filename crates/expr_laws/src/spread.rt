@@ -7,7 +7,9 @@ ghost use Rattle.leaf_core.specs.ExpressionView.{expression_of};
 ghost use Rattle.leaf_core.specs.Inside.{with_one, with_two, with_three};
 ghost use Rattle.expr_laws.specs.Direct.{law4, spread};
 
-use leaf_core::{Expr, ExprChild, Exprs, with_one_part, with_three_parts, with_two_parts};
+use leaf_core::{
+    Contents, Expr, ExprChild, Exprs, inside, with_one_part, with_three_parts, with_two_parts,
+};
 use sample_core::{Memory, Ty};
 use std::alloc::Global;
 
@@ -27,19 +29,12 @@ fn spread_parts(alloc: Global, f: &ExprChild, operator: &Expr) -> Result<Option<
     ensures { IfOk result
         (λ o. option_map expression_of o ≡ spread f.now (expression_of operator.now)) }
 {
-    match operator {
-        Expr::Fst(a) | Expr::Snd(a) | Expr::Neg(a) | Expr::Not(a) | Expr::Event(a) | Expr::Len(a) =>
-            spread_one(alloc, f, operator, a),
-        Expr::Pair(a, b)
-        | Expr::Add(a, b)
-        | Expr::Sub(a, b)
-        | Expr::Mul(a, b)
-        | Expr::Less(a, b)
-        | Expr::Equal(a, b)
-        | Expr::And(a, b)
-        | Expr::Or(a, b) => spread_two(alloc, f, operator, a, b),
-        Expr::If(a, b, c) | Expr::Nth(a, b, c) => spread_three(alloc, f, operator, a, b, c),
-        Expr::List(element, all) => spread_list(alloc, f, element, all),
+    match (operator, inside(operator)) {
+        (Expr::Then(..) | Expr::On(..), _) => Ok(None),
+        (_, Contents::One(a)) => spread_one(alloc, f, operator, a),
+        (_, Contents::Two(a, b)) => spread_two(alloc, f, operator, a, b),
+        (_, Contents::Three(a, b, c)) => spread_three(alloc, f, operator, a, b, c),
+        (_, Contents::Elements(element, all)) => spread_list(alloc, f, element, all),
         _ => Ok(None),
     }
 }

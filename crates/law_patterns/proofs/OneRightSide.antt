@@ -11,8 +11,8 @@ use Rattle.law_patterns.specs.declared.net_sym.NetSym.TheVariants as N
 use Rattle.law_patterns.specs.Pattern.{Assignment, letter_choice, put_before, put_before_some, written, only, filled}
 use Rattle.law_patterns.specs.NetPattern.{NetAssignment, net_chosen, Written, both, of_leaf, with_nets, net_put_before, net_put_before_some, net_written, only_net, net_filled}
 use Rattle.law_patterns.specs.PatternLaws.{AnyLetter, of_expression, of_type, of_network, of_number, letters_in, letters_of, net_letters_in, net_letters_of, PatternOneRightSideLaw, NetOneRightSideLaw}
-use Rattle.law_patterns.proofs.Rows.{only-is}
-use Rattle.law_patterns.proofs.NetRows.{only_net-is}
+use Rattle.law_patterns.proofs.Sides.{only-is}
+use Rattle.law_patterns.proofs.NetSides.{only_net-is}
 
 -- what holds of each
 abbrev Every : (AnyLetter → Type 0) → List AnyLetter → Type 0

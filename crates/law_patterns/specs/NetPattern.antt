@@ -1,4 +1,4 @@
--- Patterns of networks: what they stand for, and the rows of laws that pairs of them make.
+-- Patterns of networks: what they stand for, and the laws that pairs of them make.
 use Rattle.std.specs.Prelude.{◌≡◌, ℕ, List, [], ◌∷◌, Option, Some, None}
 use Rattle.leaf_core.specs.Expression.{Expression}
 use Rattle.net_tree.specs.Network.{Network, arr, seq, first, loop_pre, initial_out, initial_in, i_pre, delay, hold, accum_by, after, repeatedly, at_once, delayed, switch, r_switch, k_switch}
@@ -99,7 +99,7 @@ net_filled a pattern = only_net (net_written a pattern)
 
 -- what a law whose sides are these patterns makes of l is r: one choice of trees for the letters
 -- fills the left side to l and the right side to r
-pub record NetPatternRow (left right : List NetSym) (l r : Network Expression) : Type 0 where
+pub record NetPatternSides (left right : List NetSym) (l r : Network Expression) : Type 0 where
   pub letters : NetAssignment
   pub left_is : net_filled letters left ≡ Some l
   pub right_is : net_filled letters right ≡ Some r

@@ -1,4 +1,4 @@
--- Patterns of expressions: what they stand for, and the rows of laws that pairs of them make.
+-- Patterns of expressions: what they stand for, and the laws that pairs of them make.
 use Rattle.std.specs.Prelude.{◌≡◌, List, [], ◌∷◌, Option, Some, None}
 use Rattle.sample_core.specs.TypeTree.{TypeTree}
 use Rattle.leaf_core.specs.Expression.{Expression, input, unit_expr, bool_expr, no_event_expr, fst, snd, event_expr, pair_expr, then_expr, neg, not_expr, add, sub, mul, if_expr, on}
@@ -79,7 +79,7 @@ filled a pattern = only (written a pattern)
 
 -- what a law whose sides are these patterns makes of l is r: one choice of trees for the letters
 -- fills the left side to l and the right side to r
-pub record PatternRow (left right : List Sym) (l r : Expression) : Type 0 where
+pub record PatternSides (left right : List Sym) (l r : Expression) : Type 0 where
   pub letters : Assignment
   pub left_is : filled letters left ≡ Some l
   pub right_is : filled letters right ≡ Some r

@@ -9,8 +9,8 @@ use Rattle.law_patterns.specs.declared.sym.Sym.TheVariants as S
 use Rattle.law_patterns.specs.declared.net_sym.NetLetter.{NetLetter}
 use Rattle.law_patterns.specs.declared.net_sym.NetSym.{NetSym}
 use Rattle.law_patterns.specs.declared.net_sym.NetSym.TheVariants as N
-use Rattle.law_patterns.specs.Pattern.{PatternRow}
-use Rattle.law_patterns.specs.NetPattern.{NetPatternRow}
+use Rattle.law_patterns.specs.Pattern.{PatternSides}
+use Rattle.law_patterns.specs.NetPattern.{NetPatternSides}
 
 -- a letter of any kind
 pub data AnyLetter : Type 0 where
@@ -48,10 +48,10 @@ net_letters_of (s ∷ ss) = net_letters_in s ++ net_letters_of ss
 abbrev pub PatternOneRightSideLaw : Type 0
 PatternOneRightSideLaw = (left right : List Sym) (l r s : Expression)
     → All (Contains (letters_of left)) (letters_of right)
-    → PatternRow left right l r → PatternRow left right l s → r ≡ s
+    → PatternSides left right l r → PatternSides left right l s → r ≡ s
 
 -- the same of networks
 abbrev pub NetOneRightSideLaw : Type 0
 NetOneRightSideLaw = (left right : List NetSym) (l r s : Network Expression)
     → All (Contains (net_letters_of left)) (net_letters_of right)
-    → NetPatternRow left right l r → NetPatternRow left right l s → r ≡ s
+    → NetPatternSides left right l r → NetPatternSides left right l s → r ≡ s

@@ -1,8 +1,8 @@
--- A row of the laws, as a relation of left sides to right sides, and the two patterns that it has.
+-- A law, as a relation of left sides to right sides, and the two patterns that it has.
 use Rattle.std.specs.Prelude.{List, Option, Some}
 use Rattle.leaf_core.specs.Expression.{Expression}
 use Rattle.law_patterns.specs.declared.sym.Sym.{Sym}
-use Rattle.law_patterns.specs.Pattern.{Assignment, filled, PatternRow}
+use Rattle.law_patterns.specs.Pattern.{Assignment, filled, PatternSides}
 
 -- both are there and related
 abbrev pub Related : {A : Type 0} → (A → A → Type 0) → Option A → Option A → Type 0
@@ -13,4 +13,4 @@ Related P _ _ = ⊥
 -- to the right side, and it relates nothing else
 pub record RuleInstance (P : Expression → Expression → Type 0) (left right : List Sym) : Type 0 where
   pub gives : (a : Assignment) → Related P (filled a left) (filled a right)
-  pub comes : (l r : Expression) → P l r → PatternRow left right l r
+  pub comes : (l r : Expression) → P l r → PatternSides left right l r

@@ -3,10 +3,10 @@
 ghost use Rattle.std.specs.Prelude.{◌≡◌, IfOk, MatchOption, Some, None};
 ghost use Rattle.leaf_core.specs.Expression.{Expression};
 ghost use Rattle.leaf_core.specs.ExpressionView.{expression_of};
-ghost use Rattle.law_patterns.specs.Pattern.{PatternRow};
+ghost use Rattle.law_patterns.specs.Pattern.{PatternSides};
 ghost use Rattle.law_patterns.specs.Matching.{rewritten};
 ghost use Rattle.law_patterns.specs.NetMatching.{net_rewritten};
-ghost use Rattle.law_patterns.specs.NetPattern.{NetPatternRow};
+ghost use Rattle.law_patterns.specs.NetPattern.{NetPatternSides};
 ghost use Rattle.net_tree.specs.Network.{Network};
 ghost use Rattle.net_tree.specs.NetworkView.{tree_of};
 
@@ -32,8 +32,8 @@ pub fn rewrite_expr(
     expr: &Expr,
 ) -> Result<Option<Expr>, Memory>
     ensures { IfOk result (λ o. MatchOption o
-        ((r : Expression) → PatternRow left.now right.now (expression_of expr.now) r → ⊥)
-        (λ r. PatternRow left.now right.now (expression_of expr.now) (expression_of r))) }
+        ((r : Expression) → PatternSides left.now right.now (expression_of expr.now) r → ⊥)
+        (λ r. PatternSides left.now right.now (expression_of expr.now) (expression_of r))) }
 {
     rewritten(alloc, left, right, expr)
 }
@@ -65,8 +65,8 @@ pub fn rewrite_net(
     net: &Net<Expr>,
 ) -> Result<Option<Net<Expr>>, Memory>
     ensures { IfOk result (λ o. MatchOption o
-        ((r : Network Expression) → NetPatternRow left.now right.now (tree_of net.now) r → ⊥)
-        (λ r. NetPatternRow left.now right.now (tree_of net.now) (tree_of r))) }
+        ((r : Network Expression) → NetPatternSides left.now right.now (tree_of net.now) r → ⊥)
+        (λ r. NetPatternSides left.now right.now (tree_of net.now) (tree_of r))) }
 {
     net_rewritten(alloc, left, right, net)
 }

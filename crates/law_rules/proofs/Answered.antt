@@ -1,4 +1,4 @@
--- A law answers exactly what its rows allow.
+-- A law answers exactly what its sides allow.
 use Rattle.std.proofs.Common.{◌≡◌, ℕ, List, length, Option, Some, None, Result, Ok, Err, IfOk, MatchOption, option_map, refl, sym, ◌∙◌, subst}
 use Rattle.sample_core.specs.TypeTree.{TypeTree}
 use Rattle.leaf_core.specs.Expression.{Expression}
@@ -14,7 +14,7 @@ use Rattle.net_tree.specs.declared.law_step.Law.{Law}
 use Rattle.net_tree.specs.declared.law_step.Law.TheVariants as L
 use Rattle.net_tree.specs.declared.law_step.Direction.{Direction}
 use Rattle.net_tree.specs.declared.law_step.Direction.TheVariants.{Forward, Backward}
-use Rattle.law_rules.specs.NetworkRow.{NetworkRow}
+use Rattle.law_rules.specs.NetworkLaw.{NetworkLaw}
 use Rattle.law_rules.specs.Answer.{NetworkAnswer, forward_answer, backward_answer, IsNetworkAnswer, IsNetworkRightSide}
 use Rattle.law_rules.proofs.SameSides.{same-sides, same-sides_back}
 use Rattle.law_patterns.specs.declared.net_sym.NetSym.{NetSym}
@@ -23,18 +23,18 @@ use Rattle.law_rules.specs.Table.{rule_at, left_at, right_at}
 use Rattle.law_rules.specs.declared.table.Rule.{Rule}
 use Rattle.law_rules.specs.declared.table.Rule.TheVariants as R
 use Rattle.law_rules.proofs.NamedLaws.{IsRight}
-use Rattle.law_rules.proofs.TableRows.{made, made-is, Stands, stands, two-patterns}
+use Rattle.law_rules.proofs.TableLaws.{made, made-is, Stands, stands, two-patterns}
 use Rattle.law_rules.proofs.Numbers.{one-right_side}
 
 -- what a rule makes right sides of
 abbrev MakesRight : ℕ → ℕ → Rule → Type 0
 MakesRight n olds rule = (net : Network Expression) → IsRight n olds net (made rule olds (left_at n) (right_at n) net)
 
-only-made : (n olds : ℕ) (net r : Network Expression) (rule : Rule) → rule ≡ rule_at n → NetworkRow n olds net r → made rule olds (left_at n) (right_at n) net ≡ Some r
+only-made : (n olds : ℕ) (net r : Network Expression) (rule : Rule) → rule ≡ rule_at n → NetworkLaw n olds net r → made rule olds (left_at n) (right_at n) net ≡ Some r
 only-made n olds net r rule q k = subst (λ v. made v olds (left_at n) (right_at n) net ≡ Some r) (sym q) (made-is k)
 
--- a number whose rule is none has no row
-pub no-law : (n olds : ℕ) (net : Network Expression) → R.Nothing ≡ rule_at n → (r : Network Expression) → NetworkRow n olds net r → ⊥
+-- a number whose rule is none has no sides
+pub no-law : (n olds : ℕ) (net : Network Expression) → R.Nothing ≡ rule_at n → (r : Network Expression) → NetworkLaw n olds net r → ⊥
 no-law n olds net q r k = let p : None ≡ Some r = only-made n olds net r R.Nothing q k in absurd (cc)
 
 right-answer : {E : Type 0} (n olds : ℕ) (net : Network Expression) (rule : Rule) (x : Result (Option (Net Expr)) E) → rule ≡ rule_at n → MakesRight n olds rule
@@ -52,12 +52,12 @@ by-name n olds net rule x q g h = right-answer n olds net rule x q (g (subst (λ
 pub by-patterns : {E : Type 0} (n olds : ℕ) (net : Network Expression) (left right : List NetSym) (x : Result (Option (Net Expr)) E) → R.Sides ≡ rule_at n → left ≡ left_at n → right ≡ right_at n
     → ByNetPatterns left right net x → IfOk x (IsNetworkRightSide n olds net)
 by-patterns n olds net left right x q s t h =
-    by-net_rule (NetworkRow n olds) (left_at n) (right_at n) net x (two-patterns n olds q) (subst (λ v. ByNetPatterns v (right_at n) net x) s (subst (λ v. ByNetPatterns left v net x) t h))
+    by-net_rule (NetworkLaw n olds) (left_at n) (right_at n) net x (two-patterns n olds q) (subst (λ v. ByNetPatterns v (right_at n) net x) s (subst (λ v. ByNetPatterns left v net x) t h))
 
-forward-none : (n olds : ℕ) (net : Network Expression) → ((r : Network Expression) → NetworkRow n olds net r → ⊥) → (r : Network Expression) → NetworkAnswer (L.L n) Forward net None olds r → ⊥
+forward-none : (n olds : ℕ) (net : Network Expression) → ((r : Network Expression) → NetworkLaw n olds net r → ⊥) → (r : Network Expression) → NetworkAnswer (L.L n) Forward net None olds r → ⊥
 forward-none n olds net q r (forward_answer h) = q r h
 
-backward-none : (n olds : ℕ) (net g : Network Expression) → (NetworkRow n olds g net → ⊥) → (r : Network Expression) → NetworkAnswer (L.L n) Backward net (Some g) olds r → ⊥
+backward-none : (n olds : ℕ) (net g : Network Expression) → (NetworkLaw n olds g net → ⊥) → (r : Network Expression) → NetworkAnswer (L.L n) Backward net (Some g) olds r → ⊥
 backward-none n olds net g q r (backward_answer h) = q h
 
 plain-forward : {E : Type 0} (n olds : ℕ) (net : Network Expression) (x : Result (Option (Net Expr)) E) → IfOk x (IsNetworkRightSide n olds net) → IfOk x (IsNetworkAnswer (L.L n) Forward net None olds)
@@ -65,9 +65,9 @@ plain-forward n olds net (Ok None) h = forward-none n olds net h
 plain-forward n olds net (Ok (Some r)) h = forward_answer h
 plain-forward n olds net (Err f) h = tt
 
--- the network that is given, where the row leads from it to the one at hand
+-- the network that is given, where the law leads from it to the one at hand
 abbrev IsGivenBack : ℕ → ℕ → Network Expression → Network Expression → Option (Net Expr) → Type 0
-IsGivenBack n olds net g o = MatchOption o (NetworkRow n olds g net → ⊥) (λ r. NetworkRow n olds g net × (tree_of r ≡ g))
+IsGivenBack n olds net g o = MatchOption o (NetworkLaw n olds g net → ⊥) (λ r. NetworkLaw n olds g net × (tree_of r ≡ g))
 
 plain-backward : {E : Type 0} (n olds : ℕ) (net g : Network Expression) (x : Result (Option (Net Expr)) E) → IfOk x (IsGivenBack n olds net g)
     → IfOk x (IsNetworkAnswer (L.L n) Backward net (Some g) olds)
@@ -98,11 +98,11 @@ one_answer l d net g olds r s (forward_answer {n = n} h) (forward_answer k) = on
 one_answer l d net g olds r s (backward_answer h) (backward_answer k) = refl
 
 -- the answer, where there is one, is a right side
-pub found-row : (n olds : ℕ) (net : Network Expression) (o : Option (Net Expr)) (r : Net Expr) → IsNetworkRightSide n olds net o → o ≡ Some r → NetworkRow n olds net (tree_of r)
-found-row n olds net o r h q = subst (IsNetworkRightSide n olds net) q h
+pub found-law : (n olds : ℕ) (net : Network Expression) (o : Option (Net Expr)) (r : Net Expr) → IsNetworkRightSide n olds net o → o ≡ Some r → NetworkLaw n olds net (tree_of r)
+found-law n olds net o r h q = subst (IsNetworkRightSide n olds net) q h
 
 -- a right side that isn't the network is the only one
-pub other-side : (n olds : ℕ) (g net r : Network Expression) → NetworkRow n olds g r → (r ≡ net → ⊥) → NetworkRow n olds g net → ⊥
+pub other-side : (n olds : ℕ) (g net r : Network Expression) → NetworkLaw n olds g r → (r ≡ net → ⊥) → NetworkLaw n olds g net → ⊥
 other-side n olds g net r h q k = q (one-right_side n olds g r net h k)
 
 -- the network at hand and the answer do the same

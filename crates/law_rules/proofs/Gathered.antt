@@ -9,7 +9,7 @@ use Rattle.net_tree.specs.Network.{Network, Networks, arr, seq, par, networks_of
 use Rattle.net_tree.specs.NetworkView.{members_of, tree_of, trees}
 use Rattle.net_tree.specs.declared.net.Net.{Net}
 use Rattle.net_meaning.specs.Typing.{members}
-use Rattle.law_rules.specs.NetworkRow.{each_after, each_arr, count, route_to, behind_routes}
+use Rattle.law_rules.specs.NetworkLaw.{each_after, each_arr, count, route_to, behind_routes}
 use Rattle.law_rules.specs.Forward.{one_to_64, law41, law42, routed_apart, routed_each, kept_apart}
 
 pub trees-of : (fs : List (Net Expr)) → trees (members_of fs) ≡ networks_of (map tree_of fs)

@@ -11,6 +11,6 @@ pub mod SameSides
 pub mod NamedLaws
 pub mod AnsweredParts
 pub mod Gathered
-pub mod TableRows
+pub mod TableLaws
 pub mod Numbers
 pub mod Answered

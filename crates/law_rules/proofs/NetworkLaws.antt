@@ -1,6 +1,6 @@
--- Each row's two sides have one meaning: most in every context, the rest where both are typed.
+-- Each law's two sides have one meaning: most in every context, the rest where both are typed.
 use Rattle.std.proofs.Common.{Some, [], ap, ap₂, pos, refl, suc, sym, length, ℕ, ◌∙◌, ◌∷◌, ◌≡◌, ◌≤◌, subst}
-use Rattle.law_rules.specs.NetworkRow.{SeesSteps, accumulated_next, after_sees, assoc, behind_routes, each_after, each_arr, event_by, held_next, left_by, repeatedly_sees, right_by, swap, cross, time_sees, unassoc}
+use Rattle.law_rules.specs.NetworkLaw.{SeesSteps, accumulated_next, after_sees, assoc, behind_routes, each_after, each_arr, event_by, held_next, left_by, repeatedly_sees, right_by, swap, cross, time_sees, unassoc}
 use Rattle.leaf_core.specs.Expression.{Expression, Expressions, event_expr, fst, input, int_expr, list_expr, no_event_expr, nth, pair_expr, then_expr, unit_expr}
 use Rattle.leaf_core.specs.ExpressionValue.{value_of}
 use Rattle.net_meaning.specs.Meaning.{Context, meaning, meanings, with_olds, with_param}

@@ -1,6 +1,6 @@
 -- Laws of `parB`.
 use Rattle.std.proofs.Common.{List, Some, [], ap, ap₂, arith, length, map, pos, refl, subst, suc, zero, ℕ, ◌∙◌, ◌∷◌, ◌≡◌}
-use Rattle.law_rules.specs.NetworkRow.{each_after, each_arr}
+use Rattle.law_rules.specs.NetworkLaw.{each_after, each_arr}
 use Rattle.leaf_core.specs.Expression.{Expression, Expressions, and_then, no_more}
 use Rattle.leaf_core.specs.ExpressionValue.{element_at, nth_of, value_of, values_of}
 use Rattle.net_meaning.specs.Meaning.{Context, meaning, meanings}

@@ -1,4 +1,4 @@
--- Both sides of each row do the same where they are typed alike in one scope.
+-- Both sides of each law do the same where they are typed alike in one scope.
 use Rattle.std.proofs.Common.{◌≡◌, ℕ, suc, List, [], ◌∷◌, ◌++◌, length, refl, sym, ap, ◌∙◌}
 use mathlib.Core.Path.{fun_ext}
 use Rattle.sample_core.specs.Datum.{Datum, unit}
@@ -20,7 +20,7 @@ use Rattle.net_meaning.proofs.Plain.{AllSignals}
 use Rattle.net_meaning.proofs.Meanings.{IsSignal-meaning}
 use Rattle.net_meaning.proofs.SameNets.{signals_right, same-from_law}
 use Rattle.net_meaning.proofs.StreamLaws.{same-outputs}
-use Rattle.law_rules.specs.NetworkRow.{NetworkRow, swap, left_by, row_l1, row_l2, row_l3, row_l4, row_l5, row_l6, row_l7, row_l8, row_l9, row_l10, row_l11, row_l12, row_l13, row_l14, row_l15, row_l16, row_l17, row_l18, row_l19, row_l20, row_l21, row_l22, row_l23, row_l24, row_l25, row_l26, row_l27, row_l28, row_l29, row_l30, row_l31, row_l32, row_l33, row_l34, row_l35, row_l36, row_l37, row_l38, row_l39, row_l40, row_l41, row_l42, row_l43, row_l44, row_l45, row_l46, row_l47, row_l48, row_l49, row_l50, row_l51}
+use Rattle.law_rules.specs.NetworkLaw.{NetworkLaw, swap, left_by, law_l1, law_l2, law_l3, law_l4, law_l5, law_l6, law_l7, law_l8, law_l9, law_l10, law_l11, law_l12, law_l13, law_l14, law_l15, law_l16, law_l17, law_l18, law_l19, law_l20, law_l21, law_l22, law_l23, law_l24, law_l25, law_l26, law_l27, law_l28, law_l29, law_l30, law_l31, law_l32, law_l33, law_l34, law_l35, law_l36, law_l37, law_l38, law_l39, law_l40, law_l41, law_l42, law_l43, law_l44, law_l45, law_l46, law_l47, law_l48, law_l49, law_l50, law_l51}
 use Rattle.law_rules.proofs.Scopes.{value-stays}
 use Rattle.law_rules.proofs.SomeLaws.{switching_on-old}
 use Rattle.law_rules.proofs.CellLaws.{previous_of-pair}
@@ -91,70 +91,70 @@ law_12 Ps Os A B c d (i_pre_typed (pair_typed {B = C} {C = D} hc hd)) ps os k a 
     previous_of-pair {A = C} {B = D} (value_of c ps unit) (value_of d ps unit) xs (IsSignal-previous_of (value_of c ps unit)) (IsSignal-previous_of (value_of d ps unit))
     (typed_value (pair_expr c d) Ps unit_ty A (pair_typed hc hd) ps unit k unit_has) j
 
-same-in : (law olds : ℕ) (Ps : List TypeTree) (Os : List Arrow) (A B : TypeTree) (l r : Network Expression) → NetworkRow law olds l r → length Os ≡ olds → NetTyped Ps Os l A B → SameIn Ps Os A l r
-same-in law olds Ps Os A B l r row_l1 n d = everywhere Ps Os A l r (law_1 r)
-same-in law olds Ps Os A B l r row_l2 n d = everywhere Ps Os A l r (law_2 r)
-same-in law olds Ps Os A B l r (row_l3 {f = f} {g = g} {h = h}) n d = everywhere Ps Os A l r (law_3 f g h)
-same-in law olds Ps Os A B l r (row_l4 {f = f} {g = g}) n d = everywhere Ps Os A l r (law_4 f g)
-same-in law olds Ps Os A B l r (row_l5 {f = f}) n d = everywhere Ps Os A l r (law_5 f)
-same-in law olds Ps Os A B l r (row_l6 {f = f} {g = g}) n d = everywhere Ps Os A l r (law_6 f g)
-same-in law olds Ps Os A B l r (row_l7 {f = f} {g = g}) n d = everywhere Ps Os A l r (law_7 f g)
-same-in law olds Ps Os A B l r (row_l8 {f = f}) n d = everywhere Ps Os A l r (law_8 f)
-same-in law olds Ps Os A B l r (row_l9 {f = f}) n d = everywhere Ps Os A l r (law_9 f)
-same-in law olds Ps Os A B l r (row_l10 {f = f} {g = g} {h = h}) n d = everywhere Ps Os A l r (law_10 f g h)
-same-in law olds Ps Os A B l r (row_l11 {c = c} {f = f}) n d = everywhere Ps Os A l r (law_11 c f)
-same-in law olds Ps Os A B l r (row_l12 {c = c} {d = e}) n d = law_12 Ps Os A B c e d
-same-in law olds Ps Os A B l r (row_l13 {c = c} {f = f} {h = h}) n d = everywhere Ps Os A l r (law_13 c f h)
-same-in law olds Ps Os A B l r (row_l14 {c = c} {f = f} {h = h}) n d = everywhere Ps Os A l r (law_14 c f h)
-same-in law olds Ps Os A B l r (row_l15 {d = e} {g = g} {f = f}) n d = everywhere Ps Os A l r (law_15 e g f)
-same-in law olds Ps Os A B l r (row_l16 {c = c} {d = e} {f = f}) n d = everywhere Ps Os A l r (law_16 c e f)
-same-in law olds Ps Os A B l r (row_l17 {c = c}) n d = everywhere Ps Os A l r (law_17 c r)
-same-in law olds Ps Os A B l r (row_l18 {c = c} {e = e}) n d = everywhere Ps Os A l r (law_18 c e)
-same-in law olds Ps Os A B l r (row_l19 {T = T} {c = c}) n d = everywhere Ps Os A l r (law_19 T c)
-same-in law olds Ps Os A B l r (row_l20 {f = f} h) n d = everywhere Ps Os A l r (law_20 f r h)
-same-in law olds Ps Os A B l r (row_l21 {q = q} {T = T} {c = c} {g = g}) n d = everywhere Ps Os A l r (law_21 q T c g)
-same-in law olds Ps Os A B l r (row_l22 {q = q} {T = T} {c = c} {g = g}) n d = everywhere Ps Os A l r (law_22 q T c g)
-same-in law olds Ps Os A B l r (row_l23 {T = T} {c = c} {g = g}) n d = everywhere Ps Os A l r (law_23 T c g)
-same-in law olds Ps Os A B l r (row_l24 {T = T} {g = g} {h = h} {z = z}) n d = everywhere Ps Os A l r (law_24 T g h z)
-same-in law olds Ps Os A B l r (row_l25 {e = e} {f = f}) n d = everywhere Ps Os A l r (law_25 e f)
-same-in law olds Ps Os A B l r (row_l26 {q = q} {c = c} {f = f}) n d = everywhere Ps Os A l r (law_26 q c f)
-same-in law olds Ps Os A B l r (row_l27 {h = h} {f = f} {t = t}) n (seq_typed (arr_typed {B = C} e) d) = λ ps os k a xs j. at xs (laws_27_28 at_once h f t (context ps os) (steady h Ps A C e ps os k))
-same-in law olds Ps Os A B l r (row_l28 {h = h} {f = f} {t = t}) n (seq_typed (arr_typed {B = C} e) d) = λ ps os k a xs j. at xs (laws_27_28 delayed h f t (context ps os) (steady h Ps A C e ps os k))
-same-in law olds Ps Os A B l r (row_l29 {h = h} {f = f} {t = t}) n (seq_typed d (arr_typed {A = C} e)) = λ ps os k a xs j. at xs (laws_29_30 at_once h f t (context ps os) (signals_right os os a) (steady h Ps C B e ps os k))
-same-in law olds Ps Os A B l r (row_l30 {h = h} {f = f} {t = t}) n (seq_typed d (arr_typed {A = C} e)) = λ ps os k a xs j. at xs (laws_29_30 delayed h f t (context ps os) (signals_right os os a) (steady h Ps C B e ps os k))
-same-in law olds Ps Os A B l r (row_l31 {C = C} {t = t}) n d = everywhere Ps Os A l r (laws_31_32 at_once C r t)
-same-in law olds Ps Os A B l r (row_l32 {C = C} {t = t}) n d = everywhere Ps Os A l r (laws_31_32 delayed C r t)
-same-in law olds Ps Os A B l r (row_l33 {f = f} {t = t}) n d = everywhere Ps Os A l r (laws_33_34 at_once f t)
-same-in law olds Ps Os A B l r (row_l34 {f = f} {t = t}) n d = everywhere Ps Os A l r (laws_33_34 delayed f t)
-same-in law olds Ps Os A B l r (row_l35 {C = C} {e = e} {f = f} {t = t}) n d = everywhere Ps Os A l r (law_35 C e f t)
-same-in law olds Ps Os A B l r (row_l36 {h = h} {f = f} {t = t}) n (seq_typed d (arr_typed {A = C} e)) = λ ps os k a xs j. at xs (laws_36_45 at_once h f t (context ps os) (signals_right os os a) (steady h Ps C B e ps os k))
-same-in law olds Ps Os A B l r (row_l37 {C = C} {t = t}) n d = everywhere Ps Os A l r (law_37 C r t)
-same-in law olds Ps Os A B l r (row_l38 {e = e}) n d = λ ps os k a xs j. law_38 olds r e (context ps os) (signals_right os os a) (how-many os os a ∙ n) xs
-same-in law olds Ps Os A B l r (row_l39 {C = C} {r = c} {fs = fs} {t = t} some few) n d = everywhere Ps Os A l r (law_39 C c fs t)
-same-in law olds Ps Os A B l r (row_l40 {i = i} {d = e} {fs = fs} few h) n d = everywhere Ps Os A l r (law_40 i e fs r h)
-same-in law olds Ps Os A B l r (row_l41 {h = h} {fs = fs} some few) n d = everywhere Ps Os A l r (law_41 h fs)
-same-in law olds Ps Os A B l r (row_l42 {T = T} {es = es} some few) n d = everywhere Ps Os A l r (law_42 T es)
-same-in law olds Ps Os A B l r (row_l43 {c = c} {d = e} {f = f}) n d = everywhere Ps Os A l r (law_43 c e f)
-same-in law olds Ps Os A B l r (row_l44 {c = c} {f = f}) n d = everywhere Ps Os A l r (law_44 c f)
-same-in law olds Ps Os A B l r (row_l45 {h = h} {f = f} {t = t}) n (seq_typed d (arr_typed {A = C} e)) = λ ps os k a xs j. at xs (laws_36_45 delayed h f t (context ps os) (signals_right os os a) (steady h Ps C B e ps os k))
-same-in law olds Ps Os A B l r (row_l46 {C = C} {e = e} {m = m} {fs = fs} {t = t} some few) n d = everywhere Ps Os A l r (law_46 C e m fs t few)
-same-in law olds Ps Os A B l r (row_l47 {c = c} {f = f}) n d = everywhere Ps Os A l r (law_47 c f)
-same-in law olds Ps Os A B l r (row_l48 {f = f} {g = g}) n d = everywhere Ps Os A l r (law_48 f g)
-same-in law olds Ps Os A B l r (row_l49 {c = c}) n d = everywhere Ps Os A l r (law_49 c)
-same-in law olds Ps Os A B l r (row_l50 {c = c}) n d = everywhere Ps Os A l r (law_50 c)
-same-in law olds Ps Os A B l r (row_l51 {Z = Z} {g = g} {z = z}) n d = everywhere Ps Os A l r (law_51 Z g z)
+same-in : (law olds : ℕ) (Ps : List TypeTree) (Os : List Arrow) (A B : TypeTree) (l r : Network Expression) → NetworkLaw law olds l r → length Os ≡ olds → NetTyped Ps Os l A B → SameIn Ps Os A l r
+same-in law olds Ps Os A B l r law_l1 n d = everywhere Ps Os A l r (law_1 r)
+same-in law olds Ps Os A B l r law_l2 n d = everywhere Ps Os A l r (law_2 r)
+same-in law olds Ps Os A B l r (law_l3 {f = f} {g = g} {h = h}) n d = everywhere Ps Os A l r (law_3 f g h)
+same-in law olds Ps Os A B l r (law_l4 {f = f} {g = g}) n d = everywhere Ps Os A l r (law_4 f g)
+same-in law olds Ps Os A B l r (law_l5 {f = f}) n d = everywhere Ps Os A l r (law_5 f)
+same-in law olds Ps Os A B l r (law_l6 {f = f} {g = g}) n d = everywhere Ps Os A l r (law_6 f g)
+same-in law olds Ps Os A B l r (law_l7 {f = f} {g = g}) n d = everywhere Ps Os A l r (law_7 f g)
+same-in law olds Ps Os A B l r (law_l8 {f = f}) n d = everywhere Ps Os A l r (law_8 f)
+same-in law olds Ps Os A B l r (law_l9 {f = f}) n d = everywhere Ps Os A l r (law_9 f)
+same-in law olds Ps Os A B l r (law_l10 {f = f} {g = g} {h = h}) n d = everywhere Ps Os A l r (law_10 f g h)
+same-in law olds Ps Os A B l r (law_l11 {c = c} {f = f}) n d = everywhere Ps Os A l r (law_11 c f)
+same-in law olds Ps Os A B l r (law_l12 {c = c} {d = e}) n d = law_12 Ps Os A B c e d
+same-in law olds Ps Os A B l r (law_l13 {c = c} {f = f} {h = h}) n d = everywhere Ps Os A l r (law_13 c f h)
+same-in law olds Ps Os A B l r (law_l14 {c = c} {f = f} {h = h}) n d = everywhere Ps Os A l r (law_14 c f h)
+same-in law olds Ps Os A B l r (law_l15 {d = e} {g = g} {f = f}) n d = everywhere Ps Os A l r (law_15 e g f)
+same-in law olds Ps Os A B l r (law_l16 {c = c} {d = e} {f = f}) n d = everywhere Ps Os A l r (law_16 c e f)
+same-in law olds Ps Os A B l r (law_l17 {c = c}) n d = everywhere Ps Os A l r (law_17 c r)
+same-in law olds Ps Os A B l r (law_l18 {c = c} {e = e}) n d = everywhere Ps Os A l r (law_18 c e)
+same-in law olds Ps Os A B l r (law_l19 {T = T} {c = c}) n d = everywhere Ps Os A l r (law_19 T c)
+same-in law olds Ps Os A B l r (law_l20 {f = f} h) n d = everywhere Ps Os A l r (law_20 f r h)
+same-in law olds Ps Os A B l r (law_l21 {q = q} {T = T} {c = c} {g = g}) n d = everywhere Ps Os A l r (law_21 q T c g)
+same-in law olds Ps Os A B l r (law_l22 {q = q} {T = T} {c = c} {g = g}) n d = everywhere Ps Os A l r (law_22 q T c g)
+same-in law olds Ps Os A B l r (law_l23 {T = T} {c = c} {g = g}) n d = everywhere Ps Os A l r (law_23 T c g)
+same-in law olds Ps Os A B l r (law_l24 {T = T} {g = g} {h = h} {z = z}) n d = everywhere Ps Os A l r (law_24 T g h z)
+same-in law olds Ps Os A B l r (law_l25 {e = e} {f = f}) n d = everywhere Ps Os A l r (law_25 e f)
+same-in law olds Ps Os A B l r (law_l26 {q = q} {c = c} {f = f}) n d = everywhere Ps Os A l r (law_26 q c f)
+same-in law olds Ps Os A B l r (law_l27 {h = h} {f = f} {t = t}) n (seq_typed (arr_typed {B = C} e) d) = λ ps os k a xs j. at xs (laws_27_28 at_once h f t (context ps os) (steady h Ps A C e ps os k))
+same-in law olds Ps Os A B l r (law_l28 {h = h} {f = f} {t = t}) n (seq_typed (arr_typed {B = C} e) d) = λ ps os k a xs j. at xs (laws_27_28 delayed h f t (context ps os) (steady h Ps A C e ps os k))
+same-in law olds Ps Os A B l r (law_l29 {h = h} {f = f} {t = t}) n (seq_typed d (arr_typed {A = C} e)) = λ ps os k a xs j. at xs (laws_29_30 at_once h f t (context ps os) (signals_right os os a) (steady h Ps C B e ps os k))
+same-in law olds Ps Os A B l r (law_l30 {h = h} {f = f} {t = t}) n (seq_typed d (arr_typed {A = C} e)) = λ ps os k a xs j. at xs (laws_29_30 delayed h f t (context ps os) (signals_right os os a) (steady h Ps C B e ps os k))
+same-in law olds Ps Os A B l r (law_l31 {C = C} {t = t}) n d = everywhere Ps Os A l r (laws_31_32 at_once C r t)
+same-in law olds Ps Os A B l r (law_l32 {C = C} {t = t}) n d = everywhere Ps Os A l r (laws_31_32 delayed C r t)
+same-in law olds Ps Os A B l r (law_l33 {f = f} {t = t}) n d = everywhere Ps Os A l r (laws_33_34 at_once f t)
+same-in law olds Ps Os A B l r (law_l34 {f = f} {t = t}) n d = everywhere Ps Os A l r (laws_33_34 delayed f t)
+same-in law olds Ps Os A B l r (law_l35 {C = C} {e = e} {f = f} {t = t}) n d = everywhere Ps Os A l r (law_35 C e f t)
+same-in law olds Ps Os A B l r (law_l36 {h = h} {f = f} {t = t}) n (seq_typed d (arr_typed {A = C} e)) = λ ps os k a xs j. at xs (laws_36_45 at_once h f t (context ps os) (signals_right os os a) (steady h Ps C B e ps os k))
+same-in law olds Ps Os A B l r (law_l37 {C = C} {t = t}) n d = everywhere Ps Os A l r (law_37 C r t)
+same-in law olds Ps Os A B l r (law_l38 {e = e}) n d = λ ps os k a xs j. law_38 olds r e (context ps os) (signals_right os os a) (how-many os os a ∙ n) xs
+same-in law olds Ps Os A B l r (law_l39 {C = C} {r = c} {fs = fs} {t = t} some few) n d = everywhere Ps Os A l r (law_39 C c fs t)
+same-in law olds Ps Os A B l r (law_l40 {i = i} {d = e} {fs = fs} few h) n d = everywhere Ps Os A l r (law_40 i e fs r h)
+same-in law olds Ps Os A B l r (law_l41 {h = h} {fs = fs} some few) n d = everywhere Ps Os A l r (law_41 h fs)
+same-in law olds Ps Os A B l r (law_l42 {T = T} {es = es} some few) n d = everywhere Ps Os A l r (law_42 T es)
+same-in law olds Ps Os A B l r (law_l43 {c = c} {d = e} {f = f}) n d = everywhere Ps Os A l r (law_43 c e f)
+same-in law olds Ps Os A B l r (law_l44 {c = c} {f = f}) n d = everywhere Ps Os A l r (law_44 c f)
+same-in law olds Ps Os A B l r (law_l45 {h = h} {f = f} {t = t}) n (seq_typed d (arr_typed {A = C} e)) = λ ps os k a xs j. at xs (laws_36_45 delayed h f t (context ps os) (signals_right os os a) (steady h Ps C B e ps os k))
+same-in law olds Ps Os A B l r (law_l46 {C = C} {e = e} {m = m} {fs = fs} {t = t} some few) n d = everywhere Ps Os A l r (law_46 C e m fs t few)
+same-in law olds Ps Os A B l r (law_l47 {c = c} {f = f}) n d = everywhere Ps Os A l r (law_47 c f)
+same-in law olds Ps Os A B l r (law_l48 {f = f} {g = g}) n d = everywhere Ps Os A l r (law_48 f g)
+same-in law olds Ps Os A B l r (law_l49 {c = c}) n d = everywhere Ps Os A l r (law_49 c)
+same-in law olds Ps Os A B l r (law_l50 {c = c}) n d = everywhere Ps Os A l r (law_50 c)
+same-in law olds Ps Os A B l r (law_l51 {Z = Z} {g = g} {z = z}) n d = everywhere Ps Os A l r (law_51 Z g z)
 
-pub same-sides : (law olds : ℕ) (Ps : List TypeTree) (Os : List Arrow) (A B : TypeTree) (l r : Network Expression) → NetworkRow law olds l r → length Os ≡ olds → NetTyped Ps Os l A B → NetTyped Ps Os r A B
+pub same-sides : (law olds : ℕ) (Ps : List TypeTree) (Os : List Arrow) (A B : TypeTree) (l r : Network Expression) → NetworkLaw law olds l r → length Os ≡ olds → NetTyped Ps Os l A B → NetTyped Ps Os r A B
     → SameNet value_of Ps Os A B l r
-same-sides law olds Ps Os A B l r row n dl dr = same-from_law value_of ExpressionTyped typed_value Ps Os A B l r dl dr (same-in law olds Ps Os A B l r row n dl)
+same-sides law olds Ps Os A B l r is_law n dl dr = same-from_law value_of ExpressionTyped typed_value Ps Os A B l r dl dr (same-in law olds Ps Os A B l r is_law n dl)
 
-pub same-side_outputs : (law olds : ℕ) (Ps : List TypeTree) (Os : List Arrow) (A B : TypeTree) (l r : Network Expression) → NetworkRow law olds l r → length Os ≡ olds → NetTyped Ps Os l A B → NetTyped Ps Os r A B
+pub same-side_outputs : (law olds : ℕ) (Ps : List TypeTree) (Os : List Arrow) (A B : TypeTree) (l r : Network Expression) → NetworkLaw law olds l r → length Os ≡ olds → NetTyped Ps Os l A B → NetTyped Ps Os r A B
     → SameOutputs Ps Os A l r
-same-side_outputs law olds Ps Os A B l r row n dl dr = same-outputs Ps Os l r A B (same-sides law olds Ps Os A B l r row n dl dr)
+same-side_outputs law olds Ps Os A B l r is_law n dl dr = same-outputs Ps Os l r A B (same-sides law olds Ps Os A B l r is_law n dl dr)
 
 -- the right side does the same as the left one
-pub same-sides_back : (law olds : ℕ) (Ps : List TypeTree) (Os : List Arrow) (A B : TypeTree) (l r : Network Expression) → NetworkRow law olds l r → length Os ≡ olds → NetTyped Ps Os l A B
+pub same-sides_back : (law olds : ℕ) (Ps : List TypeTree) (Os : List Arrow) (A B : TypeTree) (l r : Network Expression) → NetworkLaw law olds l r → length Os ≡ olds → NetTyped Ps Os l A B
     → NetTyped Ps Os r A B → SameNet value_of Ps Os A B r l
-same-sides_back law olds Ps Os A B l r row n dl dr =
-    let there : SameIn Ps Os A l r = same-in law olds Ps Os A B l r row n dl in
+same-sides_back law olds Ps Os A B l r is_law n dl dr =
+    let there : SameIn Ps Os A l r = same-in law olds Ps Os A B l r is_law n dl in
     same-from_law value_of ExpressionTyped typed_value Ps Os A B r l dr dl (λ ps os k a xs j. sym (there ps os k a xs j))

@@ -15,16 +15,16 @@ use Rattle.net_tree.specs.declared.law_step.Law.{Law}
 use Rattle.net_tree.specs.declared.law_step.Law.TheVariants as L
 use Rattle.net_tree.specs.declared.law_step.Direction.{Direction}
 use Rattle.net_tree.specs.declared.law_step.Direction.TheVariants.{Forward, Backward}
-use Rattle.law_rules.specs.NetworkRow.{NetworkRow}
+use Rattle.law_rules.specs.NetworkLaw.{NetworkLaw}
 
 -- a law, its direction, the network at hand, the one that is given, how many frozen networks are in
--- scope, and the answer: forward, with none given, the right side of the row whose left side is at
--- hand; backward the one that is given, where the row leads from it to exactly the one at hand
+-- scope, and the answer: forward, with none given, the right side of the law whose left side is at
+-- hand; backward the one that is given, where the law leads from it to exactly the one at hand
 pub data NetworkAnswer : Law → Direction → Network Expression → Option (Network Expression) → ℕ
     → Network Expression → Type 0 where
-  forward_answer : {n olds : ℕ} {net r : Network Expression} → NetworkRow n olds net r
+  forward_answer : {n olds : ℕ} {net r : Network Expression} → NetworkLaw n olds net r
       → NetworkAnswer (L.L n) Forward net None olds r
-  backward_answer : {n olds : ℕ} {net g : Network Expression} → NetworkRow n olds g net
+  backward_answer : {n olds : ℕ} {net g : Network Expression} → NetworkLaw n olds g net
       → NetworkAnswer (L.L n) Backward net (Some g) olds g
 
 -- the network that is given, if one is
@@ -40,11 +40,11 @@ IsNetworkAnswer law direction net given olds answer =
     ((r : Network Expression) → NetworkAnswer law direction net given olds r → ⊥)
     (λ r. NetworkAnswer law direction net given olds (tree_of r))
 
--- the right side of law n's row whose left side is the network, or none where it is no left side
+-- the right side of law n whose left side is the network, or none where it is no left side
 abbrev pub IsNetworkRightSide : ℕ → ℕ → Network Expression → Option (Net Expr) → Type 0
 IsNetworkRightSide n olds net answer =
-    MatchOption answer ((r : Network Expression) → NetworkRow n olds net r → ⊥)
-    (λ r. NetworkRow n olds net (tree_of r))
+    MatchOption answer ((r : Network Expression) → NetworkLaw n olds net r → ⊥)
+    (λ r. NetworkLaw n olds net (tree_of r))
 
 -- there is at most one answer
 abbrev pub OneNetworkAnswerLaw : Type 0

@@ -1,5 +1,5 @@
 -- The laws of networks, a file a line.
-pub mod NetworkRow
+pub mod NetworkLaw
 pub mod Forward
 pub mod Laws
 pub mod Table

@@ -2,7 +2,7 @@
 
 ghost use Rattle.std.specs.Prelude.{◌≡◌, IfOk, MatchOption};
 ghost use Rattle.net_tree.specs.NetworkView.{tree_of};
-ghost use Rattle.law_rules.specs.NetworkRow.{NetworkRow};
+ghost use Rattle.law_rules.specs.NetworkLaw.{NetworkLaw};
 ghost use Rattle.law_rules.specs.Answer.{IsNetworkAnswer, IsNetworkRightSide, given_net};
 
 use crate::collections::{before_members, elements_apart, members_apart, unchanging};
@@ -15,8 +15,8 @@ use sample_core::Memory;
 use std::alloc::Global;
 
 /// What a law answers at a network, where so many frozen networks are in scope: forward, with none
-/// given, the right side of the law's row where the network is its left side; backward the network
-/// that is given, where the row leads from it forward to exactly the one at hand; else `None`.
+/// given, the law's right side where the network is its left side; backward the network that is
+/// given, where the law leads from it forward to exactly the one at hand; else `None`.
 /// Types don't matter. `Memory` if allocation fails.
 pub fn apply_law(
     alloc: Global,
@@ -71,8 +71,8 @@ fn backward(
     olds: u32,
 ) -> Result<Option<Net<Expr>>, Memory>
     ensures { IfOk result (λ o. MatchOption o
-        (NetworkRow number olds (tree_of given.now) (tree_of net.now) → ⊥)
-        (λ r. NetworkRow number olds (tree_of given.now) (tree_of net.now)
+        (NetworkLaw number olds (tree_of given.now) (tree_of net.now) → ⊥)
+        (λ r. NetworkLaw number olds (tree_of given.now) (tree_of net.now)
         × (tree_of r ≡ tree_of given.now))) }
 {
     let Some(right) = forward(alloc, number, given, olds)? else {

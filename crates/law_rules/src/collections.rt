@@ -6,7 +6,7 @@ ghost use Rattle.leaf_core.specs.ExpressionView.{expression_of};
 ghost use Rattle.net_tree.specs.Network.{arr, networks_of, par, seq};
 ghost use Rattle.net_tree.specs.NetworkView.{tree, tree_of, trees};
 ghost use Rattle.net_tree.specs.declared.limits.TheConstants.{MOST_MEMBERS};
-ghost use Rattle.law_rules.specs.NetworkRow.{route_to};
+ghost use Rattle.law_rules.specs.NetworkLaw.{route_to};
 ghost use Rattle.law_rules.specs.Forward.{beside_none, is_eventless, kept_apart, law39, law41, law42, law46, one_to_64, routed_apart, routed_each};
 
 use leaf_core::{Expr, ExprChild, Exprs, Literal};

@@ -5,8 +5,8 @@ use Rattle.sample_core.specs.TypeTree.{TypeTree}
 use Rattle.sample_core.specs.TypeView.{type_of}
 use Rattle.leaf_core.specs.Expression.{Expression, Expressions, expressions_of, nodes_in, nodes_in_all, input, param, unit_expr, bool_expr, int_expr, pair_expr, fst, snd, then_expr, neg, add, sub, mul, less, equal, not_expr, and_expr, or_expr, if_expr, no_event_expr, event_expr, on, list_expr, nth, len}
 use Rattle.leaf_core.specs.HashWrites.{type_writes, expression_writes, expressions_writes}
-use Rattle.leaf_core.specs.declared.inside.Contents.{Contents}
-use Rattle.leaf_core.specs.declared.inside.Contents.TheVariants as V
+use Rattle.leaf_core.specs.declared.contents.Contents.{Contents}
+use Rattle.leaf_core.specs.declared.contents.Contents.TheVariants as V
 use Rattle.leaf_core.specs.declared.expr.Expr.{Expr}
 use Rattle.leaf_core.specs.declared.expr.Expr.TheVariants as E
 use Rattle.leaf_core.specs.declared.literal.Literal.TheVariants as C

@@ -4,9 +4,9 @@ ghost use Rattle.std.specs.Prelude.{◌≡◌, ◌↔◌, IsTrue};
 ghost use Rattle.sample_core.specs.TypeView.{type_of};
 ghost use Rattle.leaf_core.specs.{Expression.expressions_of, Inside.inside_of, ExpressionView.expression_of};
 
+use crate::contents::{Contents, inside};
 use crate::expr::{Expr, ExprChild, Exprs};
 use crate::feed::tag;
-use crate::inside::{Contents, inside};
 use sample_core::{Ty, same_type};
 
 /// Whether the two expressions are equal, all their parts and types included. It takes no memory.

@@ -5,7 +5,7 @@ ghost use Rattle.leaf_core.specs.Inside.{plain, with_one, with_two, with_three};
 ghost use Rattle.leaf_core.specs.ExpressionView.{expression_of};
 ghost use Rattle.leaf_core.specs.declared.expr.Expr.TheVariants as E;
 
-use crate::inside::{Contents, inside};
+use crate::contents::{Contents, inside};
 use crate::literal::Literal;
 use sample_core::{Memory, Ty};
 use std::alloc::Global;

@@ -7,8 +7,8 @@ ghost use Rattle.leaf_core.specs.{ExpressionView.expression_of, Inside.inside_of
 ghost use Rattle.leaf_core.specs.Expression.{expressions_of};
 ghost use Rattle.leaf_core.specs.HashWrites.{tag_of, type_writes, expression_writes, expressions_writes};
 
+use crate::contents::{Contents, inside};
 use crate::expr::{Expr, Exprs};
-use crate::inside::{Contents, inside};
 use crate::literal::Literal;
 use sample_core::Ty;
 use std::hash::Hasher;

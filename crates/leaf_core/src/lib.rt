@@ -12,11 +12,11 @@
 //! First `specs/Expression` and `ExpressionValue`, then `src/expr.rt`, `src/evaluation.rt`.
 #![tactic(auto)]
 
+mod contents;
 mod equal;
 mod evaluation;
 mod expr;
 mod feed;
-mod inside;
 mod key;
 mod laws;
 mod limits;
@@ -29,6 +29,7 @@ mod scope;
 mod shape;
 mod typing;
 
+pub use contents::{Contents, inside};
 pub use equal::same_expr;
 pub use evaluation::{eval, eval_over};
 pub use expr::{Expr, ExprChild, Exprs, with_one_part, with_three_parts, with_two_parts};

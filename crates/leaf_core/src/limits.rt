@@ -6,8 +6,8 @@ ghost use Rattle.leaf_core.specs.ExpressionView.{expression_of};
 ghost use Rattle.leaf_core.specs.Expression.{expressions_of, height_of, heights_of, nodes_in, nodes_in_all};
 ghost use Rattle.leaf_core.specs.{TypeLimits.NodesLeft, TypeLimits.type_fits, ExpressionLimits.expression_fits};
 
+use crate::contents::{Contents, inside};
 use crate::expr::{Expr, ExprChild, Exprs};
-use crate::inside::{Contents, inside};
 use sample_core::Ty;
 
 /// How many types may stand in one another; `Int` has depth 1.

@@ -6,8 +6,8 @@ ghost use Rattle.leaf_core.specs.{ExpressionView.expression_of, Inside.one, Insi
 ghost use Rattle.leaf_core.specs.Expression.{expressions_of, list_expr};
 ghost use Rattle.leaf_core.specs.Parts.{inside_with, part, part_at, refilled, with_part, with_part_at};
 
+use crate::contents::{Contents, inside};
 use crate::expr::{Expr, ExprChild, Exprs, with_one_part, with_three_parts, with_two_parts};
-use crate::inside::{Contents, inside};
 use sample_core::{Memory, Ty};
 use std::alloc::Global;
 use std::mem::replace;

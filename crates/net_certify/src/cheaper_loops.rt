@@ -1,9 +1,9 @@
 // Loops and cells made one loop, where that costs much less.
 
-use crate::alike::MOST_CHILDREN;
 use crate::one_loop::join_loops;
 use expr_improve::{Means, joined};
 use leaf_core::Expr;
+use net_compare::MOST_CHILDREN;
 use net_improve::{
     Clearing, NoMove, Sketch, behind, copied, front, head, is_flat, length, net_cost, rest,
     stage_way,

@@ -1,7 +1,7 @@
 // The normal form of a network, by steps.
 
 use crate::one_loop::join_loops;
-use crate::table::{MoveRow, SOURCE, TABLE, row_fits};
+use crate::table::{MoveEntry, SOURCE, TABLE, entry_fits};
 use expr_improve::{Means, joined};
 use leaf_core::Expr;
 use net_improve::{
@@ -68,15 +68,17 @@ pub fn normal_form(means: &Means, net: &Net<Expr>, olds: u32) -> Result<Formed, 
     Ok(former.into_formed())
 }
 
-/// The normal form of the network with its loops and cells made as few loops as they get, likewise.
-pub fn looped_form(means: &Means, net: &Net<Expr>, olds: u32) -> Result<Formed, Memory> {
+/// The normal form of the network with its loops and cells made as few loops as they get, likewise;
+/// `None` where it has none.
+pub fn looped_form(means: &Means, net: &Net<Expr>, olds: u32) -> Result<Option<Formed>, Memory> {
     let mut former = Former::new(means, net, olds)?;
     match join_loops(&mut former.sketch) {
+        Ok(0) => return Ok(None),
         Ok(_) | Err(NoMove::Unfit) => {}
         Err(NoMove::Memory) => return Err(Memory),
     }
     former.perform_all()?;
-    Ok(former.into_formed())
+    Ok(Some(former.into_formed()))
 }
 
 /// To bring the whole to its normal form.
@@ -266,9 +268,9 @@ impl Former {
         };
         let loops = has_loop(chain, stage);
         let arr = stage > 0 && is_arr(chain, stage - 1);
-        for row in TABLE {
-            if row.0.fits_behind(loops, arr) {
-                if let Some(made) = self.made_by(&row, here, spot.olds)? {
+        for entry in TABLE {
+            if entry.0.fits_behind(loops, arr) {
+                if let Some(made) = self.made_by(&entry, here, spot.olds)? {
                     return Ok(Some(made));
                 }
             }
@@ -276,14 +278,19 @@ impl Former {
         Ok(None)
     }
 
-    /// What the row's move makes of the chain's first stages, where it fits, with so many frozen
+    /// What the entry's move makes of the chain's first stages, where it fits, with so many frozen
     /// networks in scope.
-    fn made_by(&self, row: &MoveRow, chain: &Net<Expr>, olds: u32) -> Result<Option<Made>, NoMove> {
-        if !row_fits(row, chain) || !self.sketch.means.spend(row.1 as u64) {
+    fn made_by(
+        &self,
+        entry: &MoveEntry,
+        chain: &Net<Expr>,
+        olds: u32,
+    ) -> Result<Option<Made>, NoMove> {
+        if !entry_fits(entry, chain) || !self.sketch.means.spend(entry.1 as u64) {
             return Ok(None);
         }
-        let window = front(self.sketch.alloc, chain, row.1)?;
-        tried(&self.sketch.means, row, &window, olds)
+        let window = front(self.sketch.alloc, chain, entry.1)?;
+        tried(&self.sketch.means, entry, &window, olds)
     }
 
     /// Puts what was made of some stages in their place, and what it built is to be formed.
@@ -333,20 +340,20 @@ impl Former {
     }
 }
 
-/// What the row's move makes of the stages, where it fits and changes them.
+/// What the entry's move makes of the stages, where it fits and changes them.
 fn tried(
     means: &Means,
-    row: &MoveRow,
+    entry: &MoveEntry,
     window: &NetChild<Expr>,
     olds: u32,
 ) -> Result<Option<Made>, NoMove> {
     let mut sketch = Sketch::new(means, window.try_copy()?, olds, Clearing::Always)?;
-    match row.0.make(&mut sketch) {
+    match entry.0.make(&mut sketch) {
         Ok(built) if !same_net(sketch.net.get(), window.get()) => Ok(Some(Made {
-            stages: row.1,
+            stages: entry.1,
             sketch,
             built,
-            fuses: row.0.fuses(),
+            fuses: entry.0.fuses(),
         })),
         Ok(_) | Err(NoMove::Unfit) => Ok(None),
         Err(NoMove::Memory) => Err(NoMove::Memory),

@@ -2,7 +2,6 @@
 //!
 //!     let ways = ways_between(&means, &first, &second, with_loops)?;
 //!     let formed = normal_form(&means, &net, 0)?;
-//!     let difference = first_difference(alloc, &first, &second)?;
 //!     let moves = loops_made_one(&means, &net)?;
 //!
 //! The two are walked together from the root; what is the same in both is left alone, and where they
@@ -15,10 +14,8 @@
 //! `src/cheaper_loops.rt`.
 #![tactic(auto)]
 
-mod alike;
 mod arr_forms;
 mod cheaper_loops;
-mod difference;
 mod forming;
 mod loop_forms;
 mod loop_states;
@@ -28,9 +25,8 @@ mod places;
 mod segments;
 mod shaping;
 mod table;
+mod unheard;
 
-pub use alike::{MOST_CHILDREN, inner_at};
 pub use cheaper_loops::loops_made_one;
-pub use difference::{Difference, first_difference};
 pub use forming::{Formed, looped_form, normal_form};
 pub use places::{Ways, ways_between};

@@ -1,14 +1,13 @@
 // The states of a loop round one `arr`, in an order that doesn't depend on how they came together.
 
-use crate::alike::number_inside;
 use expr_improve::{
     Means, Rewriting, as_part, as_then, first_input, first_of, input, joined, normal_expr,
     of_second, on_right, pair_of, second_of, seen_through, then_of,
 };
 use leaf_core::{Expr, ExprChild, Literal, part, tag};
+use net_compare::number_inside;
 use net_improve::{NoMove, Sketch};
 use net_tree::{Direction, Law, LawStep, Net, Position, Tree};
-use sample_core::Memory;
 use std::alloc::Global;
 use std::cmp::Ordering;
 
@@ -51,7 +50,7 @@ pub(crate) fn arrange(w: &mut Sketch, path: &[u32]) -> Result<(), NoMove> {
 
 /// Rewrites the body of the loop at the path as found, as what changes the state first and what is
 /// left; then the state is changed at the end.
-fn slide(w: &mut Sketch, path: &[u32], found: Rewriting) -> Result<(), NoMove> {
+pub(crate) fn slide(w: &mut Sketch, path: &[u32], found: Rewriting) -> Result<(), NoMove> {
     let body = joined(w.alloc, path, &[1])?;
     w.part_by(&body, Some(found))?;
     w.forward(15, path)?;
@@ -127,6 +126,100 @@ fn arranged(means: &Means, start: &Expr, e: &Expr) -> Result<Option<Rewriting>, 
         }
     }
     brought(means, start, e, &states, &order)
+}
+
+/// The states of a loop that stay as they are and that nothing else asks for.
+#[derive(Drop)]
+pub(crate) enum Unheard {
+    /// There are none.
+    Nothing,
+    /// All.
+    All,
+    /// Those to the right of all others, where the body is rewritten so: behind what brings them there;
+    /// nothing where they are.
+    Right(Option<Rewriting>),
+}
+
+/// The states that stay as they are and that nothing else asks for, of a loop that starts with this round
+/// the `arr` of e.
+pub(crate) fn unheard_states(means: &Means, start: &Expr, e: &Expr) -> Result<Unheard, NoMove> {
+    let states = states_of(means.alloc, start)?;
+    let (order, live) = order_of(means, start, e, &states)?;
+    let (kept, left) = parted(means, start, e, &states, (&order, live))?;
+    if left.is_empty() {
+        return Ok(Unheard::Nothing);
+    }
+    if kept.is_empty() {
+        return Ok(Unheard::All);
+    }
+    let first = nested(means.alloc, &states, &kept)?;
+    let second = nested(means.alloc, &states, &left)?;
+    let there = pair_of(means.alloc, first, second)?;
+    let mut all = kept;
+    let mut behind = left;
+    all.append(&mut behind)?;
+    let found = brought_to(means, start, e, &states, (&all, there))?;
+    Ok(Unheard::Right(found))
+}
+
+/// The numbers in order, of which so many, the first ones, are of states that what is output asks for:
+/// those that are kept, and those of states that stay as they are and that nothing else asks for.
+fn parted(
+    means: &Means,
+    start: &Expr,
+    e: &Expr,
+    states: &[State],
+    (order, live): (&[usize], usize),
+) -> Result<(Vec<usize>, Vec<usize>), NoMove> {
+    let alloc = means.alloc;
+    let next = normal(means, second_of(alloc, marked(means, start, e, states)?)?)?;
+    let mut asked = Vec::new(alloc);
+    let mut stays = Vec::new(alloc);
+    for (i, k) in order.iter().enumerate() {
+        let Some(state) = states.get(*k) else {
+            return Err(NoMove::Unfit);
+        };
+        let new = normal(means, then_of(alloc, &next, state.place.get())?)?;
+        if i >= live && is_mark(new.get(), *k) {
+            stays.push(*k)?;
+        } else {
+            asked.push(*k)?;
+            add_marks(alloc, &mut asked, new.get())?;
+        }
+    }
+    chosen(alloc, order, &asked, &stays)
+}
+
+/// The numbers in order, those that are asked for or don't stay, and the others.
+fn chosen(
+    alloc: Global,
+    order: &[usize],
+    asked: &[usize],
+    stays: &[usize],
+) -> Result<(Vec<usize>, Vec<usize>), NoMove> {
+    let mut kept = Vec::new(alloc);
+    let mut left = Vec::new(alloc);
+    for k in order {
+        if stays.contains(k) && !asked.contains(k) {
+            left.push(*k)?;
+        } else {
+            kept.push(*k)?;
+        }
+    }
+    Ok((kept, left))
+}
+
+/// The number of the parameter that stands for the state of the number.
+fn mark(k: usize) -> u32 {
+    FIRST_MARK.saturating_add(u32::try_from(k).unwrap_or(0))
+}
+
+/// Whether the expression is the parameter that stands for the state of the number.
+fn is_mark(e: &Expr, k: usize) -> bool {
+    match e {
+        Expr::Param(number) => *number == mark(k),
+        _ => false,
+    }
 }
 
 /// The states of a loop that starts with this, from left to right.
@@ -307,8 +400,7 @@ fn marked(means: &Means, start: &Expr, e: &Expr, states: &[State]) -> Result<Exp
     let alloc = means.alloc;
     let mut marks = Vec::new(alloc);
     for k in (0..states.len()).rev() {
-        let number = FIRST_MARK.saturating_add(u32::try_from(k).unwrap_or(0));
-        marks.push(ExprChild::new(alloc, Expr::Param(number))?)?;
+        marks.push(ExprChild::new(alloc, Expr::Param(mark(k)))?)?;
     }
     let state = with_states(alloc, start, &mut marks, MOST_NESTED)?;
     let whole = pair_of(alloc, first_input(alloc)?, state)?;
@@ -394,8 +486,19 @@ fn brought(
     states: &[State],
     order: &[usize],
 ) -> Result<Option<Rewriting>, NoMove> {
+    let there = nested(means.alloc, states, order)?;
+    brought_to(means, start, e, states, (order, there))
+}
+
+/// The same, where these make the state.
+fn brought_to(
+    means: &Means,
+    start: &Expr,
+    e: &Expr,
+    states: &[State],
+    (order, there): (&[usize], ExprChild),
+) -> Result<Option<Rewriting>, NoMove> {
     let alloc = means.alloc;
-    let there = nested(alloc, states, order)?;
     let changed = normal(means, there.try_copy()?)?;
     if let Expr::Input = changed.get() {
         return Ok(None);

@@ -1,13 +1,13 @@
 // Loops round one `arr`, of networks that are made of `arr`s, `first`s, loops and cells.
 
-use crate::alike::MOST_CHILDREN;
 use crate::loop_states::{arrange, nest_left};
 use crate::meeting::Trail;
+use crate::unheard::drop_unheard;
 use expr_improve::{
-    Means, as_part, beside_second, first_input, first_of, input, joined, pair_of, second_input,
-    second_of, then_of,
+    Means, as_part, beside_second, first_input, input, joined, pair_of, second_of, then_of,
 };
 use leaf_core::{Expr, ExprChild, type_of_expr};
+use net_compare::MOST_CHILDREN;
 use net_improve::{Clearing, NoMove, Sketch, behind, head, length, rest, stage_way};
 use net_tree::{Net, NetChild, TreeRef, same_net};
 use sample_core::{Memory, Ty};
@@ -19,15 +19,18 @@ const MOST_PLACES: u32 = 10_000;
 /// The most rounds in which loops beside one another are made one, two by two.
 const MOST_ROUNDS: u32 = 20;
 
-/// The ways of both networks, of which each has a loop or a cell, to one that has their loops round one
+/// The ways of both networks, of which one has a loop or a cell, to one that has their loops round one
 /// `arr`, as few as they get.
 pub(crate) fn looped_alike(
     means: &Means,
     first: Trail,
     second: Trail,
 ) -> Result<(Trail, Trail), NoMove> {
-    let mut a = looped(means, &first)?;
-    let mut b = looped(means, &second)?;
+    let (mut a, states) = looped(means, &first)?;
+    let (mut b, others) = looped(means, &second)?;
+    if states == 0 && others == 0 {
+        return Err(NoMove::Unfit);
+    }
     if !same_net(a.net.get(), b.net.get()) {
         arrange_all(&mut a)?;
         arrange_all(&mut b)?;
@@ -45,14 +48,12 @@ fn behind_steps(trail: Trail, sketch: Sketch) -> Trail {
     Trail { start, olds, steps }
 }
 
-/// The network with its loops made as few as they get.
-fn looped(means: &Means, trail: &Trail) -> Result<Sketch, NoMove> {
+/// The network with its loops made as few as they get, and how many loops and cells it had.
+fn looped(means: &Means, trail: &Trail) -> Result<(Sketch, u32), NoMove> {
     let start = trail.start.try_copy()?;
     let mut sketch = Sketch::new(means, start, trail.olds, Clearing::Always)?;
-    if join_loops(&mut sketch)? == 0 {
-        return Err(NoMove::Unfit);
-    }
-    Ok(sketch)
+    let states = join_loops(&mut sketch)?;
+    Ok((sketch, states))
 }
 
 /// Makes the loops of the network as few as they get, and returns how many loops and cells it had.
@@ -75,8 +76,18 @@ fn has_state(net: &Net<Expr>) -> bool {
     )
 }
 
-/// Brings the states of all loops round one `arr` in their order.
+/// Drops the states of all loops round one `arr` that nothing asks for, as far as the laws do, and brings
+/// the others in their order.
 fn arrange_all(w: &mut Sketch) -> Result<(), NoMove> {
+    let mut dropped = false;
+    for way in places(w)?.iter().rev() {
+        if is_loop(w.net_at(way)?) && drop_unheard(w, way)? {
+            dropped = true;
+        }
+    }
+    if dropped {
+        join_loops(w)?;
+    }
     for way in places(w)?.iter().rev() {
         if is_loop(w.net_at(way)?) {
             arrange(w, way)?;

@@ -1,6 +1,5 @@
 // Two networks made one, at the places where they differ.
 
-use crate::alike::{MOST_CHILDREN, inner_at, same_node, same_tree};
 use crate::forming::{Formed, normal_form};
 use crate::meeting::{Trail, cut_at_meeting};
 use crate::one_loop::looped_alike;
@@ -8,6 +7,7 @@ use crate::segments::{Segment, aligned, filled, stages};
 use crate::shaping::{gather_all, shaped};
 use expr_improve::{Means, joined};
 use leaf_core::Expr;
+use net_compare::{MOST_CHILDREN, inner_at, same_node, same_tree};
 use net_improve::{Clearing, MOST_DEPTH, NoMove, Sketch, Spot, copied};
 use net_tree::{
     LAST_EXPRESSION_LAW, LAST_NETWORK_LAW, LawStep, Net, NetChild, Position, TreeRef, same_net,

@@ -55,10 +55,10 @@ pub(crate) enum FormMove {
 }
 
 /// A move, how many stages it looks at, and what the first two of them must be.
-pub(crate) type MoveRow = (FormMove, usize, StageShape, StageShape);
+pub(crate) type MoveEntry = (FormMove, usize, StageShape, StageShape);
 
 /// The move that drops what stands before a stage that hears nothing.
-pub(crate) const SOURCE: MoveRow = (
+pub(crate) const SOURCE: MoveEntry = (
     FormMove::Known(Move::Arr(ArrMove::Source)),
     2,
     StageShape::Any,
@@ -66,7 +66,7 @@ pub(crate) const SOURCE: MoveRow = (
 );
 
 /// The moves in their order.
-pub(crate) const TABLE: [MoveRow; 45] = [
+pub(crate) const TABLE: [MoveEntry; 45] = [
     (
         FormMove::Known(Move::Law(1, 2)),
         2,
@@ -363,13 +363,13 @@ impl FormMove {
     }
 }
 
-/// Whether the chain begins with the stages of the row.
-pub(crate) fn row_fits(row: &MoveRow, chain: &Net<Expr>) -> bool {
-    if rest(chain, row.1.saturating_sub(1)).is_none() || !row.2.is(head(chain)) {
+/// Whether the chain begins with the stages of the entry.
+pub(crate) fn entry_fits(entry: &MoveEntry, chain: &Net<Expr>) -> bool {
+    if rest(chain, entry.1.saturating_sub(1)).is_none() || !entry.2.is(head(chain)) {
         return false;
     }
     match rest(chain, 1) {
-        Some(second) => row.3.is(head(second)),
+        Some(second) => entry.3.is(head(second)),
         None => true,
     }
 }

@@ -17,7 +17,7 @@ use Rattle.net_code.specs.declared.statement.Action.{Action}
 use Rattle.net_code.specs.declared.statement.Action.TheVariants as A
 use Rattle.net_code.specs.declared.statement.Statement.TheVariants as S
 use Rattle.net_code.specs.Running.{Body, kept_at, split, Given, Linked, Local, scope_for, given_value, given_kept, given_first, on_part, beside_in, is_none, cleared, taken_by, with_store, with_register, going, act, exec, body_step}
-use Rattle.net_code.specs.Bodies.{arr_body, seq_body, first_body, member_rows, par_body, loop_body, cell_body, clock_body, accum_body, answer, started, switch_body, r_switch_body, watching, freezing_body, k_switch_body, p_switch_body, old_body, same_body, out_body, in_body, collection_body}
+use Rattle.net_code.specs.Bodies.{arr_body, seq_body, first_body, member_statements, par_body, loop_body, cell_body, clock_body, accum_body, answer, started, switch_body, r_switch_body, watching, freezing_body, k_switch_body, p_switch_body, old_body, same_body, out_body, in_body, collection_body}
 
 -- what is there while a function runs
 abbrev local : List Datum → Store → Moment → List Stepper → Local
@@ -147,9 +147,9 @@ module _ (val : Expr → List Datum → Datum → Datum) (F : ℕ → Linked) (g
           ∙ late_is (F j g) (by_value k) s m (left v) (event_in (beside_in v))
           ∙ sym (ap (r_switch_in delayed (F j g) (by_value k) s (m, left v)) (beside_event v))
 
-  -- the rows of members, behind others
+  -- the statements of members, behind others
   members_done : (fs : List ℕ) (b : Body) (rs : List Datum) (s : Store) (m : Moment) (hs : List Stepper)
-      → exec val F g (member_rows fs ++ b) (local rs s m hs) ≡ exec val F g b (local rs s m (hs ++ map (λ f. F f g) fs))
+      → exec val F g (member_statements fs ++ b) (local rs s m hs) ≡ exec val F g b (local rs s m (hs ++ map (λ f. F f g) fs))
   members_done [] b rs s m hs = ap (λ hs. exec val F g b (local rs s m hs)) (sym (append-nil hs))
   members_done (f ∷ fs) b rs s m hs =
       members_done fs b rs s m (hs ++ F f g ∷ [])

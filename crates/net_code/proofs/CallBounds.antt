@@ -11,7 +11,7 @@ use Rattle.net_machine.specs.Store.{Moment, start, step, Store, Origin, written,
 use Rattle.net_machine.specs.Stepper.{Timed, Stepper, event_in, event_beside, Turn, turns, members_at, members_in}
 use Rattle.net_code.specs.declared.freezable.Freezable.{Freezable}
 use Rattle.net_code.specs.Running.{Body, Code, Given, given_value, value_taken, cleared, taken_by, frozen_now, beside_in, is_none, going, Linked, Local, entered, latest, nothing_given}
-use Rattle.net_code.specs.Bodies.{member_rows}
+use Rattle.net_code.specs.Bodies.{member_statements}
 use Rattle.net_code.specs.CodeOf.{freezable, and_body, body_of_old, emit, emit_all, code_of}
 use Rattle.net_code.specs.CodeLaw.{value_in}
 use Rattle.net_code.specs.Calls.{Counter, Counted, no_calls, each_calls, routed_calls, member_calls, turns_calls, going_calls, body_calls, function_calls, run_calls, CallsLaw}
@@ -124,7 +124,7 @@ module _ (val : Expr → List Datum → Datum → Datum) (D : Code) where
   at-most-earlier : (d : Code) (j w : ℕ) → Begins d D → j < length d → AtMost j w → (g : Given) → Below (counter_of val d j g) w
   at-most-earlier d j w i l h = subst (λ (n : Counted). (g : Given) → Below (n g) w) (same_counter val d D j i l) h
 
-  -- a node calls one more than its rows
+  -- a node calls one more than its statements
   node-calls : (d : Code) (b : Body) (w : ℕ) → Begins (and_body d b) D
       → ((g : Given) (s : Store) (x : Timed) → body_calls val (function_of val d) (counter_of val d) g b (entered s x) [] ≤ w)
       → AtMost (latest (and_body d b)) (suc w)
@@ -169,12 +169,12 @@ module _ (val : Expr → List Datum → Datum → Datum) (D : Code) where
   weighs-append q n m (p ∷ ps) [] js us h i k = absurd h
   weighs-append q n m (p ∷ ps) (w ∷ ws) js us h i k = (h.0, h.1, weighs-append q n m ps ws js us h.2 i k)
 
-  -- the rows of members, behind others
+  -- the statements of members, behind others
   abbrev local : List Datum → Store → Moment → List Stepper → Local
   local rs s m fs = record { registers = rs; store = s; now = m; members = fs }
 
   members_calls : (d : Code) (g : Given) (fs : List ℕ) (b : Body) (rs : List Datum) (s : Store) (m : Moment) (hs : List Stepper) (ns : List Counter)
-      → body_calls val (function_of val d) (counter_of val d) g (member_rows fs ++ b) (local rs s m hs) ns
+      → body_calls val (function_of val d) (counter_of val d) g (member_statements fs ++ b) (local rs s m hs) ns
       ≡ body_calls val (function_of val d) (counter_of val d) g b (local rs s m (hs ++ steps_of val (function_of val d) g fs)) (ns ++ map (λ j. counter_of val d j g) fs)
   members_calls d g [] b rs s m hs ns =
       ap (λ hs. body_calls val (function_of val d) (counter_of val d) g b (local rs s m hs) ns) (sym (append-nil hs))

@@ -1,4 +1,4 @@
--- Counters that are linked: each is its rows' over the earlier ones.
+-- Counters that are linked: each is its statements' over the earlier ones.
 use Rattle.std.proofs.Common.{◌≡◌, ◌<◌, ℕ, ◌+◌, List, [], ◌∷◌, ◌++◌, length, refl, sym, ap, ◌∙◌, arith, append-nil, append_assoc, length-append}
 use Rattle.sample_core.specs.Datum.{Datum}
 use Rattle.leaf_core.specs.declared.expr.Expr.{Expr}
@@ -43,7 +43,7 @@ module _ (val : Expr → List Datum → Datum → Datum) where
       ap (λ e. counter_of e k) b.1 ∙ ap (λ ms. counted ms k) (calls-append [] [] c b.0 ∙ m.1)
       ∙ get-front ns m.0 k (λ g. no_calls) (omega arith)
 
-  -- a counter is its rows' over the earlier ones
+  -- a counter is its statements' over the earlier ones
   pub next_counter : (c : Code) (b : Body) (d : Code) → Begins (c ++ b ∷ []) d
       → counter_of d (length c) ≡ function_calls val (function_of val c) (counter_of c) b
   next_counter c b d i =

@@ -1,4 +1,4 @@
--- Functions that are linked: each is its rows over the earlier ones.
+-- Functions that are linked: each is its statements over the earlier ones.
 use Rattle.std.proofs.Common.{◌≡◌, ℕ, zero, suc, ◌+◌, ◌<◌, List, [], ◌∷◌, ◌++◌, length, get_or, refl, sym, ap, ◌∙◌, arith, append-nil, append_assoc, length-append}
 use Rattle.sample_core.specs.Datum.{Datum}
 use Rattle.leaf_core.specs.declared.expr.Expr.{Expr}
@@ -50,7 +50,7 @@ module _ (val : Expr → List Datum → Datum → Datum) where
       ap (λ e. function_of e k) b.1 ∙ ap (λ fs. numbered fs k) (link-append [] c b.0 ∙ m.1)
       ∙ get-front (link val [] c) m.0 k nothing_done (omega arith)
 
-  -- a function is its rows over the earlier ones
+  -- a function is its statements over the earlier ones
   pub next_function : (c : Code) (b : Body) (d : Code) → Begins (c ++ b ∷ []) d → function_of d (length c) ≡ body_step val (function_of c) b
   next_function c b d i =
       let fs : List Linked = link val [] c in

@@ -15,7 +15,7 @@ use Rattle.net_code.specs.declared.statement.Statement.{Statement}
 use Rattle.net_code.specs.declared.statement.Statement.TheVariants as S
 use Rattle.net_code.specs.Running.{Body}
 
--- a last row
+-- a last statement
 abbrev pub answer : Action → Statement
 answer a = S.Exit G.Always a
 
@@ -40,12 +40,12 @@ first_body f =
     ∷ []
 
 -- members, in order
-abbrev pub member_rows : List ℕ → Body
-member_rows fs = map (λ f. S.Do (E.Member f)) fs
+abbrev pub member_statements : List ℕ → Body
+member_statements fs = map (λ f. S.Do (E.Member f)) fs
 
 -- `parB`
 abbrev pub par_body : List ℕ → Body
-par_body fs = member_rows fs ++ answer (A.Each P.Whole 0) ∷ []
+par_body fs = member_statements fs ++ answer (A.Each P.Whole 0) ∷ []
 
 -- `loopPre`
 abbrev pub loop_body : Expr → ℕ → Body
@@ -136,7 +136,7 @@ k_switch_body f e t = freezing_body (A.Call f C.Same P.Watched W.Now 0) C.Frozen
 -- `pSwitch`
 abbrev pub p_switch_body : Expr → List ℕ → ℕ → ℕ → Body
 p_switch_body r fs e t =
-    member_rows fs ++ freezing_body (A.Routed r P.Watched 0) (C.Members (length fs)) e t
+    member_statements fs ++ freezing_body (A.Routed r P.Watched 0) (C.Members (length fs)) e t
 
 -- `old` of frozen network k, whose function has so much in scope
 abbrev pub old_body : ℕ → ℕ → ℕ → ℕ → Body
@@ -167,4 +167,4 @@ in_body c f =
 
 -- `rpSwitchB`
 abbrev pub collection_body : List ℕ → Expr → ℕ → Body
-collection_body fs m t = member_rows fs ++ answer (A.Collect m t 0) ∷ []
+collection_body fs m t = member_statements fs ++ answer (A.Collect m t 0) ∷ []

@@ -76,7 +76,7 @@ module _ (val : Expr → List Datum → Datum → Datum) (F : ℕ → Linked) (N
   affect_calls (E.Member j) ns = ns ++ N j g ∷ []
   affect_calls _ ns = ns
 
-  -- a function's rows
+  -- a function's statements
   abbrev pub body_calls : Body → Local → List Counter → ℕ
   body_calls [] l ns = 0
   body_calls (S.Set a ∷ ss) l ns =

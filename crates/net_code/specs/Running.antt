@@ -22,7 +22,7 @@ use Rattle.net_code.specs.declared.statement.Effect.TheVariants as E
 use Rattle.net_code.specs.declared.statement.Statement.{Statement}
 use Rattle.net_code.specs.declared.statement.Statement.TheVariants as S
 
--- a function's rows
+-- a function's statements
 abbrev pub Body : Type 0
 Body = List Statement
 
@@ -259,7 +259,7 @@ module _ (val : Expr → List Datum → Datum → Datum) (F : ℕ → Linked) (g
   affect (E.Resume k) l = resumed_from (kept_at g.olds k) l l.now
   affect (E.Member j) l = with_member l (F j g)
 
-  -- a function's rows, one after the other
+  -- a function's statements, one after the other
   abbrev pub exec : Body → Local → Store × Datum
   exec [] l = (l.store, unit)
   exec (S.Set a ∷ ss) l = exec ss (with_register l (act a l))

@@ -13,7 +13,7 @@ ghost use Rattle.std.specs.Prelude.{
   suc,
 };
 ghost use Rattle.net_code.specs.CodeOf.{and_body, body_of_old, code_of, emit, emit_all, freezable};
-ghost use Rattle.net_code.specs.CodeView.{AddsFunctions, code_in, rows_of};
+ghost use Rattle.net_code.specs.CodeView.{AddsFunctions, code_in, body_of};
 ghost use Rattle.net_code.specs.Bodies.{accum_body, cell_body};
 ghost use Rattle.net_code.specs.Running.{latest};
 ghost use Rattle.net_tree.specs.Network.{
@@ -68,7 +68,7 @@ pub fn compile(alloc: Global, net: &Net<Expr>) -> Result<Vec<Function>, Memory>
 /// Adds a function.
 fn push_function(code: &mut Vec<Function>, function: Function) -> Result<(), Memory>
     ensures { IfOk result (λ _. code_in code.new.items
-        ≡ and_body (code_in code.old.items) (rows_of function)) }
+        ≡ and_body (code_in code.old.items) (body_of function)) }
 {
     code.push(function)?;
     Ok(())
@@ -159,7 +159,7 @@ fn freezable_at(freezables: &[Freezable], k: usize) -> Option<Freezable>
 /// What resumes the frozen network k, or the identity if there is none.
 #[tactic(auto, using(crate::proofs::Olds::found, crate::proofs::Olds::absent))]
 fn old_or_same(around: Around<'_>, k: usize) -> Function
-    ensures { rows_of result ≡ body_of_old around.entry.freezables.now k k }
+    ensures { body_of result ≡ body_of_old around.entry.freezables.now k k }
 {
     match freezable_at(around.freezables, k) {
         Some(p) => Function::Old(k, p.function, p.params, p.olds),

@@ -105,7 +105,7 @@ pub enum Effect {
     Member(usize),
 }
 
-/// A row of a function.
+/// A statement of a function.
 #[derive(Drop)]
 pub enum Statement {
     /// The next register has the action's value.

@@ -5,7 +5,7 @@ use crate::cost::net_cost;
 use crate::moves::Built;
 use crate::sketch::{Clearing, NoMove, Sketch};
 use expr_improve::{Means, Rewriting, as_then, shared_at};
-use leaf_core::Expr;
+use leaf_core::{Contents, Expr, inside};
 use net_tree::Net;
 use sample_core::Memory;
 
@@ -67,28 +67,14 @@ fn behind_unit(means: &Means, e: &Expr) -> Result<Option<Rewriting>, Memory> {
 }
 
 /// Whether the expression may use its input.
+#[tactic(auto, using(std::proofs::lemmas::Grind::common_steps, leaf_core::proofs::InsideLaws::nodes_inside))]
 fn hears(e: &Expr) -> bool {
-    match e {
-        Expr::Input | Expr::On(..) | Expr::List(..) => true,
-        Expr::Param(_) | Expr::Literal(_) | Expr::NoEvent(_) => false,
-        Expr::Then(a, _)
-        | Expr::Fst(a)
-        | Expr::Snd(a)
-        | Expr::Neg(a)
-        | Expr::Not(a)
-        | Expr::Event(a)
-        | Expr::Len(a) => hears(a.get()),
-        Expr::Pair(a, b)
-        | Expr::Add(a, b)
-        | Expr::Sub(a, b)
-        | Expr::Mul(a, b)
-        | Expr::Less(a, b)
-        | Expr::Equal(a, b)
-        | Expr::And(a, b)
-        | Expr::Or(a, b) => hears(a.get()) || hears(b.get()),
-        Expr::If(a, b, c) | Expr::Nth(a, b, c) => {
-            hears(a.get()) || hears(b.get()) || hears(c.get())
-        }
+    match (e, inside(e)) {
+        (Expr::Input | Expr::On(..) | Expr::List(..), _) => true,
+        (Expr::Then(a, _), _) | (_, Contents::One(a)) => hears(a.get()),
+        (_, Contents::Two(a, b)) => hears(a.get()) || hears(b.get()),
+        (_, Contents::Three(a, b, c)) => hears(a.get()) || hears(b.get()) || hears(c.get()),
+        _ => false,
     }
 }
 

@@ -14,10 +14,10 @@ use Rattle.net_tree.specs.declared.law_step.LawStep.{LawStep}
 use Rattle.net_tree.specs.declared.law_step.Law.{Law}
 use Rattle.net_tree.specs.declared.law_step.Law.TheVariants as L
 use Rattle.net_tree.specs.declared.law_step.Direction.TheVariants.{Forward}
-use Rattle.expr_laws.specs.Rows.{ExpressionRow}
+use Rattle.expr_laws.specs.ExpressionLaw.{ExpressionLaw}
 use Rattle.expr_laws.specs.Answer as E
 use Rattle.expr_laws.proofs.Numbers.{one_right_side}
-use Rattle.law_rules.specs.NetworkRow.{NetworkRow}
+use Rattle.law_rules.specs.NetworkLaw.{NetworkLaw}
 use Rattle.law_rules.specs.Answer as N
 use Rattle.law_rules.proofs.Numbers.{one-right_side}
 use Rattle.cert_check.specs.TreeAnswer.{TreeAnswer}
@@ -34,21 +34,21 @@ use Rattle.net_opt.proofs.TooHigh.{too_high}
 -- what is answered forward at a network by a law of networks, and that nothing else is
 record NetAnswer (n olds : ℕ) (f : Network Expression) (new : Tree Expression) : Type 0 where
   right : Network Expression
-  row : NetworkRow n olds f right
+  is_law : NetworkLaw n olds f right
   is : new ≡ a_network right
 
 net_answer : (n olds : ℕ) (f : Network Expression) (new : Tree Expression) → TreeAnswer olds (L.L n) Forward (a_network f) None new → NetAnswer n olds f new
-net_answer n olds f (a_network r) (N.forward_answer row) = record { right = r; row = row; is = refl }
+net_answer n olds f (a_network r) (N.forward_answer is_law) = record { right = r; is_law = is_law; is = refl }
 net_answer n olds f (a_leaf r) a = absurd a
 
 -- the same at an expression
 record LeafAnswer (n : ℕ) (e : Expression) (new : Tree Expression) : Type 0 where
   right : Expression
-  row : ExpressionRow n e right
+  is_law : ExpressionLaw n e right
   is : new ≡ a_leaf right
 
 leaf_answer : (n olds : ℕ) (e : Expression) (new : Tree Expression) → TreeAnswer olds (L.E n) Forward (a_leaf e) None new → LeafAnswer n e new
-leaf_answer n olds e (a_leaf r) (E.forward_answer row) = record { right = r; row = row; is = refl }
+leaf_answer n olds e (a_leaf r) (E.forward_answer is_law) = record { right = r; is_law = is_law; is = refl }
 leaf_answer n olds e (a_network r) a = absurd a
 
 -- what is answered at a place where u stands
@@ -59,39 +59,39 @@ answer_there t p k n u law new there a =
     subst (λ (c : Placed). TreeAnswer c.olds law Forward c.tree None new) same a.answered
 
 -- no step by a law whose right side can't stand there
-pub refused_net : (t : TypedNetwork) (p : List ℕ) (n j : ℕ) (f r : Network Expression) → StandsThere t p n (a_network f) → NetworkRow j n f r
+pub refused_net : (t : TypedNetwork) (p : List ℕ) (n j : ℕ) (f r : Network Expression) → StandsThere t p n (a_network f) → NetworkLaw j n f r
     → ((u : TypedNetwork) → Rewrites t p (a_network r) u → ⊥) → NoStepBy t p (L.L j)
-refused_net t p n j f r s row refused = λ v next.
+refused_net t p n j f r s is_law refused = λ v next.
     let a = net_answer j n f next.new (answer_there t p s.params n (a_network f) (L.L j) next.new s.there next.answered) in
-    let same : next.new ≡ a_network r = a.is ∙ ap a_network (one-right_side j n f a.right r a.row row) in
+    let same : next.new ≡ a_network r = a.is ∙ ap a_network (one-right_side j n f a.right r a.is_law is_law) in
     refused v (subst (λ w. Rewrites t p w v) same next.rewritten)
 
-pub refused_leaf : (t : TypedNetwork) (p : List ℕ) (j : ℕ) (e r : Expression) → ExpressionThere t p e → ExpressionRow j e r
+pub refused_leaf : (t : TypedNetwork) (p : List ℕ) (j : ℕ) (e r : Expression) → ExpressionThere t p e → ExpressionLaw j e r
     → ((u : TypedNetwork) → Rewrites t p (a_leaf r) u → ⊥) → NoStepBy t p (L.E j)
-refused_leaf t p j e r s row refused = λ v next.
+refused_leaf t p j e r s is_law refused = λ v next.
     let a = leaf_answer j s.0 e next.new (answer_there t p s.1.params s.0 (a_leaf e) (L.E j) next.new s.1.there next.answered) in
-    let same : next.new ≡ a_leaf r = a.is ∙ ap a_leaf (one_right_side j e a.right r a.row row) in
+    let same : next.new ≡ a_leaf r = a.is ∙ ap a_leaf (one_right_side j e a.right r a.is_law is_law) in
     refused v (subst (λ w. Rewrites t p w v) same next.rewritten)
 
 -- a step is taken where the right side stands now
-pub taken_net : (t v : TypedNetwork) (p : List ℕ) (n j : ℕ) (f r : Network Expression) (s : Step) → StandsThere t p n (a_network f) → NetworkRow j n f r
+pub taken_net : (t v : TypedNetwork) (p : List ℕ) (n j : ℕ) (f r : Network Expression) (s : Step) → StandsThere t p n (a_network f) → NetworkLaw j n f r
     → Contains network_laws j → s ≡ forward_step (L.L j) p → Rewrites t p (a_network r) v → Takes t s v
-taken_net t v p n j f r s stands row tried is w = subst (λ s. Takes t s v) (sym is) (record {
+taken_net t v p n j f r s stands is_law tried is w = subst (λ s. Takes t s v) (sym is) (record {
   may = record { tried = tried; forward = refl; none_given = refl };
   next = record {
     new = a_network r;
-    answered = record { place = placed stands.params n (a_network f); found = stands.there; answered = N.forward_answer row };
+    answered = record { place = placed stands.params n (a_network f); found = stands.there; answered = N.forward_answer is_law };
     rewritten = w;
   };
 })
 
-pub taken_leaf : (t v : TypedNetwork) (p : List ℕ) (j : ℕ) (e r : Expression) (s : Step) → ExpressionThere t p e → ExpressionRow j e r
+pub taken_leaf : (t v : TypedNetwork) (p : List ℕ) (j : ℕ) (e r : Expression) (s : Step) → ExpressionThere t p e → ExpressionLaw j e r
     → Contains expression_laws j → s ≡ forward_step (L.E j) p → Rewrites t p (a_leaf r) v → Takes t s v
-taken_leaf t v p j e r s stands row tried is w = subst (λ s. Takes t s v) (sym is) (record {
+taken_leaf t v p j e r s stands is_law tried is w = subst (λ s. Takes t s v) (sym is) (record {
   may = record { tried = tried; forward = refl; none_given = refl };
   next = record {
     new = a_leaf r;
-    answered = record { place = placed stands.1.params stands.0 (a_leaf e); found = stands.1.there; answered = E.forward_answer row };
+    answered = record { place = placed stands.1.params stands.0 (a_leaf e); found = stands.1.there; answered = E.forward_answer is_law };
     rewritten = w;
   };
 })
@@ -170,45 +170,45 @@ pub none_there : (b : Bool) (t : TypedNetwork) (p : List ℕ) → placed_at 0 0 
 none_there b t p is = λ law tried. unmatched b t p law (λ new a. none-some a.place (sym is ∙ a.found))
 
 -- what isn't put there was passed
-high_net : (t : TypedNetwork) (p : List ℕ) (n j : ℕ) (f r : Network Expression) → StandsThere t p n (a_network f) → NetworkRow j n f r
+high_net : (t : TypedNetwork) (p : List ℕ) (n j : ℕ) (f r : Network Expression) → StandsThere t p n (a_network f) → NetworkLaw j n f r
     → IsTooHigh (length p) (a_network r) → OnlyTooHighBy t p (L.L j)
-high_net t p n j f r s row high = λ new answered.
+high_net t p n j f r s is_law high = λ new answered.
     let a = net_answer j n f new (answer_there t p s.params n (a_network f) (L.L j) new s.there answered) in
-    let same : new ≡ a_network r = a.is ∙ ap a_network (one-right_side j n f a.right r a.row row) in
+    let same : new ≡ a_network r = a.is ∙ ap a_network (one-right_side j n f a.right r a.is_law is_law) in
     subst (IsTooHigh (length p)) (sym same) high
 
-not_put_net : (t : TypedNetwork) (p : List ℕ) (n j : ℕ) (f r : Network Expression) (a b : Bool) → StandsThere t p n (a_network f) → NetworkRow j n f r
+not_put_net : (t : TypedNetwork) (p : List ℕ) (n j : ℕ) (f r : Network Expression) (a b : Bool) → StandsThere t p n (a_network f) → NetworkLaw j n f r
     → NotPut t p (a_network r) a b → Passed b t p (L.L j)
-not_put_net t p n j f r a b s row (inl h) = not_taken b t p (L.L j) h.0 (refused_net t p n j f r s row h.1)
-not_put_net t p n j f r a b s row (inr h) = only_too_high b t p (L.L j) (high_net t p n j f r s row h.1)
+not_put_net t p n j f r a b s is_law (inl h) = not_taken b t p (L.L j) h.0 (refused_net t p n j f r s is_law h.1)
+not_put_net t p n j f r a b s is_law (inr h) = only_too_high b t p (L.L j) (high_net t p n j f r s is_law h.1)
 
-not_put_leaf : (t : TypedNetwork) (p : List ℕ) (j : ℕ) (e r : Expression) (a b : Bool) → ExpressionThere t p e → ExpressionRow j e r
+not_put_leaf : (t : TypedNetwork) (p : List ℕ) (j : ℕ) (e r : Expression) (a b : Bool) → ExpressionThere t p e → ExpressionLaw j e r
     → NotPut t p (a_leaf r) a b → Passed b t p (L.E j)
-not_put_leaf t p j e r a b s row (inl h) = not_taken b t p (L.E j) h.0 (refused_leaf t p j e r s row h.1)
-not_put_leaf t p j e r a b s row (inr h) = absurd h.1
+not_put_leaf t p j e r a b s is_law (inl h) = not_taken b t p (L.E j) h.0 (refused_leaf t p j e r s is_law h.1)
+not_put_leaf t p j e r a b s is_law (inr h) = absurd h.1
 
 -- what is put there by a law's right side is its step
 put_net : (t u : TypedNetwork) (p : List ℕ) (n j : ℕ) (f r : Network Expression) (a b : Bool) (o : Option LawStep) → StandsThere t p n (a_network f)
-    → Contains network_laws j → NetworkRow j n f r → Puts (L.L j) t p (a_network r) u a b o → FoundStep (Passed b t p (L.L j)) (λ s. s ≡ forward_step (L.L j) p) t u o
-put_net t u p n j f r a b None s tried row h = (h.0, not_put_net t p n j f r a b s row h.1)
-put_net t u p n j f r a b (Some x) s tried row h = (taken_net t u p n j f r (step_of x) s row tried h.0 h.1, h.0)
+    → Contains network_laws j → NetworkLaw j n f r → Puts (L.L j) t p (a_network r) u a b o → FoundStep (Passed b t p (L.L j)) (λ s. s ≡ forward_step (L.L j) p) t u o
+put_net t u p n j f r a b None s tried is_law h = (h.0, not_put_net t p n j f r a b s is_law h.1)
+put_net t u p n j f r a b (Some x) s tried is_law h = (taken_net t u p n j f r (step_of x) s is_law tried h.0 h.1, h.0)
 
 put_leaf : (t u : TypedNetwork) (p : List ℕ) (j : ℕ) (e r : Expression) (a b : Bool) (o : Option LawStep) → ExpressionThere t p e
-    → Contains expression_laws j → ExpressionRow j e r → Puts (L.E j) t p (a_leaf r) u a b o → FoundStep (Passed b t p (L.E j)) (λ s. s ≡ forward_step (L.E j) p) t u o
-put_leaf t u p j e r a b None s tried row h = (h.0, not_put_leaf t p j e r a b s row h.1)
-put_leaf t u p j e r a b (Some x) s tried row h = (taken_leaf t u p j e r (step_of x) s row tried h.0 h.1, h.0)
+    → Contains expression_laws j → ExpressionLaw j e r → Puts (L.E j) t p (a_leaf r) u a b o → FoundStep (Passed b t p (L.E j)) (λ s. s ≡ forward_step (L.E j) p) t u o
+put_leaf t u p j e r a b None s tried is_law h = (h.0, not_put_leaf t p j e r a b s is_law h.1)
+put_leaf t u p j e r a b (Some x) s tried is_law h = (taken_leaf t u p j e r (step_of x) s is_law tried h.0 h.1, h.0)
 
 -- the same of what the code answers
 pub net_step : (t u : TypedNetwork) (p : List ℕ) (n j : ℕ) (f r : Network Expression) (a b : Bool) (o : Result (Option LawStep) Memory)
     → StandsThere t p n (a_network f) → Contains network_laws j → N.NetworkAnswer (L.L j) Forward f None n r → IfOk o (Puts (L.L j) t p (a_network r) u a b)
     → IfOk o (FoundStep (Passed b t p (L.L j)) (λ s. s ≡ forward_step (L.L j) p) t u)
-net_step t u p n j f r a b (Ok o) s tried (N.forward_answer row) h = put_net t u p n j f r a b o s tried row h
+net_step t u p n j f r a b (Ok o) s tried (N.forward_answer is_law) h = put_net t u p n j f r a b o s tried is_law h
 net_step t u p n j f r a b (Err m) s tried x h = tt
 
 pub leaf_step : (t u : TypedNetwork) (p : List ℕ) (j : ℕ) (e r : Expression) (a b : Bool) (o : Result (Option LawStep) Memory)
     → ExpressionThere t p e → Contains expression_laws j → E.ExpressionAnswer (L.E j) Forward e None r → IfOk o (Puts (L.E j) t p (a_leaf r) u a b)
     → IfOk o (FoundStep (Passed b t p (L.E j)) (λ s. s ≡ forward_step (L.E j) p) t u)
-leaf_step t u p j e r a b (Ok o) s tried (E.forward_answer row) h = put_leaf t u p j e r a b o s tried row h
+leaf_step t u p j e r a b (Ok o) s tried (E.forward_answer is_law) h = put_leaf t u p j e r a b o s tried is_law h
 leaf_step t u p j e r a b (Err m) s tried x h = tt
 
 -- the steps so far with one more

@@ -5,7 +5,7 @@ use crate::networks::text_fault_told;
 use leaf_expr::{Expr, ExprFault};
 use net_syntax::TypedNet;
 use net_text::read_net;
-use net_tree::{Net, Position, push_position};
+use net_tree::{Position, push_position};
 use net_types::{TypeFault, check_types};
 use row_texts::texts::{say, say_at};
 use sample_core::{Ty, push_type};

@@ -23,13 +23,13 @@ use Rattle.net_search.proofs.PutBack.{PutBack, put_back}
 -- an answer, turned round
 turned_expression : (olds : ℕ) (law : Law) (direction : Direction) (e : Expression) (given : Option Expression) (r : Expression)
     → ExpressionAnswer law direction e given r → TreeAnswer olds law (turned_direction direction) (a_leaf r) (given_back direction (a_leaf e)) (a_leaf e)
-turned_expression olds law direction e given r (E.forward_answer row) = E.backward_answer row
-turned_expression olds law direction e given r (E.backward_answer row) = E.forward_answer row
+turned_expression olds law direction e given r (E.forward_answer is_law) = E.backward_answer is_law
+turned_expression olds law direction e given r (E.backward_answer is_law) = E.forward_answer is_law
 
 turned_network : (olds : ℕ) (law : Law) (direction : Direction) (f : Network Expression) (given : Option (Network Expression)) (r : Network Expression)
     → NetworkAnswer law direction f given olds r → TreeAnswer olds law (turned_direction direction) (a_network r) (given_back direction (a_network f)) (a_network f)
-turned_network olds law direction f given r (N.forward_answer row) = N.backward_answer row
-turned_network olds law direction f given r (N.backward_answer row) = N.forward_answer row
+turned_network olds law direction f given r (N.forward_answer is_law) = N.backward_answer is_law
+turned_network olds law direction f given r (N.backward_answer is_law) = N.forward_answer is_law
 
 turned_answer : (olds : ℕ) (law : Law) (direction : Direction) (tree : Tree Expression) (given : Option (Tree Expression)) (r : Tree Expression)
     → TreeAnswer olds law direction tree given r → TreeAnswer olds law (turned_direction direction) r (given_back direction tree) tree

@@ -7,7 +7,7 @@ use Rattle.net_tree.specs.LawStep.{Step, part_of, step_of}
 use Rattle.net_text.specs.CertificatePrinting.{certificate_spelling}
 use Rattle.cert_check.specs.Derives.{Derives, Steps}
 use Rattle.cert_check.specs.declared.derivation.TheConstants.{MOST_STEPS}
-use Rattle.net_certify.specs.Difference.{DifferFirst}
+use Rattle.net_compare.specs.Difference.{DifferFirst}
 use Rattle.net_search.specs.ReadBack.{IsReadBack}
 use Rattle.net_search.specs.declared.certifying.Certified.{Certified}
 use Rattle.net_search.specs.declared.certifying.Certified.TheVariants.{Found, InputsDiffer, Differ, TooLong, GaveUp}

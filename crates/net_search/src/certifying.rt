@@ -1,14 +1,14 @@
 // A certificate from a network to another.
 
-ghost use Rattle.std.specs.Prelude.{◌≡◌, ◌≢◌, [], IfOk, IfSome, map};
+ghost use Rattle.std.specs.Prelude.{◌≡◌, IfOk, IfSome, map};
 ghost use Rattle.net_tree.specs.LawStep.{step_of};
 ghost use Rattle.net_search.specs.Certifying.{AreApart, CertifyAnswer, LeadTo, Reaches};
-ghost use Rattle.net_search.specs.ReadBack.{IsReadBack};
 
 use crate::draft::Draft;
 use crate::reading_back::is_within;
 use crate::ways::{Tried, may_be_taken, shortest, steps_of};
-use net_certify::{Difference, Formed, first_difference};
+use net_certify::Formed;
+use net_compare::{Difference, first_difference};
 use net_syntax::TypedNet;
 use net_text::{print_cert, printing_laws};
 use net_tree::{LawStep, same_net};

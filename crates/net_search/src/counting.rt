@@ -1,7 +1,7 @@
 // How many nodes networks have.
 
 use leaf_core::Expr;
-use net_certify::{MOST_CHILDREN, inner_at};
+use net_compare::{MOST_CHILDREN, inner_at};
 use net_tree::{Net, TreeRef};
 use sample_core::Memory;
 use std::alloc::Global;

@@ -1,6 +1,6 @@
 // A network and the steps that made it.
 
-ghost use Rattle.std.specs.Prelude.{◌≡◌, ◌++◌, ◌∷◌, [], ◌≤◌, length, map, IfOk, IfSome, MatchBool, OnErr};
+ghost use Rattle.std.specs.Prelude.{◌≡◌, ◌++◌, ◌≤◌, length, map, IfOk, IfSome, MatchBool, OnErr};
 ghost use Rattle.net_tree.specs.LawStep.{step_of};
 ghost use Rattle.cert_check.specs.Derives.{Next, Steps};
 ghost use Rattle.net_search.specs.Drafted.{begun, TakesOneMore};

@@ -32,5 +32,5 @@ pub use certifying::{Certified, certify};
 pub use draft::Draft;
 pub use improving::improve;
 pub use laws::{improved_laws, undo_laws};
-pub use net_certify::Difference;
+pub use net_compare::Difference;
 pub use undoing::undo;

@@ -1,13 +1,12 @@
 // Certificates that are printed, and read back.
 
-ghost use Rattle.std.specs.Prelude.{◌≡◌, ◌≢◌, ◌↔◌, ◌⊎◌, ◌≤◌, ◌<◌, IfOk, IsTrue, MatchBool, OnOk, length, map, option_map};
+ghost use Rattle.std.specs.Prelude.{◌≡◌, ◌↔◌, ◌⊎◌, ◌≤◌, ◌<◌, IfOk, IsTrue, MatchBool, length, map, option_map};
 ghost use Rattle.net_tree.specs.LawStep.{part_of, step_of};
-ghost use Rattle.net_text.specs.declared.fault.NetTextFault.TheVariants as Fault;
 ghost use Rattle.net_search.specs.ReadBack.{IsReadBack};
 
 use cert_check::MOST_STEPS;
 use leaf_core::same_expr;
-use net_text::{NetTextFault, print_cert, read_cert};
+use net_text::{print_cert, read_cert};
 use net_tree::{LawStep, Tree, same_net};
 use sample_core::Memory;
 use std::alloc::Global;
@@ -21,19 +20,9 @@ pub(crate) fn is_read_back(alloc: Global, steps: &[LawStep]) -> Result<bool, Mem
     match read_cert(alloc, text.as_bytes()) {
         Ok(read) => Ok(same_steps(steps, &read)),
         Err(fault) => {
-            unless_memory(&fault)?;
+            fault.unless_memory()?;
             Ok(false)
         }
-    }
-}
-
-/// `Memory` if that is why a text is refused.
-fn unless_memory(fault: &NetTextFault) -> Result<(), Memory>
-    ensures { OnOk result (fault.now ≢ Fault.Memory) }
-{
-    match fault {
-        NetTextFault::Memory => Err(Memory),
-        _ => Ok(()),
     }
 }
 

@@ -1,6 +1,6 @@
 // The ways from a network to another that are tried. They are only proposed.
 
-ghost use Rattle.std.specs.Prelude.{◌≡◌, IfOk, IfSome, IsTrue, map};
+ghost use Rattle.std.specs.Prelude.{IfOk, IfSome, IsTrue, map};
 ghost use Rattle.net_tree.specs.LawStep.{step_of};
 ghost use Rattle.cert_check.specs.Derives.{Next};
 ghost use Rattle.net_search.specs.Certifying.{LeadTo};
@@ -239,7 +239,7 @@ fn steps_by(
         Looking::Formed => at_forms(alloc, source, target, tried, nodes)?,
         Looking::Looped => at_places(alloc, source, target, true, nodes)?,
         Looking::BehindForms => behind_forms(alloc, tried, nodes)?,
-        Looking::LoopedForms => at_looped_forms(alloc, source, target, nodes)?,
+        Looking::LoopedForms => at_looped_forms(alloc, source, target, tried, nodes)?,
     };
     through(alloc, target, there, &back)
 }
@@ -396,16 +396,48 @@ fn behind_forms(
     }
 }
 
-/// The same of their normal forms with loops made one.
+/// The same of their normal forms with loops made one, where one of them has loops.
 fn at_looped_forms(
     alloc: Global,
     source: &TypedNet,
     target: &TypedNet,
+    tried: &Tried,
     nodes: &mut u64,
 ) -> Result<(Vec<LawStep>, Vec<LawStep>), Memory> {
     let there = looped(alloc, source, nodes)?;
     let back = looped(alloc, target, nodes)?;
-    on_from(alloc, &there, &back, nodes)
+    match (there, back) {
+        (Some(there), Some(back)) => on_from(alloc, &there, &back, nodes),
+        (Some(there), None) => on_from_first(alloc, &there, tried, nodes),
+        (None, Some(back)) => on_from_second(alloc, tried, &back, nodes),
+        (None, None) => Ok((Vec::new(alloc), Vec::new(alloc))),
+    }
+}
+
+/// The same from this form of the first network and the normal form of the second that was kept.
+fn on_from_first(
+    alloc: Global,
+    there: &Formed,
+    tried: &Tried,
+    nodes: &mut u64,
+) -> Result<(Vec<LawStep>, Vec<LawStep>), Memory> {
+    match &tried.forms {
+        Some((_, back)) => on_from(alloc, there, back, nodes),
+        None => Ok((Vec::new(alloc), Vec::new(alloc))),
+    }
+}
+
+/// The same from the normal form of the first network that was kept and this form of the second.
+fn on_from_second(
+    alloc: Global,
+    tried: &Tried,
+    back: &Formed,
+    nodes: &mut u64,
+) -> Result<(Vec<LawStep>, Vec<LawStep>), Memory> {
+    match &tried.forms {
+        Some((there, _)) => on_from(alloc, there, back, nodes),
+        None => Ok((Vec::new(alloc), Vec::new(alloc))),
+    }
 }
 
 /// The steps to two forms, and on to where these are one; none where that isn't found.
@@ -477,8 +509,8 @@ fn formed(alloc: Global, net: &TypedNet, nodes: &mut u64) -> Result<Formed, Memo
     Ok(formed)
 }
 
-/// The same with loops made one.
-fn looped(alloc: Global, net: &TypedNet, nodes: &mut u64) -> Result<Formed, Memory> {
+/// The same with loops made one; `None` where it has none.
+fn looped(alloc: Global, net: &TypedNet, nodes: &mut u64) -> Result<Option<Formed>, Memory> {
     let means = Means::new(alloc, MOST_LOOPING)?;
     let formed = looped_form(&means, net.net(), 0)?;
     add_spent(nodes, MOST_LOOPING, &means);

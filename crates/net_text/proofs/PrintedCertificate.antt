@@ -21,7 +21,7 @@ use Rattle.net_tree.specs.LawStep.{Step}
 use Rattle.net_tree.specs.declared.law_step.Law.{Law}
 use Rattle.net_tree.specs.declared.law_step.Direction.{Direction}
 use Rattle.net_text.specs.Grammar.{Version, version_1, version_2, version_3}
-use Rattle.net_text.specs.Printing.{is_new, version_by, version_word}
+use Rattle.net_text.specs.Printing.{is_new, version_word}
 use Rattle.net_text.specs.StepGrammar.{last_leaf_law, last_law, step_parts, law_sort, direction_sort, position_sort, child_sort, step_word_at, step_production_at, directions, position_productions}
 use Rattle.net_text.specs.CertificateLaws.{laws_tokens, IsGiven, no_tree, one_tree, IsStep, AreSteps, no_step, a_step}
 use Rattle.net_text.specs.CertificatePrinting.{law_spelling, direction_spelling, child_sexprs, tree_sexpr, given_sexprs, step_sexpr, step_lines, is_new_law, is_new_given, are_new_steps, is_third_law, are_third_steps, version_for, steps_version, IsLaw, ChildrenFit, GivenFits, StepFits, StepsFit, PrintedCertificateLaw}

@@ -1,6 +1,6 @@
 // Reading certificates.
 
-ghost use Rattle.std.specs.Prelude.{◌≡◌, ◌<◌, ◌^◌, Some, length, map};
+ghost use Rattle.std.specs.Prelude.{◌≡◌, ◌<◌, Some, length, map};
 ghost use Rattle.leaf_expr.specs.{Language.no_place, Language.read_word, ReadText.GivesTree, ReadText.fit, Grammar.word_among, WordReading.natural_at, WordReading.unfit};
 ghost use Rattle.net_tree.specs.LawStep.{step_of};
 ghost use Rattle.net_text.specs.Certificate.{read_opening};

@@ -3,6 +3,7 @@
 ghost use Rattle.std.specs.Prelude.{◌≡◌};
 
 use leaf_expr::ExprTextFault;
+use sample_core::Memory;
 
 /// Why a text is no network file, or no certificate file. Each `at` is the first byte of the first
 /// token that doesn't fit, counted from 0, or the text's length where it ends too early.
@@ -24,6 +25,21 @@ pub enum NetTextFault {
     TooLong,
     /// Allocation failed.
     Memory,
+}
+
+impl NetTextFault {
+    ghost use Rattle.std.specs.Prelude.{◌≢◌, OnOk};
+    ghost use Rattle.net_text.specs.declared.fault.NetTextFault.TheVariants as Fault;
+
+    /// `Memory` if that is why the text is refused.
+    pub fn unless_memory(&self) -> Result<(), Memory>
+        ensures { OnOk result (self.now ≢ Fault.Memory) }
+    {
+        match self {
+            NetTextFault::Memory => Err(Memory),
+            _ => Ok(()),
+        }
+    }
 }
 
 impl From<ExprTextFault> for NetTextFault {

@@ -1,7 +1,6 @@
 // Reading networks.
 
 ghost use Rattle.std.specs.Prelude.{◌≡◌, ◌<◌, ◌≤◌, Err, MatchResult, Ok, length, map};
-ghost use Rattle.sample_core.specs.TypeView.{type_of};
 ghost use Rattle.leaf_core.specs.ExpressionView.{expression_of};
 ghost use Rattle.leaf_expr.specs.{Grammar.type_sort, Grammar.expression_sort, Language.no_place, Language.places};
 ghost use Rattle.leaf_expr.specs.ReadText.{GivesTree, tree_at, expression_left, type_left};

@@ -3,7 +3,7 @@ use Rattle.std.proofs.Common.{◌≡◌, ℕ, zero, suc, ◌+◌, ◌*◌, ◌�
 use Rattle.std.proofs.lemmas.Nat.{mul-le}
 use Rattle.std.proofs.Math.Nat.{mul-add, mul_assoc, mul_comm, mul-one}
 use Rattle.leaf_core.specs.Expression.{Expression}
-use Rattle.net_tree.specs.Network.{Network, Networks, at_once, delayed, arr, seq, first, par, loop_pre, i_pre, delay, hold, accum_by, after, repeatedly, switch, r_switch, k_switch, p_switch, old, initial_out, initial_in, rp_switch, no_members, and_member}
+use Rattle.net_tree.specs.Network.{Network, Networks, at_once, delayed, seq, first, par, loop_pre, switch, r_switch, k_switch, p_switch, old, initial_out, initial_in, rp_switch, no_members, and_member}
 use Rattle.net_tree.specs.Height.{greatest}
 use Rattle.net_tree.specs.Weight.{weight, weights, total}
 use Rattle.net_tree.specs.Place.{a_network, a_leaf}

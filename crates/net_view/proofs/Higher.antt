@@ -1,7 +1,7 @@
 -- Where a part gets at most so much higher, the whole does so too.
-use Rattle.std.proofs.Common.{◌≡◌, ℕ, zero, suc, ◌+◌, ◌≤◌, max, List, [], ◌∷◌, ◌++◌, Some, refl, ap, ◌∙◌, arith}
+use Rattle.std.proofs.Common.{◌≡◌, ℕ, suc, ◌+◌, ◌≤◌, max, List, [], ◌∷◌, ◌++◌, Some, refl, ap, ◌∙◌, arith}
 use Rattle.leaf_core.specs.Expression.{Expression}
-use Rattle.net_tree.specs.Network.{Network, Networks, at_once, delayed, arr, seq, first, par, loop_pre, i_pre, delay, hold, accum_by, after, repeatedly, switch, r_switch, k_switch, p_switch, old, initial_out, initial_in, rp_switch, no_members, and_member}
+use Rattle.net_tree.specs.Network.{Network, Networks, at_once, delayed, seq, first, par, loop_pre, switch, r_switch, k_switch, p_switch, old, initial_out, initial_in, rp_switch, no_members, and_member}
 use Rattle.net_tree.specs.Height.{height, heights, greatest}
 use Rattle.net_tree.specs.Place.{a_network, a_leaf}
 use Rattle.net_syntax.specs.Placed.{placed, placed_at, replaced}

@@ -1,4 +1,4 @@
--- The rows of an outline: types on the way down, and a tree behind what is inside the one before.
+-- The lines of an outline: types on the way down, and a tree behind what is inside the one before.
 use Rattle.std.proofs.Common.{◌≡◌, ℕ, ◌+◌, List, [], ◌∷◌, ◌++◌, map, Option, Some, None, option_map, refl, sym, ap, ◌∙◌, subst, append_assoc}
 use Rattle.std.specs.List.{All}
 use Rattle.std.proofs.lemmas.List.{append-nil, map-append}
@@ -11,7 +11,7 @@ use Rattle.leaf_core.specs.PartWalk.{part_input, part_type_at}
 use Rattle.net_tree.specs.Place.{◌>>=◌, Tree, a_network, a_leaf}
 use Rattle.net_syntax.specs.Placed.{Placed, placed, placed_at}
 use Rattle.net_syntax.specs.Standing.{Standing, alone, TypeAt}
-use Rattle.net_syntax.specs.StandingWalk.{taking, output_in, type_walk_at}
+use Rattle.net_syntax.specs.StandingWalk.{taking, type_walk_at}
 use Rattle.net_syntax.specs.StandingWalk as W
 use Rattle.net_syntax.proofs.FoundTypes.{type_there, nothing_stands}
 use Rattle.net_meaning.specs.TypedNetwork.{TypedNetwork}
@@ -20,9 +20,9 @@ use Rattle.net_opt.specs.Walk.{Reached}
 use Rattle.net_opt.proofs.Insides.{inside}
 use Rattle.net_opt.proofs.Walked.{found_inside, reached_root, reached_inside}
 use Rattle.net_view.specs.Listed.{IsInside}
-use Rattle.net_view.specs.Rows.{OutlinedRow, row_of, IsRow, IsOutline}
-use Rattle.net_view.specs.Walked.{inside_tree, IsWalked, IsRowBelow, AddsRows}
-use Rattle.net_view.specs.declared.rows.OutlineRow.{OutlineRow}
+use Rattle.net_view.specs.Outline.{OutlinedLine, line_of, IsLine, IsOutline}
+use Rattle.net_view.specs.Walked.{inside_tree, IsWalked, IsLineBelow, AddsLines}
+use Rattle.net_view.specs.declared.lines.OutlineLine.{OutlineLine}
 use Rattle.net_view.proofs.Paths.{IsUpTo, inside_at, paths_begin, paths_more, paths_end, found_positions}
 
 -- what a stage gets behind a network that stands there
@@ -90,23 +90,23 @@ stands_inside p k S c d w found none =
     let there = reached_inside t p k c d w.1 found in
     none-some d (sym (nothing_stands t (p ++ k ∷ []) w.1.within nowhere) ∙ there.stands)
 
--- the row of the place itself
-pub rows_begin : (p : List ℕ) (S : Standing) (c : Placed) (before now : List OutlineRow) (row : OutlineRow) → now ≡ before ++ row ∷ [] → IsRowBelow p S c (row_of row)
-    → row.position ≡ p → AddsRows p S c (IsUpTo c 0) (map row_of before) (map row_of now)
-rows_begin p S c before now row more is at =
-    let added : map row_of now ≡ map row_of before ++ row_of row ∷ [] = ap (map row_of) more ∙ map-append row_of before (row ∷ []) in
+-- the line of the place itself
+pub lines_begin : (p : List ℕ) (S : Standing) (c : Placed) (before now : List OutlineLine) (line : OutlineLine) → now ≡ before ++ line ∷ [] → IsLineBelow p S c (line_of line)
+    → line.position ≡ p → AddsLines p S c (IsUpTo c 0) (map line_of before) (map line_of now)
+lines_begin p S c before now line more is at =
+    let added : map line_of now ≡ map line_of before ++ line_of line ∷ [] = ap (map line_of) more ∙ map-append line_of before (line ∷ []) in
     record {
-      rows = row_of row ∷ [];
+      lines = line_of line ∷ [];
       added = added;
-      each = All-cons (IsRowBelow p S c) (row_of row) [] is (All-nil (IsRowBelow p S c));
-      positions = paths_begin p row.position c (map (λ (r : OutlinedRow). r.position) (map row_of before)) (map (λ (r : OutlinedRow). r.position) (map row_of now)) at
-          (ap (map (λ (r : OutlinedRow). r.position)) added ∙ map-append (λ (r : OutlinedRow). r.position) (map row_of before) (row_of row ∷ []));
+      each = All-cons (IsLineBelow p S c) (line_of line) [] is (All-nil (IsLineBelow p S c));
+      positions = paths_begin p line.position c (map (λ (r : OutlinedLine). r.position) (map line_of before)) (map (λ (r : OutlinedLine). r.position) (map line_of now)) at
+          (ap (map (λ (r : OutlinedLine). r.position)) added ∙ map-append (λ (r : OutlinedLine). r.position) (map line_of before) (line_of line ∷ []));
     }
 
--- the rows of what is inside at a number
-row_outward : (p r : List ℕ) (k : ℕ) (S R : Standing) (c d : Placed) → r ≡ p ++ k ∷ [] → placed_at c.params c.olds c.tree (k ∷ []) ≡ Some d → inside_tree S c.tree k ≡ Some R
-    → (row : OutlinedRow) → IsRowBelow r R d row → IsRowBelow p S c row
-row_outward p r k S R c d way found stands row h = record {
+-- the lines of what is inside at a number
+line_outward : (p r : List ℕ) (k : ℕ) (S R : Standing) (c d : Placed) → r ≡ p ++ k ∷ [] → placed_at c.params c.olds c.tree (k ∷ []) ≡ Some d → inside_tree S c.tree k ≡ Some R
+    → (line : OutlinedLine) → IsLineBelow r R d line → IsLineBelow p S c line
+line_outward p r k S R c d way found stands line h = record {
   path = k ∷ h.path;
   at = h.at ∙ ap (λ (z : List ℕ). z ++ h.path) way ∙ append_assoc p (k ∷ []) h.path;
   there = ap (option_map (λ (z : Placed). z.tree)) (inside_at c d k h.path found) ∙ h.there;
@@ -114,48 +114,48 @@ row_outward p r k S R c d way found stands row h = record {
   weighs = h.weighs;
 }
 
-pub rows_more : (p r : List ℕ) (k : ℕ) (S R : Standing) (c d : Placed) (before mid now : List OutlinedRow) → r ≡ p ++ k ∷ []
-    → placed_at c.params c.olds c.tree (k ∷ []) ≡ Some d → inside_tree S c.tree k ≡ Some R → AddsRows p S c (IsUpTo c k) before mid
-    → AddsRows r R d (IsInside d) mid now → AddsRows p S c (IsUpTo c (k + 1)) before now
-rows_more p r k S R c d before mid now way found stands x y = record {
-  rows = x.rows ++ y.rows;
-  added = y.added ∙ ap (λ z. z ++ y.rows) x.added ∙ append_assoc before x.rows y.rows;
-  each = All-append (IsRowBelow p S c) x.rows y.rows x.each
-      (All-weaker (IsRowBelow r R d) (IsRowBelow p S c) (row_outward p r k S R c d way found stands) y.rows y.each);
-  positions = paths_more p r k c d (map (λ (z : OutlinedRow). z.position) before) (map (λ (z : OutlinedRow). z.position) mid)
-      (map (λ (z : OutlinedRow). z.position) now) way found x.positions y.positions;
+pub lines_more : (p r : List ℕ) (k : ℕ) (S R : Standing) (c d : Placed) (before mid now : List OutlinedLine) → r ≡ p ++ k ∷ []
+    → placed_at c.params c.olds c.tree (k ∷ []) ≡ Some d → inside_tree S c.tree k ≡ Some R → AddsLines p S c (IsUpTo c k) before mid
+    → AddsLines r R d (IsInside d) mid now → AddsLines p S c (IsUpTo c (k + 1)) before now
+lines_more p r k S R c d before mid now way found stands x y = record {
+  lines = x.lines ++ y.lines;
+  added = y.added ∙ ap (λ z. z ++ y.lines) x.added ∙ append_assoc before x.lines y.lines;
+  each = All-append (IsLineBelow p S c) x.lines y.lines x.each
+      (All-weaker (IsLineBelow r R d) (IsLineBelow p S c) (line_outward p r k S R c d way found stands) y.lines y.each);
+  positions = paths_more p r k c d (map (λ (z : OutlinedLine). z.position) before) (map (λ (z : OutlinedLine). z.position) mid)
+      (map (λ (z : OutlinedLine). z.position) now) way found x.positions y.positions;
 }
 
-pub rows_end : (p : List ℕ) (k : ℕ) (S : Standing) (c : Placed) (before now : List OutlinedRow) → placed_at c.params c.olds c.tree (k ∷ []) ≡ None
-    → AddsRows p S c (IsUpTo c k) before now → AddsRows p S c (IsInside c) before now
-rows_end p k S c before now none x = record {
-  rows = x.rows;
+pub lines_end : (p : List ℕ) (k : ℕ) (S : Standing) (c : Placed) (before now : List OutlinedLine) → placed_at c.params c.olds c.tree (k ∷ []) ≡ None
+    → AddsLines p S c (IsUpTo c k) before now → AddsLines p S c (IsInside c) before now
+lines_end p k S c before now none x = record {
+  lines = x.lines;
   added = x.added;
   each = x.each;
-  positions = paths_end p k c (map (λ (z : OutlinedRow). z.position) before) (map (λ (z : OutlinedRow). z.position) now) none x.positions;
+  positions = paths_end p k c (map (λ (z : OutlinedLine). z.position) before) (map (λ (z : OutlinedLine). z.position) now) none x.positions;
 }
 
--- all rows
-row_whole : (t : TypedNetwork) → WithinLimits t → (row : OutlinedRow) → IsRowBelow [] (alone t.input) (placed 0 0 (a_network t.net)) row → IsRow t row
-row_whole t w row h = record {
+-- all lines
+line_whole : (t : TypedNetwork) → WithinLimits t → (line : OutlinedLine) → IsLineBelow [] (alone t.input) (placed 0 0 (a_network t.net)) line → IsLine t line
+line_whole t w line h = record {
   there = ap (λ (z : List ℕ). option_map (λ (d : Placed). d.tree) (placed_at 0 0 (a_network t.net) z)) h.at ∙ h.there;
-  typed = subst (λ z. TypeAt (alone t.input) (a_network t.net) z row.output) (sym h.at) (type_there t h.path row.output w h.typed);
+  typed = subst (λ z. TypeAt (alone t.input) (a_network t.net) z line.output) (sym h.at) (type_there t h.path line.output w h.typed);
   weighs = h.weighs;
 }
 
-whole_outline : (t : TypedNetwork) (before now : List OutlinedRow) → WithinLimits t → before ≡ []
-    → AddsRows [] (alone t.input) (placed 0 0 (a_network t.net)) (IsInside (placed 0 0 (a_network t.net))) before now → IsOutline t now
+whole_outline : (t : TypedNetwork) (before now : List OutlinedLine) → WithinLimits t → before ≡ []
+    → AddsLines [] (alone t.input) (placed 0 0 (a_network t.net)) (IsInside (placed 0 0 (a_network t.net))) before now → IsOutline t now
 whole_outline t before now w none x =
-    let rows : now ≡ x.rows = x.added ∙ ap (λ z. z ++ x.rows) none in
+    let lines : now ≡ x.lines = x.added ∙ ap (λ z. z ++ x.lines) none in
     record {
-      all = found_positions t [] [] (placed 0 0 (a_network t.net)) (map (λ (z : OutlinedRow). z.position) before) (map (λ (z : OutlinedRow). z.position) now)
-          (map (λ (z : OutlinedRow). z.position) now) refl (ap (map (λ (z : OutlinedRow). z.position)) none) refl refl x.positions;
-      each = subst (All (IsRow t)) (sym rows)
-          (All-weaker (IsRowBelow [] (alone t.input) (placed 0 0 (a_network t.net))) (IsRow t) (row_whole t w) x.rows x.each);
+      all = found_positions t [] [] (placed 0 0 (a_network t.net)) (map (λ (z : OutlinedLine). z.position) before) (map (λ (z : OutlinedLine). z.position) now)
+          (map (λ (z : OutlinedLine). z.position) now) refl (ap (map (λ (z : OutlinedLine). z.position)) none) refl refl x.positions;
+      each = subst (All (IsLine t)) (sym lines)
+          (All-weaker (IsLineBelow [] (alone t.input) (placed 0 0 (a_network t.net))) (IsLine t) (line_whole t w) x.lines x.each);
     }
 
-pub outlined : (t : TypedNetwork) (p : List ℕ) (S : Standing) (c : Placed) (before now : List OutlinedRow) → WithinLimits t → p ≡ [] → S ≡ alone t.input
-    → c ≡ placed 0 0 (a_network t.net) → before ≡ [] → AddsRows p S c (IsInside c) before now → IsOutline t now
+pub outlined : (t : TypedNetwork) (p : List ℕ) (S : Standing) (c : Placed) (before now : List OutlinedLine) → WithinLimits t → p ≡ [] → S ≡ alone t.input
+    → c ≡ placed 0 0 (a_network t.net) → before ≡ [] → AddsLines p S c (IsInside c) before now → IsOutline t now
 outlined t p S c before now w at stands is none x =
-    whole_outline t before now w none (subst (λ z. AddsRows [] (alone t.input) z (IsInside z) before now) is
-    (subst (λ z. AddsRows [] z c (IsInside c) before now) stands (subst (λ z. AddsRows z S c (IsInside c) before now) at x)))
+    whole_outline t before now w none (subst (λ z. AddsLines [] (alone t.input) z (IsInside z) before now) is
+    (subst (λ z. AddsLines [] z c (IsInside c) before now) stands (subst (λ z. AddsLines z S c (IsInside c) before now) at x)))

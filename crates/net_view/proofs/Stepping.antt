@@ -12,9 +12,9 @@ use Rattle.net_tree.specs.declared.law_step.Law.{Law}
 use Rattle.net_tree.specs.declared.law_step.Law.TheVariants as L
 use Rattle.net_tree.specs.declared.law_step.Direction.TheVariants.{Forward}
 use Rattle.expr_laws.specs.Answer as E
-use Rattle.expr_laws.proofs.Numbers.{row_numbers}
+use Rattle.expr_laws.proofs.Numbers.{law_numbers}
 use Rattle.law_rules.specs.Answer as N
-use Rattle.law_rules.proofs.Numbers.{row-numbers}
+use Rattle.law_rules.proofs.Numbers.{law-numbers}
 use Rattle.cert_check.specs.TreeAnswer.{TreeAnswer}
 use Rattle.net_syntax.specs.Rewriting.{Rewrites}
 use Rattle.cert_check.specs.Derives.{Next}
@@ -31,11 +31,11 @@ use Rattle.net_view.proofs.Listings.{order_split, lists_none, lists_one, lists_s
 
 -- a law that answers something is one
 answer_law : (olds : ℕ) (law : Law) (tree new : Tree Expression) → TreeAnswer olds law Forward tree None new → IsLaw law
-answer_law olds (L.E n) (a_leaf e) (a_leaf r) (E.forward_answer row) = (row_numbers n).0 (e, r, row)
+answer_law olds (L.E n) (a_leaf e) (a_leaf r) (E.forward_answer is_law) = (law_numbers n).0 (e, r, is_law)
 answer_law olds (L.E n) (a_leaf e) (a_network r) a = absurd a
 answer_law olds (L.E n) (a_network f) (a_network r) a = elim a [ ]
 answer_law olds (L.E n) (a_network f) (a_leaf r) a = absurd a
-answer_law olds (L.L n) (a_network f) (a_network r) (N.forward_answer row) = (row-numbers n olds).0 (f, r, row)
+answer_law olds (L.L n) (a_network f) (a_network r) (N.forward_answer is_law) = (law-numbers n olds).0 (f, r, is_law)
 answer_law olds (L.L n) (a_network f) (a_leaf r) a = absurd a
 answer_law olds (L.L n) (a_leaf e) (a_leaf r) a = elim a [ ]
 answer_law olds (L.L n) (a_leaf e) (a_network r) a = absurd a
@@ -183,12 +183,12 @@ all_possible t p ps xs all h = record {
 -- what a check refuses doesn't lead on
 pub untyped_by : (t : TypedNetwork) (p : List ℕ) (m n : ℕ) (u new : Tree Expression) (law : Law) → placed_at 0 0 (a_network t.net) p ≡ Some (placed m n u)
     → TreeAnswer n law Forward u None new → ((v : TypedNetwork) → Rewrites t p new v → ⊥) → NoStepBy t p law
-untyped_by t p m n (a_network f) (a_network r) (L.L j) there (N.forward_answer row) refused =
-    refused_net t p n j f r (record { params = m; there = there }) row refused
+untyped_by t p m n (a_network f) (a_network r) (L.L j) there (N.forward_answer is_law) refused =
+    refused_net t p n j f r (record { params = m; there = there }) is_law refused
 untyped_by t p m n (a_network f) (a_network r) (L.E j) there a refused = elim a [ ]
 untyped_by t p m n (a_network f) (a_leaf r) law there a refused = absurd a
-untyped_by t p m n (a_leaf e) (a_leaf r) (L.E j) there (E.forward_answer row) refused =
-    refused_leaf t p j e r (n, record { params = m; there = there }) row refused
+untyped_by t p m n (a_leaf e) (a_leaf r) (L.E j) there (E.forward_answer is_law) refused =
+    refused_leaf t p j e r (n, record { params = m; there = there }) is_law refused
 untyped_by t p m n (a_leaf e) (a_leaf r) (L.L j) there a refused = elim a [ ]
 untyped_by t p m n (a_leaf e) (a_network r) law there a refused = absurd a
 

@@ -1,6 +1,6 @@
 -- What is listed of a network, and its texts, a file a line.
 pub mod Listed
-pub mod Rows
+pub mod Outline
 pub mod Walked
 pub mod Possible
 pub mod Spots

@@ -8,7 +8,7 @@ use Rattle.net_tree.specs.Place.{Tree}
 use Rattle.net_tree.specs.Position.{position_spelling}
 use Rattle.net_meaning.specs.TypedNetwork.{TypedNetwork}
 use Rattle.net_text.specs.CertificatePrinting.{tree_sexpr}
-use Rattle.net_view.specs.Rows.{OutlinedRow, IsOutline}
+use Rattle.net_view.specs.Outline.{OutlinedLine, IsOutline}
 use Rattle.net_view.specs.Possible.{Possible, ArePossible}
 use Rattle.net_view.specs.TraceText.{step_line, cut_lines}
 
@@ -32,20 +32,20 @@ weight_spelling None = []
 weight_spelling (Some w) = 9 ∷ decimal w
 
 -- a line: the position, indented, the form, the type, and of networks the weight, parted by tabs
-abbrev pub row_spelling : OutlinedRow → List ℕ
-row_spelling r = indent r.position
+abbrev pub line_spelling : OutlinedLine → List ℕ
+line_spelling r = indent r.position
     ++ (position_spelling r.position
     ++ (9 ∷ (tree_word r.tree
     ++ (9 ∷ (type_spelling r.output ++ (weight_spelling r.weight ++ 10 ∷ []))))))
 
--- a line for each row
-abbrev pub rows_spelling : List OutlinedRow → List ℕ
-rows_spelling [] = []
-rows_spelling (r ∷ rs) = row_spelling r ++ rows_spelling rs
+-- the lines, one behind another
+abbrev pub lines_spelling : List OutlinedLine → List ℕ
+lines_spelling [] = []
+lines_spelling (r ∷ rs) = line_spelling r ++ lines_spelling rs
 
 -- the lines of the network's outline
 abbrev pub OutlineText : TypedNetwork → List ℕ → Type 0
-OutlineText t bytes = (rows : List OutlinedRow) × IsOutline t rows × (bytes ≡ rows_spelling rows)
+OutlineText t bytes = (lines : List OutlinedLine) × IsOutline t lines × (bytes ≡ lines_spelling lines)
 
 -- three lines: the step as certificates have it, what stands at its position, what stands there then
 abbrev pub possible_spelling : Possible → List ℕ

@@ -1,4 +1,4 @@
--- The walk that lists an outline: where what is inside a tree stands, and the rows that are added.
+-- The walk that lists an outline: where what is inside a tree stands, and the lines that are added.
 use Rattle.std.specs.Prelude.{◌≡◌, ℕ, List, ◌++◌, map, Option, Some, option_map}
 use Rattle.std.specs.List.{All}
 use Rattle.leaf_core.specs.Expression.{Expression}
@@ -10,7 +10,7 @@ use Rattle.net_syntax.specs.StandingWalk.{taking, inside, type_walk_at}
 use Rattle.net_meaning.specs.TypedNetwork.{TypedNetwork}
 use Rattle.net_opt.specs.Walk.{Reached}
 use Rattle.net_view.specs.Listed.{AddsPositions}
-use Rattle.net_view.specs.Rows.{OutlinedRow, weight_in}
+use Rattle.net_view.specs.Outline.{OutlinedLine, weight_in}
 
 -- where what is inside a tree at number k stands
 abbrev pub inside_tree : Standing → Tree Expression → ℕ → Option Standing
@@ -26,18 +26,18 @@ TypedBelow t p S u = (q : List ℕ)
 abbrev pub IsWalked : List ℕ → Standing → Placed → Type 0
 IsWalked p S c = (t : TypedNetwork) × Reached t p c × TypedBelow t p S c.tree
 
--- the row is of what stands at a path below a place, which is at p: its type is that found there
-pub record IsRowBelow (p : List ℕ) (S : Standing) (c : Placed) (r : OutlinedRow) : Type 0 where
+-- the line is of what stands at a path below a place, which is at p: its type is that found there
+pub record IsLineBelow (p : List ℕ) (S : Standing) (c : Placed) (r : OutlinedLine) : Type 0 where
   pub path : List ℕ
   pub at : r.position ≡ p ++ path
   pub there : option_map (λ d. d.tree) (placed_at c.params c.olds c.tree path) ≡ Some r.tree
   pub typed : type_walk_at S c.tree path ≡ Some r.output
   pub weighs : r.weight ≡ weight_in r.tree
 
--- rows were added behind others: of what stands below the place by paths which are so, in preorder
-pub record AddsRows (p : List ℕ) (S : Standing) (c : Placed) (So : List ℕ → Type 0)
-    (before now : List OutlinedRow) : Type 0 where
-  pub rows : List OutlinedRow
-  pub added : now ≡ before ++ rows
-  pub each : All (IsRowBelow p S c) rows
+-- lines were added behind others: of what stands below the place by paths which are so, in preorder
+pub record AddsLines (p : List ℕ) (S : Standing) (c : Placed) (So : List ℕ → Type 0)
+    (before now : List OutlinedLine) : Type 0 where
+  pub lines : List OutlinedLine
+  pub added : now ≡ before ++ lines
+  pub each : All (IsLineBelow p S c) lines
   pub positions : AddsPositions p So (map (λ r. r.position) before) (map (λ r. r.position) now)

@@ -1,9 +1,8 @@
 // The steps that may be taken forward.
 
-ghost use Rattle.std.specs.Prelude.{◌≡◌, ◌+◌, ◌<◌, ◌≤◌, [], IfOk, IsTrue, None, OnOk, Some, length, map, option_map};
-ghost use Rattle.net_syntax.specs.{ChildParts.seen_place, Placed.placed_at, StandingWalk.standing_of};
-ghost use Rattle.net_tree.specs.LawStep.{part_of, seen, step_of};
-ghost use Rattle.net_tree.specs.Place.{a_network};
+ghost use Rattle.std.specs.Prelude.{◌≡◌, ◌+◌, ◌<◌, IfOk, None, OnOk, Some, map, option_map};
+ghost use Rattle.net_syntax.specs.{ChildParts.seen_place, StandingWalk.standing_of};
+ghost use Rattle.net_tree.specs.LawStep.{part_of, seen};
 ghost use Rattle.net_opt.specs.Optimising.{forward_step};
 ghost use Rattle.net_opt.specs.Walk.{Reached};
 ghost use Rattle.net_text.specs.CertificatePrinting.{IsLaw};

@@ -2,13 +2,13 @@
 
 ghost use Rattle.std.specs.Prelude.{IfOk, string_bytes};
 ghost use Rattle.sample_core.specs.Adding.{Adds};
-ghost use Rattle.net_view.specs.{Possible.possible_of, Rows.row_of};
-ghost use Rattle.net_view.specs.Texts.{OutlineText, PossibleText, indent, possible_spelling, row_spelling, weight_spelling};
+ghost use Rattle.net_view.specs.{Possible.possible_of, Outline.line_of};
+ghost use Rattle.net_view.specs.Texts.{OutlineText, PossibleText, indent, possible_spelling, line_spelling, weight_spelling};
 
 use crate::forms::push_form;
+use crate::lines::{OutlineLine, outline};
 use crate::possible::{PossibleStep, possible_steps};
-use crate::rows::{OutlineRow, outline};
-use crate::told::push_cut_lines;
+use crate::shown::push_cut_lines;
 use itoa::Buffer;
 use net_syntax::TypedNet;
 use net_text::push_step;
@@ -16,16 +16,16 @@ use net_tree::{Position, push_position};
 use sample_core::{Memory, push_type, push_word};
 use std::alloc::Global;
 
-/// The network's outline as a new text, a line a row: two blanks for each level of depth, then the
+/// The network's outline as a new text, a line a line: two blanks for each level of depth, then the
 /// position, the word of the form, the type, and of networks the weight, parted by tabs. `Memory`
 /// if allocation fails.
 pub fn outline_text(alloc: Global, net: &TypedNet) -> Result<String, Memory>
     ensures { IfOk result (λ text. OutlineText net.now (string_bytes text)) }
 {
-    let rows = outline(alloc, net)?;
+    let lines = outline(alloc, net)?;
     let mut text = String::new(alloc);
-    for row in &rows {
-        push_row(&mut text, row)?;
+    for line in &lines {
+        push_line(&mut text, line)?;
     }
     Ok(text)
 }
@@ -56,18 +56,18 @@ fn push_possible(alloc: Global, text: &mut String, step: &PossibleStep) -> Resul
     push_cut_lines(alloc, text, &step.change.before, &step.change.after)
 }
 
-/// A row of the outline.
-fn push_row(text: &mut String, row: &OutlineRow) -> Result<(), Memory>
+/// A line of the outline.
+fn push_line(text: &mut String, line: &OutlineLine) -> Result<(), Memory>
     ensures { Adds result (string_bytes text.old) (string_bytes text.new)
-        (row_spelling (row_of row.now)) }
+        (line_spelling (line_of line.now)) }
 {
-    push_indent(text, row.position.path())?;
-    push_position(text, &row.position)?;
+    push_indent(text, line.position.path())?;
+    push_position(text, &line.position)?;
     push_word(text, "\t")?;
-    push_form(text, &row.tree)?;
+    push_form(text, &line.tree)?;
     push_word(text, "\t")?;
-    push_type(text, &row.output)?;
-    push_weight(text, row.weight)?;
+    push_type(text, &line.output)?;
+    push_weight(text, line.weight)?;
     push_word(text, "\n")
 }
 

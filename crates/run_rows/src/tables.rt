@@ -2,7 +2,7 @@
 
 ghost use Rattle.std.specs.Prelude.{◌≡◌, IfSome, Ok, map};
 ghost use Rattle.sample_core.specs.ValueView.{datum_of};
-ghost use Rattle.leaf_table.specs.{Computes.Computes, Rows.rows_of};
+ghost use Rattle.leaf_table.specs.{Computes.Computes};
 
 use crate::found::{Probe, all_are_found};
 use crate::runs::{Trial, network, trial_told};

@@ -1,9 +1,9 @@
 // Readers and writers that count how often they failed.
 
-ghost use Rattle.std.specs.Prelude.{◌≡◌, ℕ, IfErr, IfOk, IfSome, OnErr, Ok};
+ghost use Rattle.std.specs.Prelude.{◌≡◌, ℕ, true, Ok};
 ghost use Rattle.std.specs.Io.{ReadsAtMost, WritesAtMost};
 ghost use Rattle.std.specs.Io.KnownBytes.{ReadConsumes, WriteAppends, Keeps};
-ghost use Rattle.stream_text.specs.Failures.{counted_up, after_read, after_write};
+ghost use Rattle.stream_text.specs.Failures.{Rose, after_read, after_write};
 
 use std::io;
 use std::io::{Read, Write};
@@ -17,6 +17,14 @@ pub trait Device {
     /// How often it failed so far.
     fn failures(&self) -> u64
         ensures { result ≡ count self.now };
+}
+
+/// Whether the device has failed more often than so many times, as far as it counts.
+pub fn has_failed<D: Device>(device: &D, failures: u64) -> bool
+    ensures { result ≡ true → Rose failures (D.count device.now) }
+{
+    let after = device.failures();
+    failures < after || after == u64::MAX
 }
 
 impl<D: Device> Device for &mut D {

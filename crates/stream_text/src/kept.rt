@@ -1,8 +1,7 @@
 // The bytes that were read of a stream and not yet answered.
 
-ghost use Rattle.std.specs.Prelude.{◌≡◌, ◌≤◌, ◌<◌, ◌++◌, ◌+◌, ℕ, List, [], length, take, drop, IfOk, IfSome, IfNone, slice_index, vec_len, vec_capacity};
+ghost use Rattle.std.specs.Prelude.{◌≡◌, ◌≤◌, ◌<◌, ◌+◌, ℕ, List, [], length, take, drop, IfOk, IfSome, IfNone, vec_len, vec_capacity};
 ghost use Rattle.stream_text.specs.TextLines.{IsFeedFree, IsFirstFeed};
-ghost use Rattle.std.specs.Io.KnownBytes.{Consumes, IsAtEnd, Keeps};
 ghost use Rattle.stream_text.specs.Pieces.{KeepsPiece};
 ghost use Rattle.stream_text.specs.declared.kept.TheConstants.{ROOM};
 

@@ -21,7 +21,7 @@ mod reader;
 mod settle;
 mod step_text;
 
-pub use device::{Counted, Device};
+pub use device::{Counted, Device, has_failed};
 pub use fault::StreamFault;
 pub use laws::stream_laws;
 pub use line::{MOST_BYTES, MOST_SAMPLES};

@@ -48,12 +48,11 @@ pub struct LineState {
 }
 
 impl LineState {
-    ghost use Rattle.std.specs.Prelude.{◌≡◌, ◌≢◌, ◌≤◌, ◌<◌, ◌+◌, ◌^◌, suc, length, None, Some};
+    ghost use Rattle.std.specs.Prelude.{◌≡◌, ◌≢◌, ◌≤◌, ◌<◌, ◌+◌, ◌^◌, length, None, Some};
     ghost use Rattle.stream_text.specs.Answers.{GivesAnswer, GivesStep, IsFresh, SettlesNext};
     ghost use Rattle.stream_text.specs.Calls.{MayTakeNext};
     ghost use Rattle.stream_text.specs.LineTaken.{TakesKept, TakesLast, KeepsCopy};
     ghost use Rattle.stream_text.specs.ReaderState.{reader_state};
-    ghost use Rattle.stream_text.specs.StreamText.{line_read};
     ghost use Rattle.stream_text.specs.StreamView.{before_view};
     ghost use Rattle.stream_text.specs.declared.reader.Met.TheVariants as M;
 

@@ -1,11 +1,11 @@
 // Reading on until the next line is known.
 
-ghost use Rattle.std.specs.Prelude.{◌≡◌, ◌≢◌, ◌≤◌, [], length, IfErr, IfNone, IfSome, true};
+ghost use Rattle.std.specs.Prelude.{◌≡◌, ◌≢◌, ◌≤◌, [], length, IfErr, IfNone, IfSome};
 ghost use Rattle.stream_text.specs.{Failures.Rose, Settling.SettlesLine, Settling.Settles};
 ghost use Rattle.stream_text.specs.TextLines.{IsFeedFree, front_lines, shows_fault};
 ghost use Rattle.stream_text.specs.declared.fault.StreamFault.TheVariants as Fault;
 
-use crate::device::Device;
+use crate::device::{Device, has_failed};
 use crate::fault::StreamFault;
 use crate::kept::{Pending, Piece};
 use crate::line::{MOST_BYTES, MOST_SAMPLES};
@@ -88,12 +88,4 @@ fn is_faulty(number: u64, size: usize) -> bool
     ensures { result ≡ shows_fault number size }
 {
     size > MOST_BYTES || (number > MOST_SAMPLES && size > 0)
-}
-
-/// Whether the reader has failed more often than that, as far as it counts.
-fn has_failed<R: Device>(source: &R, failures: u64) -> bool
-    ensures { result ≡ true → Rose failures (R.count source.now) }
-{
-    let after = source.failures();
-    failures < after || after == u64::MAX
 }

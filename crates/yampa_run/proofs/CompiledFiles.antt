@@ -17,7 +17,6 @@ use Rattle.code_fits.specs.CodeOfNet.{IsCodeOf}
 use Rattle.cert_check.specs.Laws.{SameStreamLaw}
 use Rattle.command_line.specs.CommandLine.{RequestTree, types, run, outline, laws, optimise, improve, check as checks, run_checked, apply, certify, compile, compile_checked}
 use Rattle.yampa_run.specs.CompiledFiles.{CompiledFilesLaw, CompilesAsAsked}
-use Rattle.yampa_run.specs.KnownFiles.{KnownFiles}
 use Rattle.yampa_run.specs.Loading.{IsNetworkIn, IsNetworkOf}
 use Rattle.yampa_run.specs.Check.{AreStepsOf, IsDerivedIn}
 use Rattle.yampa_run.specs.Preparation.{Meets}

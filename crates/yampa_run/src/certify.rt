@@ -5,13 +5,12 @@ ghost use Rattle.net_meaning.specs.TypedNetwork.{TypedNetwork};
 ghost use Rattle.net_tree.specs.LawStep.{part_of};
 ghost use Rattle.net_search.specs.Certifying.{AreApart};
 ghost use Rattle.yampa_run.specs.Certify.{HaveOtherInputs, IsCertified, IsNotCertified, TellsCertified, TellsNone, difference_lines, gave_up_line, too_long_line};
-ghost use Rattle.yampa_run.specs.RefusalLines.{none_found_words};
 
 use crate::check::check_refusal;
 use crate::files::Files;
 use crate::load::load;
 use crate::preparation::{Job, Refusal};
-use crate::printed::{push_number, push_words};
+use crate::printed::push_number;
 use crate::refused::{Role, none_found_line};
 use cert_check::CheckFault;
 use net_search::{Certified, Difference, certify};
@@ -19,7 +18,7 @@ use net_syntax::TypedNet;
 use net_text::print_cert;
 use net_tree::push_position;
 use net_view::push_cut_lines;
-use sample_core::Memory;
+use sample_core::{Memory, push_word};
 use std::alloc::Global;
 
 /// What the command `certify` prints on those files. They are read and refused in the order source,
@@ -79,7 +78,7 @@ fn difference(alloc: Global, found: &Difference) -> Result<String, Memory>
 {
     let mut text = String::new(alloc);
     push_position(&mut text, &found.position)?;
-    push_words(&mut text, "\n")?;
+    push_word(&mut text, "\n")?;
     push_cut_lines(alloc, &mut text, &found.first, &found.second)?;
     Ok(text)
 }
@@ -90,9 +89,9 @@ fn too_long(alloc: Global, steps: usize, bytes: usize) -> Result<String, Memory>
 {
     let mut text = String::from_str(alloc, "too long: ")?;
     push_number(&mut text, steps as u64)?;
-    push_words(&mut text, " steps, ")?;
+    push_word(&mut text, " steps, ")?;
     push_number(&mut text, bytes as u64)?;
-    push_words(&mut text, " bytes\n")?;
+    push_word(&mut text, " bytes\n")?;
     Ok(text)
 }
 
@@ -103,7 +102,7 @@ fn gave_up(alloc: Global, nodes: u64, found: &Difference) -> Result<String, Memo
 {
     let mut text = String::from_str(alloc, "gave up: ")?;
     push_number(&mut text, nodes)?;
-    push_words(&mut text, " nodes visited\n")?;
-    push_words(&mut text, &difference(alloc, found)?)?;
+    push_word(&mut text, " nodes visited\n")?;
+    push_word(&mut text, &difference(alloc, found)?)?;
     Ok(text)
 }

@@ -1,22 +1,21 @@
 // The commands `check` and `run-checked`: certificates in files, and what they derive.
 
-ghost use Rattle.std.specs.Prelude.{◌≡◌, ◌++◌, Some, IfErr, IfOk, OnOk, map, string_bytes};
+ghost use Rattle.std.specs.Prelude.{◌≡◌, Some, IfErr, IfOk, map, string_bytes};
 ghost use Rattle.command_line.specs.CommandLine.{derivation_view};
 ghost use Rattle.net_tree.specs.LawStep.{step_of};
-ghost use Rattle.yampa_run.specs.Loading.{HasNoNetwork, IsNetworkOf};
 ghost use Rattle.yampa_run.specs.Check.{AreStepsOf, HasNoDerivation, HasNoSteps, IsDerivedIn, RefusesCheck, TellsAccepted, accepted_line};
 
 use crate::files::{Files, read_file};
 use crate::load::{load, text_refusal};
 use crate::preparation::Refusal;
-use crate::printed::{push_number, push_words};
+use crate::printed::push_number;
 use crate::refused::{Role, check_line};
 use cert_check::{CheckFault, check};
 use command_line::Derivation;
 use net_syntax::TypedNet;
 use net_text::read_cert;
 use net_tree::LawStep;
-use sample_core::Memory;
+use sample_core::{Memory, push_word};
 use std::alloc::Global;
 
 /// The line of the command `check` on those files.
@@ -46,7 +45,7 @@ fn accepted_on(alloc: Global, steps: u32) -> Result<String, Memory>
 {
     let mut text = String::from_str(alloc, "accepted ")?;
     push_number(&mut text, u64::from(steps))?;
-    push_words(&mut text, "\n")?;
+    push_word(&mut text, "\n")?;
     Ok(text)
 }
 

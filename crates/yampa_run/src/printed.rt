@@ -6,7 +6,7 @@ ghost use Rattle.yampa_run.specs.FaultLines.{EndsRun, IsMet, at_line, line_of, s
 
 use crate::fault::RunFault;
 use itoa::Buffer;
-use sample_core::{Memory, ValueFault};
+use sample_core::{Memory, ValueFault, push_word};
 use std::alloc::Global;
 use stream_text::StreamFault;
 
@@ -46,8 +46,8 @@ fn push_fault(out: &mut String, fault: &RunFault) -> Result<(), Memory>
 {
     match fault {
         RunFault::Stream { fault, .. } => push_stream(out, fault),
-        RunFault::Write { .. } => push_words(out, "output: cannot be written"),
-        RunFault::Memory { .. } => push_words(out, "memory"),
+        RunFault::Write { .. } => push_word(out, "output: cannot be written"),
+        RunFault::Memory { .. } => push_word(out, "memory"),
     }
 }
 
@@ -61,9 +61,9 @@ fn push_stream(out: &mut String, fault: &StreamFault) -> Result<(), Memory>
         StreamFault::NothingBefore { line } => push_at(out, *line, "nothing before"),
         StreamFault::LineTooLong { line } => push_at(out, *line, "too long"),
         StreamFault::TooManySamples { line } => push_at(out, *line, "too many samples"),
-        StreamFault::ReadTurns => push_words(out, "stream: too many reads"),
-        StreamFault::Read => push_words(out, "stream: cannot be read"),
-        StreamFault::Memory => push_words(out, "memory"),
+        StreamFault::ReadTurns => push_word(out, "stream: too many reads"),
+        StreamFault::Read => push_word(out, "stream: cannot be read"),
+        StreamFault::Memory => push_word(out, "memory"),
         StreamFault::Ended => unreachable!(),
     }
 }
@@ -76,17 +76,17 @@ fn push_value_fault(out: &mut String, line: u64, fault: &ValueFault) -> Result<(
         ValueFault::NotAValue { at } => push_place(out, line, "no value at ", *at),
         ValueFault::OtherType { at } => push_place(out, line, "other type at ", *at),
         ValueFault::NumberRange { at } => push_place(out, line, "number range at ", *at),
-        ValueFault::Memory => push_words(out, "memory"),
+        ValueFault::Memory => push_word(out, "memory"),
     }
 }
 
 fn push_at(out: &mut String, line: u64, what: &str) -> Result<(), Memory>
     ensures { OnOk result (string_bytes out.new ≡ string_bytes out.old ++ at_line line what.now) }
 {
-    push_words(out, "stream: line ")?;
+    push_word(out, "stream: line ")?;
     push_number(out, line)?;
-    push_words(out, ": ")?;
-    push_words(out, what)?;
+    push_word(out, ": ")?;
+    push_word(out, what)?;
     Ok(())
 }
 
@@ -99,19 +99,9 @@ fn push_place(out: &mut String, line: u64, what: &str, place: usize) -> Result<(
     Ok(())
 }
 
-/// Adds the words. `Memory` if allocation fails.
-pub(crate) fn push_words(out: &mut String, words: &str) -> Result<(), Memory>
-    ensures { OnOk result (string_bytes out.new ≡ string_bytes out.old ++ words.now) }
-{
-    match out.push_str(words) {
-        Ok(()) => Ok(()),
-        Err(_) => Err(Memory),
-    }
-}
-
 /// Adds the number in digits. `Memory` if allocation fails.
 pub(crate) fn push_number(out: &mut String, number: u64) -> Result<(), Memory>
     ensures { OnOk result (string_bytes out.new ≡ string_bytes out.old ++ decimal number) }
 {
-    push_words(out, Buffer::new().format(number))
+    push_word(out, Buffer::new().format(number))
 }

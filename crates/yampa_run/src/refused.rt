@@ -3,13 +3,13 @@
 ghost use Rattle.std.specs.Prelude.{◌≡◌, codes, IfOk, string_bytes};
 ghost use Rattle.yampa_run.specs.RefusalLines.{byte_words, check_words, expression_words, line_on, no_layout_words, no_most_words, no_name_words, no_number_words, no_place_words, none_found_words, not_there_words, place_words, role_words, step_words, text_words, too_large_words, type_words, unread_words};
 
-use crate::printed::{push_number, push_words};
+use crate::printed::push_number;
 use cert_check::CheckFault;
 use leaf_core::ExprFault;
 use net_text::NetTextFault;
 use net_tree::{Position, push_position};
 use net_types::TypeFault;
-use sample_core::Memory;
+use sample_core::{Memory, push_word};
 use std::alloc::Global;
 
 /// What a file is read as.
@@ -41,7 +41,7 @@ fn line_of(alloc: Global, role: Role, what: &str) -> Result<String, Memory>
     ensures { IfOk result (λ line. string_bytes line ≡ line_on role what.now) }
 {
     let mut line = String::from_str(alloc, role_word(role))?;
-    push_words(&mut line, what)?;
+    push_word(&mut line, what)?;
     Ok(line)
 }
 
@@ -70,7 +70,7 @@ fn byte_line(alloc: Global, role: Role, what: &str, at: usize) -> Result<String,
     ensures { IfOk result (λ line. string_bytes line ≡ byte_words role what.now at) }
 {
     let mut line = line_of(alloc, role, what)?;
-    push_words(&mut line, " at byte ")?;
+    push_word(&mut line, " at byte ")?;
     push_number(&mut line, at as u64)?;
     Ok(line)
 }
@@ -163,9 +163,9 @@ pub(crate) fn too_large_line(
         ≡ too_large_words what.now position.now asks) }
 {
     let mut line = line_of(alloc, Role::Network, what)?;
-    push_words(&mut line, " too large at ")?;
+    push_word(&mut line, " too large at ")?;
     push_position(&mut line, position)?;
-    push_words(&mut line, if asks { ": give --most" } else { "" })?;
+    push_word(&mut line, if asks { ": give --most" } else { "" })?;
     Ok(line)
 }
 
@@ -202,7 +202,7 @@ fn step_line(alloc: Global, what: &str, step: u32) -> Result<String, Memory>
     ensures { IfOk result (λ line. string_bytes line ≡ step_words what.now step) }
 {
     let mut line = line_of(alloc, Role::Certificate, what)?;
-    push_words(&mut line, " at step ")?;
+    push_word(&mut line, " at step ")?;
     push_number(&mut line, u64::from(step))?;
     Ok(line)
 }

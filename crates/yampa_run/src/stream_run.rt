@@ -1,6 +1,6 @@
 // Runs of a network from a reader to a writer.
 
-ghost use Rattle.std.specs.Prelude.{◌≡◌, ◌<◌, ◌≤◌, ◌^◌, ℕ, List, Option, [], IfErr, IfOk, OnErr, OnOk, length, string_bytes, take, true};
+ghost use Rattle.std.specs.Prelude.{◌≡◌, ◌<◌, ◌≤◌, ◌^◌, ℕ, List, Option, [], IfErr, IfOk, OnErr, OnOk, length, string_bytes, take};
 ghost use Rattle.std.specs.Io.KnownBytes.{Appends};
 ghost use Rattle.sample_core.specs.{HasType.HasType, TypeView.type_of, ValueView.datum_of};
 ghost use Rattle.leaf_table.specs.Rows.{rows_of};
@@ -17,7 +17,7 @@ use sample_core::{Memory, Sample, Ty, push_value};
 use std::alloc::Global;
 use std::io::{Read, Write};
 use step_core::{Bound, Runner};
-use stream_text::{Device, LineState, StreamFault};
+use stream_text::{Device, LineState, StreamFault, has_failed};
 
 /// Why a line of output isn't written whole.
 #[derive(Clone, Copy)]
@@ -241,14 +241,6 @@ fn put_on<W: Write + Device>(
         return Ok(());
     }
     Err(WriteStop::Memory)
-}
-
-/// Whether the writer has failed more often than that, as far as it counts.
-fn has_failed<W: Device>(writer: &W, failures: u64) -> bool
-    ensures { result ≡ true → Rose failures (W.count writer.now) }
-{
-    let after = writer.failures();
-    failures < after || after == u64::MAX
 }
 
 /// Writes once. Answers how many bytes were taken, none where the write failed.

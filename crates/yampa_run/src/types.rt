@@ -3,9 +3,9 @@
 ghost use Rattle.std.specs.Prelude.{◌≡◌, ◌++◌, IfOk, OnOk, string_bytes};
 ghost use Rattle.yampa_run.specs.Types.{arrow_line, size_lines, types_lines};
 
-use crate::printed::{push_number, push_words};
+use crate::printed::push_number;
 use net_syntax::TypedNet;
-use sample_core::{Memory, push_type};
+use sample_core::{Memory, push_type, push_word};
 use std::alloc::Global;
 
 /// The lines on a network's types, weight and height.
@@ -23,7 +23,7 @@ fn push_arrow(text: &mut String, net: &TypedNet) -> Result<(), Memory>
     ensures { OnOk result (string_bytes text.new ≡ string_bytes text.old ++ arrow_line net.now) }
 {
     push_type(text, net.input())?;
-    push_words(text, " -> ")?;
+    push_word(text, " -> ")?;
     push_type(text, net.output())
 }
 
@@ -32,9 +32,9 @@ fn push_sizes(text: &mut String, weight: u32, height: u32) -> Result<(), Memory>
     ensures { OnOk result (string_bytes text.new ≡ string_bytes text.old
         ++ size_lines weight height) }
 {
-    push_words(text, "\nweight ")?;
+    push_word(text, "\nweight ")?;
     push_number(text, u64::from(weight))?;
-    push_words(text, "\nheight ")?;
+    push_word(text, "\nheight ")?;
     push_number(text, u64::from(height))?;
-    push_words(text, "\n")
+    push_word(text, "\n")
 }

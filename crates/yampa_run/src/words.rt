@@ -1,23 +1,21 @@
 // What the words of options tell: a number of steps, a position, what names begin with, and how many
 // elements lists have.
 
-ghost use Rattle.std.specs.Prelude.{◌≡◌, ◌≢◌, ◌↔◌, IfErr, IfOk, IsTrue, OnOk, map, option_map, string_bytes};
+ghost use Rattle.std.specs.Prelude.{◌≡◌, ◌↔◌, IfErr, IfOk, IsTrue, map, option_map, string_bytes};
 ghost use Rattle.net_tree.specs.LawStep.{step_of};
 ghost use Rattle.net_tree.specs.Position.{position_spelling};
 ghost use Rattle.net_text.specs.CertificatePrinting.{ChildrenFit};
-ghost use Rattle.net_text.specs.declared.fault.NetTextFault.TheVariants as Fault;
 ghost use Rattle.yampa_run.specs.Laws.{IsNowhere};
 ghost use Rattle.yampa_run.specs.Apply.{IsNoNumber};
 ghost use Rattle.yampa_run.specs.Compile.{IsNoMost, IsNoName};
 ghost use Rattle.yampa_run.specs.Words.{IsPlaceIn, IsPlaceOfStep, TellsFirst, TellsMost, TellsName, TellsPlace, all_name_bytes, begins_name, is_digits_word, is_most, is_name, is_name_byte, most_in, number_in, placed_file};
 
 use crate::preparation::Refusal;
-use crate::printed::push_words;
 use crate::refused::{no_most_line, no_name_line, no_number_line, no_place_line};
 use leaf_expr::MOST_INDEX;
-use net_text::{NetTextFault, read_cert};
+use net_text::read_cert;
 use net_tree::{LawStep, Position, push_position};
-use sample_core::Memory;
+use sample_core::{Memory, push_word};
 use std::alloc::Global;
 
 /// The most bytes that the word of a position may have.
@@ -195,19 +193,9 @@ fn place_in(alloc: Global, word: &str) -> Result<Option<Position>, Memory>
             place
         }
         Err(fault) => {
-            unless_memory(&fault)?;
+            fault.unless_memory()?;
             Ok(None)
         }
-    }
-}
-
-/// `Memory` if that is why a text is refused.
-fn unless_memory(fault: &NetTextFault) -> Result<(), Memory>
-    ensures { OnOk result (fault.now ≢ Fault.Memory) }
-{
-    match fault {
-        NetTextFault::Memory => Err(Memory),
-        _ => Ok(()),
     }
 }
 
@@ -216,8 +204,8 @@ fn placed_file(alloc: Global, word: &str) -> Result<String, Memory>
     ensures { IfOk result (λ text. string_bytes text ≡ placed_file word.now) }
 {
     let mut text = String::from_str(alloc, "laws 1\n(step L1 forward ")?;
-    push_words(&mut text, word)?;
-    push_words(&mut text, ")\n")?;
+    push_word(&mut text, word)?;
+    push_word(&mut text, ")\n")?;
     Ok(text)
 }
 

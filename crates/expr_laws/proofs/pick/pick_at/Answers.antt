@@ -2,7 +2,7 @@ use Rattle.std.proofs.Common.{◌<◌, length, map, arith, ap, ◌∙◌, w64}
 use Rattle.std.proofs.lemmas.Int.{to_z-of_z}
 use Rattle.leaf_core.specs.Expression.{expressions_of}
 use Rattle.leaf_core.specs.ExpressionView.{expression_of}
-use Rattle.expr_laws.specs.Rows.{picked}
+use Rattle.expr_laws.specs.ExpressionLaw.{picked}
 use Rattle.expr_laws.proofs.Elements.{picked_in-some}
 use Rattle.expr_laws.proofs.pick.pick_at.Goals as goal
 

@@ -1,5 +1,5 @@
 use Rattle.leaf_core.specs.ExpressionView.{expression_of}
-use Rattle.law_patterns.proofs.Rows.{rewritten-answers}
+use Rattle.law_patterns.proofs.Sides.{rewritten-answers}
 use Rattle.law_patterns.proofs.rewrite.rewrite_expr.Goals as goal
 
 pub returns : goal.returns

@@ -1,5 +1,5 @@
 use Rattle.net_tree.specs.NetworkView.{tree_of}
-use Rattle.law_patterns.proofs.NetRows.{net_rewritten-answers}
+use Rattle.law_patterns.proofs.NetSides.{net_rewritten-answers}
 use Rattle.law_patterns.proofs.rewrite.rewrite_net.Goals as goal
 
 pub returns : goal.returns

@@ -1,0 +1,5 @@
+use Rattle.code_text.proofs.statement.push_part_call.Goals as goal
+
+pub returns : goal.returns
+returns c =
+    rw (c.address_of-part.ensures, c.moment_of-moment.ensures) at c.in_ok-push_call.ensures
