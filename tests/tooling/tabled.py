@@ -38,7 +38,7 @@ GOALS = [
     ("vote", None, [], {"middle": HOLDS}),
     ("squash", None, [], {"few": FALSE}),
     ("junction", FORGETS, [], {"safe": HOLDS}),
-    ("junction", FORGETS, ["--step", "1"], {"fair": 48}),
+    ("junction", FORGETS, ["--step", "1"], {"fair": FALSE}),
     ("cruise", None, [], {"modes": HOLDS, "wished": 1}),
     ("cruise", None, SANE, {"wished": HOLDS}),
 ]
