@@ -7,6 +7,9 @@ use Rattle.leaf_core.specs.declared.literal.Literal.TheVariants as C
 use Rattle.leaf_code.specs.Operation.{Operation}
 use Rattle.leaf_code.specs.Operation as O
 use Rattle.leaf_code.specs.Running as R
+use Rattle.leaf_code.specs.CodeOf.{put}
+use Rattle.leaf_code.specs.declared.emit.Binary.{Binary}
+use Rattle.leaf_code.specs.declared.emit.Binary.TheVariants as B
 use Rattle.leaf_code.specs.declared.operation.Operation as V
 use Rattle.leaf_code.specs.declared.operation.Operation.TheVariants as P
 use Rattle.leaf_code.specs.declared.operation.Step.{Step}
@@ -60,6 +63,16 @@ steps_in ss = map step_of ss
 -- the code that a `LeafCode` is
 abbrev pub leaf_of : LeafCode → R.LeafSteps
 leaf_of c = (steps_in c.steps.items, c.answer)
+
+-- one step more, of two registers
+abbrev pub put_binary : List R.Step → Binary → ℕ × ℕ → R.LeafSteps
+put_binary s B.Add r = put s int_ty (O.add r.0 r.1)
+put_binary s B.Sub r = put s int_ty (O.sub r.0 r.1)
+put_binary s B.Mul r = put s int_ty (O.mul r.0 r.1)
+put_binary s B.Less r = put s bool_ty (O.less r.0 r.1)
+put_binary s B.Equal r = put s bool_ty (O.equal r.0 r.1)
+put_binary s B.And r = put s bool_ty (O.and r.0 r.1)
+put_binary s B.Or r = put s bool_ty (O.or r.0 r.1)
 
 -- the steps of elements were added, and their registers behind others
 abbrev pub AddsElements : List R.Step × List ℕ → List R.Step → List ℕ → List ℕ → Type 0

@@ -10,14 +10,7 @@ ghost use Rattle.leaf_core.specs.Expression.{
   then_expr,
   pair_expr,
   neg,
-  add,
-  sub,
-  mul,
-  less,
-  equal,
   not_expr,
-  and_expr,
-  or_expr,
   if_expr,
   event_expr,
   on,
@@ -39,7 +32,7 @@ ghost use Rattle.leaf_code.specs.CodeOf.{
   type_at,
 };
 ghost use Rattle.leaf_code.specs.Operation as O;
-ghost use Rattle.leaf_code.specs.CodeView.{AddsElements, leaf_of, literal_in, literal_type, operation_of, steps_in};
+ghost use Rattle.leaf_code.specs.CodeView.{AddsElements, leaf_of, literal_in, literal_type, operation_of, put_binary, steps_in};
 
 use crate::operation::{LeafCode, Operation, Step};
 use leaf_core::{Expr, ExprChild, Exprs, Literal};
@@ -52,6 +45,18 @@ struct Around<'a> {
     alloc: Global,
     params: &'a [Ty],
     input: &'a Ty,
+}
+
+/// An operation on two registers whose type does not depend on theirs.
+#[derive(Clone, Copy)]
+enum Binary {
+    Add,
+    Sub,
+    Mul,
+    Less,
+    Equal,
+    And,
+    Or,
 }
 
 /// The code of an expression, under parameters of these types, at an input of this type. Of an
@@ -78,6 +83,28 @@ fn put(steps: &mut Vec<Step>, ty: Ty, operation: Operation) -> Result<usize, Mem
 {
     steps.push(Step { ty, operation })?;
     Ok(steps.len())
+}
+
+/// Adds an operation on two registers.
+fn put_binary(
+    operator: Binary,
+    registers: (usize, usize),
+    steps: &mut Vec<Step>,
+) -> Result<usize, Memory>
+    ensures { IfOk result (λ r. put_binary (steps_in steps.old.items) operator registers
+        ≡ (steps_in steps.new.items, r)) }
+{
+    let (j, k) = registers;
+    let (ty, operation) = match operator {
+        Binary::Add => (Ty::Int, Operation::Add(j, k)),
+        Binary::Sub => (Ty::Int, Operation::Sub(j, k)),
+        Binary::Mul => (Ty::Int, Operation::Mul(j, k)),
+        Binary::Less => (Ty::Bool, Operation::Less(j, k)),
+        Binary::Equal => (Ty::Bool, Operation::Equal(j, k)),
+        Binary::And => (Ty::Bool, Operation::And(j, k)),
+        Binary::Or => (Ty::Bool, Operation::Or(j, k)),
+    };
+    put(steps, ty, operation)
 }
 
 /// The type of a register, `Unit` if it isn't there.
@@ -166,14 +193,14 @@ fn emit(around: Around<'_>, e: &Expr, x: usize, steps: &mut Vec<Step>) -> Result
         Expr::Snd(a) => emit_right(around, a, x, steps),
         Expr::Then(f, g) => emit_then(around, f, g, x, steps),
         Expr::Neg(a) => emit_neg(around, a, x, steps),
-        Expr::Add(a, b) => emit_add(around, a, b, x, steps),
-        Expr::Sub(a, b) => emit_sub(around, a, b, x, steps),
-        Expr::Mul(a, b) => emit_mul(around, a, b, x, steps),
-        Expr::Less(a, b) => emit_less(around, a, b, x, steps),
-        Expr::Equal(a, b) => emit_equal(around, a, b, x, steps),
+        Expr::Add(a, b) => put_binary(Binary::Add, emit_two(around, a, b, x, steps)?, steps),
+        Expr::Sub(a, b) => put_binary(Binary::Sub, emit_two(around, a, b, x, steps)?, steps),
+        Expr::Mul(a, b) => put_binary(Binary::Mul, emit_two(around, a, b, x, steps)?, steps),
+        Expr::Less(a, b) => put_binary(Binary::Less, emit_two(around, a, b, x, steps)?, steps),
+        Expr::Equal(a, b) => put_binary(Binary::Equal, emit_two(around, a, b, x, steps)?, steps),
         Expr::Not(a) => emit_not(around, a, x, steps),
-        Expr::And(a, b) => emit_and(around, a, b, x, steps),
-        Expr::Or(a, b) => emit_or(around, a, b, x, steps),
+        Expr::And(a, b) => put_binary(Binary::And, emit_two(around, a, b, x, steps)?, steps),
+        Expr::Or(a, b) => put_binary(Binary::Or, emit_two(around, a, b, x, steps)?, steps),
         Expr::If(c, a, b) => emit_choice(around, c, a, b, x, steps),
         Expr::NoEvent(carried) => put_no_event(around.alloc, carried, steps),
         Expr::Event(a) => emit_event(around, a, x, steps),
@@ -341,91 +368,6 @@ fn emit_neg(
     put(steps, Ty::Int, Operation::Neg(j))
 }
 
-/// Adds a sum.
-#[cycle(emit)]
-fn emit_add(
-    around: Around<'_>,
-    a: &ExprChild,
-    b: &ExprChild,
-    x: usize,
-    steps: &mut Vec<Step>,
-) -> Result<usize, Memory>
-    ensures { IfOk result (λ r. emit (map type_of around.entry.params.now)
-        (type_of around.entry.input.now) (add a.now b.now) x (steps_in steps.old.items)
-        ≡ (steps_in steps.new.items, r)) }
-{
-    let (j, k) = emit_two(around, a, b, x, steps)?;
-    put(steps, Ty::Int, Operation::Add(j, k))
-}
-
-/// Adds a difference.
-#[cycle(emit)]
-fn emit_sub(
-    around: Around<'_>,
-    a: &ExprChild,
-    b: &ExprChild,
-    x: usize,
-    steps: &mut Vec<Step>,
-) -> Result<usize, Memory>
-    ensures { IfOk result (λ r. emit (map type_of around.entry.params.now)
-        (type_of around.entry.input.now) (sub a.now b.now) x (steps_in steps.old.items)
-        ≡ (steps_in steps.new.items, r)) }
-{
-    let (j, k) = emit_two(around, a, b, x, steps)?;
-    put(steps, Ty::Int, Operation::Sub(j, k))
-}
-
-/// Adds a product.
-#[cycle(emit)]
-fn emit_mul(
-    around: Around<'_>,
-    a: &ExprChild,
-    b: &ExprChild,
-    x: usize,
-    steps: &mut Vec<Step>,
-) -> Result<usize, Memory>
-    ensures { IfOk result (λ r. emit (map type_of around.entry.params.now)
-        (type_of around.entry.input.now) (mul a.now b.now) x (steps_in steps.old.items)
-        ≡ (steps_in steps.new.items, r)) }
-{
-    let (j, k) = emit_two(around, a, b, x, steps)?;
-    put(steps, Ty::Int, Operation::Mul(j, k))
-}
-
-/// Adds a comparison.
-#[cycle(emit)]
-fn emit_less(
-    around: Around<'_>,
-    a: &ExprChild,
-    b: &ExprChild,
-    x: usize,
-    steps: &mut Vec<Step>,
-) -> Result<usize, Memory>
-    ensures { IfOk result (λ r. emit (map type_of around.entry.params.now)
-        (type_of around.entry.input.now) (less a.now b.now) x (steps_in steps.old.items)
-        ≡ (steps_in steps.new.items, r)) }
-{
-    let (j, k) = emit_two(around, a, b, x, steps)?;
-    put(steps, Ty::Bool, Operation::Less(j, k))
-}
-
-/// Adds whether two values are the same.
-#[cycle(emit)]
-fn emit_equal(
-    around: Around<'_>,
-    a: &ExprChild,
-    b: &ExprChild,
-    x: usize,
-    steps: &mut Vec<Step>,
-) -> Result<usize, Memory>
-    ensures { IfOk result (λ r. emit (map type_of around.entry.params.now)
-        (type_of around.entry.input.now) (equal a.now b.now) x (steps_in steps.old.items)
-        ≡ (steps_in steps.new.items, r)) }
-{
-    let (j, k) = emit_two(around, a, b, x, steps)?;
-    put(steps, Ty::Bool, Operation::Equal(j, k))
-}
-
 /// Adds whether an expression isn't true.
 #[cycle(emit)]
 fn emit_not(
@@ -440,40 +382,6 @@ fn emit_not(
 {
     let j = emit_part(around, a, x, steps)?;
     put(steps, Ty::Bool, Operation::Not(j))
-}
-
-/// Adds whether both are true.
-#[cycle(emit)]
-fn emit_and(
-    around: Around<'_>,
-    a: &ExprChild,
-    b: &ExprChild,
-    x: usize,
-    steps: &mut Vec<Step>,
-) -> Result<usize, Memory>
-    ensures { IfOk result (λ r. emit (map type_of around.entry.params.now)
-        (type_of around.entry.input.now) (and_expr a.now b.now) x (steps_in steps.old.items)
-        ≡ (steps_in steps.new.items, r)) }
-{
-    let (j, k) = emit_two(around, a, b, x, steps)?;
-    put(steps, Ty::Bool, Operation::And(j, k))
-}
-
-/// Adds whether one or both are true.
-#[cycle(emit)]
-fn emit_or(
-    around: Around<'_>,
-    a: &ExprChild,
-    b: &ExprChild,
-    x: usize,
-    steps: &mut Vec<Step>,
-) -> Result<usize, Memory>
-    ensures { IfOk result (λ r. emit (map type_of around.entry.params.now)
-        (type_of around.entry.input.now) (or_expr a.now b.now) x (steps_in steps.old.items)
-        ≡ (steps_in steps.new.items, r)) }
-{
-    let (j, k) = emit_two(around, a, b, x, steps)?;
-    put(steps, Ty::Bool, Operation::Or(j, k))
 }
 
 /// Adds a choice.

@@ -1,5 +1,5 @@
 -- What is inside a tree: it is smaller, its number is low, and behind the last there is no more.
-use Rattle.std.proofs.Common.{◌≡◌, ℕ, zero, suc, ◌+◌, ◌≤◌, ◌<◌, Option, Some, None, option_map, refl, sym, ap, ◌∙◌, subst, arith}
+use Rattle.std.proofs.Common.{◌≡◌, ℕ, zero, suc, ◌+◌, ◌≤◌, ◌<◌, Option, Some, None, option_map, refl, sym, ap, subst, arith}
 use Rattle.std.specs.Prelude.{IfSome}
 use Rattle.leaf_core.specs.Expression.{Expression, Expressions, no_more, and_then, nodes_in, nodes_in_all}
 use Rattle.leaf_core.specs.Inside.{Inside, one, two, three, many, inside_of, inside_nodes}

@@ -1,7 +1,7 @@
 -- A law that was tried at a place and a step that was taken there.
-use Rattle.std.proofs.Common.{◌≡◌, inl, inr, ℕ, ◌+◌, ◌<◌, Bool, true, false, List, [], ◌∷◌, ◌++◌, length, map, Option, Some, None, Result, Ok, Err, IfOk, Contains, refl, sym, ap, ◌∙◌, subst, get_or, below_more, true≢false}
+use Rattle.std.proofs.Common.{◌≡◌, inl, inr, ℕ, ◌+◌, ◌<◌, Bool, true, false, List, [], ◌∷◌, ◌++◌, length, map, Option, Some, None, Result, Ok, Err, IfOk, refl, sym, ap, ◌∙◌, subst, get_or, below_more, true≢false}
 use Rattle.std.proofs.lemmas.List.{get_or_default, map-append}
-use Rattle.std.proofs.lemmas.Option.{none-some}
+use Rattle.std.proofs.lemmas.Option.{none-some, same_Some}
 use Rattle.leaf_core.specs.Expression.{Expression}
 use Rattle.net_tree.specs.Network.{Network}
 use Rattle.net_tree.specs.Place.{Tree, a_network, a_leaf}
@@ -14,10 +14,8 @@ use Rattle.net_tree.specs.declared.law_step.LawStep.{LawStep}
 use Rattle.net_tree.specs.declared.law_step.Law.{Law}
 use Rattle.net_tree.specs.declared.law_step.Law.TheVariants as L
 use Rattle.net_tree.specs.declared.law_step.Direction.TheVariants.{Forward}
-use Rattle.expr_laws.specs.ExpressionLaw.{ExpressionLaw}
 use Rattle.expr_laws.specs.Answer as E
 use Rattle.expr_laws.proofs.Numbers.{one_right_side}
-use Rattle.law_rules.specs.NetworkLaw.{NetworkLaw}
 use Rattle.law_rules.specs.Answer as N
 use Rattle.law_rules.proofs.Numbers.{one-right_side}
 use Rattle.cert_check.specs.TreeAnswer.{TreeAnswer}
@@ -26,74 +24,42 @@ use Rattle.std.proofs.lemmas.List.Elements.{All-nil, All-push}
 use Rattle.cert_check.proofs.Taken.{steps_more}
 use Rattle.cert_check.specs.Derives.{Answered, Next, Steps, no_step}
 use Rattle.net_opt.specs.Order.{Before}
-use Rattle.net_opt.specs.Optimising.{MayTake, NoneLeft, network_laws, expression_laws, forward_step, NoStepBy, FirstTriedLaw, IsFirst, FirstSteps, none_first, first_then}
+use Rattle.net_opt.specs.Optimising.{IsTried, MayTake, NoneLeft, network_laws, expression_laws, forward_step, NoStepBy, FirstTriedLaw, IsFirst, FirstSteps, none_first, first_then}
 use Rattle.net_opt.specs.Nesting.{IsTooHigh}
-use Rattle.net_opt.specs.Search.{StandsThere, ExpressionThere, NoMatchBy, OnlyTooHighBy, NotPut, Passed, PassedAt, FirstAt, FirstWithin, Takes, FoundStep, Puts}
+use Rattle.net_opt.specs.Search.{numbers_at, law_at, NoMatchBy, OnlyTooHighBy, NotPut, Passed, PassedAt, FirstAt, FirstWithin, Takes, FoundStep, Puts}
 use Rattle.net_opt.proofs.TooHigh.{too_high}
 
--- what is answered forward at a network by a law of networks, and that nothing else is
-record NetAnswer (n olds : ℕ) (f : Network Expression) (new : Tree Expression) : Type 0 where
-  right : Network Expression
-  is_law : NetworkLaw n olds f right
-  is : new ≡ a_network right
+-- what a law answers forward at a tree is one tree
+one_answer : (olds : ℕ) (law : Law) (u r s : Tree Expression) → TreeAnswer olds law Forward u None r → TreeAnswer olds law Forward u None s → r ≡ s
+one_answer olds law (a_network f) (a_network r) (a_network s) (N.forward_answer {n = n} x) (N.forward_answer y) = ap a_network (one-right_side n olds f r s x y)
+one_answer olds law (a_network f) (a_network r) (a_leaf s) x y = absurd y
+one_answer olds law (a_network f) (a_leaf r) s x y = absurd x
+one_answer olds law (a_leaf e) (a_leaf r) (a_leaf s) (E.forward_answer {n = n} x) (E.forward_answer y) = ap a_leaf (one_right_side n e r s x y)
+one_answer olds law (a_leaf e) (a_leaf r) (a_network s) x y = absurd y
+one_answer olds law (a_leaf e) (a_network r) s x y = absurd x
 
-net_answer : (n olds : ℕ) (f : Network Expression) (new : Tree Expression) → TreeAnswer olds (L.L n) Forward (a_network f) None new → NetAnswer n olds f new
-net_answer n olds f (a_network r) (N.forward_answer is_law) = record { right = r; is_law = is_law; is = refl }
-net_answer n olds f (a_leaf r) a = absurd a
+-- what is answered at a place
+answer_there : (t : TypedNetwork) (p : List ℕ) (c : Placed) (law : Law) (new : Tree Expression) → placed_at 0 0 (a_network t.net) p ≡ Some c
+    → Answered t (forward_step law p) new → TreeAnswer c.olds law Forward c.tree None new
+answer_there t p c law new there a =
+    subst (λ (d : Placed). TreeAnswer d.olds law Forward d.tree None new) (same_Some a.place c (sym a.found ∙ there)) a.answered
 
--- the same at an expression
-record LeafAnswer (n : ℕ) (e : Expression) (new : Tree Expression) : Type 0 where
-  right : Expression
-  is_law : ExpressionLaw n e right
-  is : new ≡ a_leaf right
-
-leaf_answer : (n olds : ℕ) (e : Expression) (new : Tree Expression) → TreeAnswer olds (L.E n) Forward (a_leaf e) None new → LeafAnswer n e new
-leaf_answer n olds e (a_leaf r) (E.forward_answer is_law) = record { right = r; is_law = is_law; is = refl }
-leaf_answer n olds e (a_network r) a = absurd a
-
--- what is answered at a place where u stands
-answer_there : (t : TypedNetwork) (p : List ℕ) (k n : ℕ) (u : Tree Expression) (law : Law) (new : Tree Expression)
-    → placed_at 0 0 (a_network t.net) p ≡ Some (placed k n u) → Answered t (forward_step law p) new → TreeAnswer n law Forward u None new
-answer_there t p k n u law new there a =
-    let same : a.place ≡ placed k n u = let found : placed_at 0 0 (a_network t.net) p ≡ Some a.place = a.found in cc in
-    subst (λ (c : Placed). TreeAnswer c.olds law Forward c.tree None new) same a.answered
+answered_once : (t : TypedNetwork) (p : List ℕ) (c : Placed) (law : Law) (new other : Tree Expression) → placed_at 0 0 (a_network t.net) p ≡ Some c
+    → TreeAnswer c.olds law Forward c.tree None new → Answered t (forward_step law p) other → other ≡ new
+answered_once t p c law new other there is a = one_answer c.olds law c.tree other new (answer_there t p c law other there a) is
 
 -- no step by a law whose right side can't stand there
-pub refused_net : (t : TypedNetwork) (p : List ℕ) (n j : ℕ) (f r : Network Expression) → StandsThere t p n (a_network f) → NetworkLaw j n f r
-    → ((u : TypedNetwork) → Rewrites t p (a_network r) u → ⊥) → NoStepBy t p (L.L j)
-refused_net t p n j f r s is_law refused = λ v next.
-    let a = net_answer j n f next.new (answer_there t p s.params n (a_network f) (L.L j) next.new s.there next.answered) in
-    let same : next.new ≡ a_network r = a.is ∙ ap a_network (one-right_side j n f a.right r a.is_law is_law) in
-    refused v (subst (λ w. Rewrites t p w v) same next.rewritten)
-
-pub refused_leaf : (t : TypedNetwork) (p : List ℕ) (j : ℕ) (e r : Expression) → ExpressionThere t p e → ExpressionLaw j e r
-    → ((u : TypedNetwork) → Rewrites t p (a_leaf r) u → ⊥) → NoStepBy t p (L.E j)
-refused_leaf t p j e r s is_law refused = λ v next.
-    let a = leaf_answer j s.0 e next.new (answer_there t p s.1.params s.0 (a_leaf e) (L.E j) next.new s.1.there next.answered) in
-    let same : next.new ≡ a_leaf r = a.is ∙ ap a_leaf (one_right_side j e a.right r a.is_law is_law) in
-    refused v (subst (λ w. Rewrites t p w v) same next.rewritten)
+pub refused_at : (t : TypedNetwork) (p : List ℕ) (c : Placed) (law : Law) (new : Tree Expression) → placed_at 0 0 (a_network t.net) p ≡ Some c
+    → TreeAnswer c.olds law Forward c.tree None new → ((u : TypedNetwork) → Rewrites t p new u → ⊥) → NoStepBy t p law
+refused_at t p c law new there is refused = λ v next.
+    refused v (subst (λ w. Rewrites t p w v) (answered_once t p c law new next.new there is next.answered) next.rewritten)
 
 -- a step is taken where the right side stands now
-pub taken_net : (t v : TypedNetwork) (p : List ℕ) (n j : ℕ) (f r : Network Expression) (s : Step) → StandsThere t p n (a_network f) → NetworkLaw j n f r
-    → Contains network_laws j → s ≡ forward_step (L.L j) p → Rewrites t p (a_network r) v → Takes t s v
-taken_net t v p n j f r s stands is_law tried is w = subst (λ s. Takes t s v) (sym is) (record {
+taken_at : (t v : TypedNetwork) (p : List ℕ) (c : Placed) (law : Law) (new : Tree Expression) (s : Step) → placed_at 0 0 (a_network t.net) p ≡ Some c
+    → TreeAnswer c.olds law Forward c.tree None new → IsTried law → s ≡ forward_step law p → Rewrites t p new v → Takes t s v
+taken_at t v p c law new s there answer tried is w = subst (λ s. Takes t s v) (sym is) (record {
   may = record { tried = tried; forward = refl; none_given = refl };
-  next = record {
-    new = a_network r;
-    answered = record { place = placed stands.params n (a_network f); found = stands.there; answered = N.forward_answer is_law };
-    rewritten = w;
-  };
-})
-
-pub taken_leaf : (t v : TypedNetwork) (p : List ℕ) (j : ℕ) (e r : Expression) (s : Step) → ExpressionThere t p e → ExpressionLaw j e r
-    → Contains expression_laws j → s ≡ forward_step (L.E j) p → Rewrites t p (a_leaf r) v → Takes t s v
-taken_leaf t v p j e r s stands is_law tried is w = subst (λ s. Takes t s v) (sym is) (record {
-  may = record { tried = tried; forward = refl; none_given = refl };
-  next = record {
-    new = a_leaf r;
-    answered = record { place = placed stands.1.params stands.0 (a_leaf e); found = stands.1.there; answered = E.forward_answer is_law };
-    rewritten = w;
-  };
+  next = record { new = new; answered = record { place = c; found = there; answered = answer }; rewritten = w };
 })
 
 -- at a network no law of expressions matches, at an expression none of networks
@@ -104,17 +70,6 @@ no_kind_net olds n f (a_leaf r) a = absurd a
 pub no_kind_leaf : (olds n : ℕ) (e : Expression) (new : Tree Expression) → TreeAnswer olds (L.L n) Forward (a_leaf e) None new → ⊥
 no_kind_leaf olds n e (a_leaf r) a = elim a [ ]
 no_kind_leaf olds n e (a_network r) a = absurd a
-
--- a law that answers nothing doesn't match
-no_answer_net : (olds n : ℕ) (f : Network Expression) (new : Tree Expression) → ((r : Network Expression) → N.NetworkAnswer (L.L n) Forward f None olds r → ⊥)
-    → TreeAnswer olds (L.L n) Forward (a_network f) None new → ⊥
-no_answer_net olds n f (a_network r) none a = none r a
-no_answer_net olds n f (a_leaf r) none a = absurd a
-
-no_answer_leaf : (olds n : ℕ) (e : Expression) (new : Tree Expression) → ((r : Expression) → E.ExpressionAnswer (L.E n) Forward e None r → ⊥)
-    → TreeAnswer olds (L.E n) Forward (a_leaf e) None new → ⊥
-no_answer_leaf olds n e (a_leaf r) none a = none r a
-no_answer_leaf olds n e (a_network r) none a = absurd a
 
 -- a law that doesn't match was passed, and one whose step was refused, and what was passed stays so
 pub unmatched : (b : Bool) (t : TypedNetwork) (p : List ℕ) (law : Law) → NoMatchBy t p law → Passed b t p law
@@ -133,28 +88,23 @@ pub passed_on : (a b : Bool) (t : TypedNetwork) (p : List ℕ) (law : Law) → (
 passed_on true b t p law on h = not_taken b t p law (on refl) h
 passed_on false b t p law on h = only_too_high b t p law h
 
-pub no_net_match : (b : Bool) (t : TypedNetwork) (p : List ℕ) (n j : ℕ) (f : Network Expression) → StandsThere t p n (a_network f)
-    → ((r : Network Expression) → N.NetworkAnswer (L.L j) Forward f None n r → ⊥) → Passed b t p (L.L j)
-no_net_match b t p n j f s none = unmatched b t p (L.L j) (λ new a.
-    no_answer_net n j f new none (answer_there t p s.params n (a_network f) (L.L j) new s.there a))
+pub no_match : (b : Bool) (t : TypedNetwork) (p : List ℕ) (c : Placed) (law : Law) → placed_at 0 0 (a_network t.net) p ≡ Some c
+    → ((new : Tree Expression) → TreeAnswer c.olds law Forward c.tree None new → ⊥) → Passed b t p law
+no_match b t p c law there none = unmatched b t p law (λ new a. none new (answer_there t p c law new there a))
 
-pub no_leaf_match : (b : Bool) (t : TypedNetwork) (p : List ℕ) (j : ℕ) (e : Expression) → ExpressionThere t p e
-    → ((r : Expression) → E.ExpressionAnswer (L.E j) Forward e None r → ⊥) → Passed b t p (L.E j)
-no_leaf_match b t p j e s none = unmatched b t p (L.E j) (λ new a.
-    no_answer_leaf s.0 j e new none (answer_there t p s.1.params s.0 (a_leaf e) (L.E j) new s.1.there a))
+-- the law that is tried at such a tree behind k others
+abbrev pub law_tried : Tree Expression → ℕ → Law
+law_tried u k = law_at u (get_or (numbers_at u) k 0)
 
--- where each law of networks that is tried was passed at a network, each that is tried was
-pub passed_at_net : (b : Bool) (t : TypedNetwork) (p : List ℕ) (n : ℕ) (f : Network Expression) → StandsThere t p n (a_network f)
-    → ((k : ℕ) → k < length network_laws → Passed b t p (L.L (get_or network_laws k 0))) → PassedAt b t p
-passed_at_net b t p n f s none (L.L j) tried = subst (λ i. Passed b t p (L.L i)) (get_or_default network_laws tried.0 0 j tried.1 ∙ tried.2) (none tried.0 tried.1)
-passed_at_net b t p n f s none (L.E j) tried = unmatched b t p (L.E j) (λ new a.
-    no_kind_net n j f new (answer_there t p s.params n (a_network f) (L.E j) new s.there a))
-
-pub passed_at_leaf : (b : Bool) (t : TypedNetwork) (p : List ℕ) (e : Expression) → ExpressionThere t p e
-    → ((k : ℕ) → k < length expression_laws → Passed b t p (L.E (get_or expression_laws k 0))) → PassedAt b t p
-passed_at_leaf b t p e s none (L.E j) tried = subst (λ i. Passed b t p (L.E i)) (get_or_default expression_laws tried.0 0 j tried.1 ∙ tried.2) (none tried.0 tried.1)
-passed_at_leaf b t p e s none (L.L j) tried = unmatched b t p (L.L j) (λ new a.
-    no_kind_leaf s.0 j e new (answer_there t p s.1.params s.0 (a_leaf e) (L.L j) new s.1.there a))
+-- where each law was passed that is tried at such a tree, each that is tried was
+pub passed_at : (b : Bool) (t : TypedNetwork) (p : List ℕ) (m n : ℕ) (u : Tree Expression) → placed_at 0 0 (a_network t.net) p ≡ Some (placed m n u)
+    → ((k : ℕ) → k < length (numbers_at u) → Passed b t p (law_tried u k)) → PassedAt b t p
+passed_at b t p m n (a_network f) there none (L.L j) tried =
+    subst (λ i. Passed b t p (L.L i)) (get_or_default network_laws tried.0 0 j tried.1 ∙ tried.2) (none tried.0 tried.1)
+passed_at b t p m n (a_leaf e) there none (L.E j) tried =
+    subst (λ i. Passed b t p (L.E i)) (get_or_default expression_laws tried.0 0 j tried.1 ∙ tried.2) (none tried.0 tried.1)
+passed_at b t p m n (a_network f) there none (L.E j) tried = no_match b t p (placed m n (a_network f)) (L.E j) there (no_kind_net n j f)
+passed_at b t p m n (a_leaf e) there none (L.L j) tried = no_match b t p (placed m n (a_leaf e)) (L.L j) there (no_kind_leaf n j e)
 
 -- a step that may be taken is the one by its law at its position
 step_is : (t : TypedNetwork) (s : Step) (may : MayTake s) (u : TypedNetwork) → Next t s u → Next t (forward_step s.law s.position) u
@@ -170,46 +120,25 @@ pub none_there : (b : Bool) (t : TypedNetwork) (p : List ℕ) → placed_at 0 0 
 none_there b t p is = λ law tried. unmatched b t p law (λ new a. none-some a.place (sym is ∙ a.found))
 
 -- what isn't put there was passed
-high_net : (t : TypedNetwork) (p : List ℕ) (n j : ℕ) (f r : Network Expression) → StandsThere t p n (a_network f) → NetworkLaw j n f r
-    → IsTooHigh (length p) (a_network r) → OnlyTooHighBy t p (L.L j)
-high_net t p n j f r s is_law high = λ new answered.
-    let a = net_answer j n f new (answer_there t p s.params n (a_network f) (L.L j) new s.there answered) in
-    let same : new ≡ a_network r = a.is ∙ ap a_network (one-right_side j n f a.right r a.is_law is_law) in
-    subst (IsTooHigh (length p)) (sym same) high
-
-not_put_net : (t : TypedNetwork) (p : List ℕ) (n j : ℕ) (f r : Network Expression) (a b : Bool) → StandsThere t p n (a_network f) → NetworkLaw j n f r
-    → NotPut t p (a_network r) a b → Passed b t p (L.L j)
-not_put_net t p n j f r a b s is_law (inl h) = not_taken b t p (L.L j) h.0 (refused_net t p n j f r s is_law h.1)
-not_put_net t p n j f r a b s is_law (inr h) = only_too_high b t p (L.L j) (high_net t p n j f r s is_law h.1)
-
-not_put_leaf : (t : TypedNetwork) (p : List ℕ) (j : ℕ) (e r : Expression) (a b : Bool) → ExpressionThere t p e → ExpressionLaw j e r
-    → NotPut t p (a_leaf r) a b → Passed b t p (L.E j)
-not_put_leaf t p j e r a b s is_law (inl h) = not_taken b t p (L.E j) h.0 (refused_leaf t p j e r s is_law h.1)
-not_put_leaf t p j e r a b s is_law (inr h) = absurd h.1
+not_put : (t : TypedNetwork) (p : List ℕ) (c : Placed) (law : Law) (new : Tree Expression) (a b : Bool) → placed_at 0 0 (a_network t.net) p ≡ Some c
+    → TreeAnswer c.olds law Forward c.tree None new → NotPut t p new a b → Passed b t p law
+not_put t p c law new a b there is (inl h) = not_taken b t p law h.0 (refused_at t p c law new there is h.1)
+not_put t p c law new a b there is (inr h) =
+    only_too_high b t p law (λ other x. subst (IsTooHigh (length p)) (sym (answered_once t p c law new other there is x)) h.1)
 
 -- what is put there by a law's right side is its step
-put_net : (t u : TypedNetwork) (p : List ℕ) (n j : ℕ) (f r : Network Expression) (a b : Bool) (o : Option LawStep) → StandsThere t p n (a_network f)
-    → Contains network_laws j → NetworkLaw j n f r → Puts (L.L j) t p (a_network r) u a b o → FoundStep (Passed b t p (L.L j)) (λ s. s ≡ forward_step (L.L j) p) t u o
-put_net t u p n j f r a b None s tried is_law h = (h.0, not_put_net t p n j f r a b s is_law h.1)
-put_net t u p n j f r a b (Some x) s tried is_law h = (taken_net t u p n j f r (step_of x) s is_law tried h.0 h.1, h.0)
-
-put_leaf : (t u : TypedNetwork) (p : List ℕ) (j : ℕ) (e r : Expression) (a b : Bool) (o : Option LawStep) → ExpressionThere t p e
-    → Contains expression_laws j → ExpressionLaw j e r → Puts (L.E j) t p (a_leaf r) u a b o → FoundStep (Passed b t p (L.E j)) (λ s. s ≡ forward_step (L.E j) p) t u o
-put_leaf t u p j e r a b None s tried is_law h = (h.0, not_put_leaf t p j e r a b s is_law h.1)
-put_leaf t u p j e r a b (Some x) s tried is_law h = (taken_leaf t u p j e r (step_of x) s is_law tried h.0 h.1, h.0)
+put_there : (t u : TypedNetwork) (p : List ℕ) (c : Placed) (law : Law) (new : Tree Expression) (a b : Bool) (o : Option LawStep)
+    → placed_at 0 0 (a_network t.net) p ≡ Some c → IsTried law → TreeAnswer c.olds law Forward c.tree None new → Puts law t p new u a b o
+    → FoundStep (Passed b t p law) (λ s. s ≡ forward_step law p) t u o
+put_there t u p c law new a b None there tried is h = (h.0, not_put t p c law new a b there is h.1)
+put_there t u p c law new a b (Some x) there tried is h = (taken_at t u p c law new (step_of x) there is tried h.0 h.1, h.0)
 
 -- the same of what the code answers
-pub net_step : (t u : TypedNetwork) (p : List ℕ) (n j : ℕ) (f r : Network Expression) (a b : Bool) (o : Result (Option LawStep) Memory)
-    → StandsThere t p n (a_network f) → Contains network_laws j → N.NetworkAnswer (L.L j) Forward f None n r → IfOk o (Puts (L.L j) t p (a_network r) u a b)
-    → IfOk o (FoundStep (Passed b t p (L.L j)) (λ s. s ≡ forward_step (L.L j) p) t u)
-net_step t u p n j f r a b (Ok o) s tried (N.forward_answer is_law) h = put_net t u p n j f r a b o s tried is_law h
-net_step t u p n j f r a b (Err m) s tried x h = tt
-
-pub leaf_step : (t u : TypedNetwork) (p : List ℕ) (j : ℕ) (e r : Expression) (a b : Bool) (o : Result (Option LawStep) Memory)
-    → ExpressionThere t p e → Contains expression_laws j → E.ExpressionAnswer (L.E j) Forward e None r → IfOk o (Puts (L.E j) t p (a_leaf r) u a b)
-    → IfOk o (FoundStep (Passed b t p (L.E j)) (λ s. s ≡ forward_step (L.E j) p) t u)
-leaf_step t u p j e r a b (Ok o) s tried (E.forward_answer is_law) h = put_leaf t u p j e r a b o s tried is_law h
-leaf_step t u p j e r a b (Err m) s tried x h = tt
+pub step_there : (t u : TypedNetwork) (p : List ℕ) (c : Placed) (law : Law) (new : Tree Expression) (a b : Bool) (o : Result (Option LawStep) Memory)
+    → placed_at 0 0 (a_network t.net) p ≡ Some c → IsTried law → TreeAnswer c.olds law Forward c.tree None new → IfOk o (Puts law t p new u a b)
+    → IfOk o (FoundStep (Passed b t p law) (λ s. s ≡ forward_step law p) t u)
+step_there t u p c law new a b (Ok o) there tried is h = put_there t u p c law new a b o there tried is h
+step_there t u p c law new a b (Err m) there tried is h = tt
 
 -- the steps so far with one more
 pub one_more : (t u v : TypedNetwork) (xs : List LawStep) (x : LawStep) → Steps t (map step_of xs) u → Takes u (step_of x) v → Steps t (map step_of (xs ++ x ∷ [])) v
@@ -246,39 +175,29 @@ pub found_some : (N : Type 0) (S : Step → Type 0) (t u : TypedNetwork) (o : Op
 found_some N S t u o x e h = subst (FoundStep N S t u) e h
 
 -- one law more was tried
-pub net_law_more : (a b : Bool) (t v : TypedNetwork) (p q : List ℕ) (i : ℕ) → (a ≡ true → b ≡ true) → v ≡ t → q ≡ p
-    → ((k : ℕ) → k < i → Passed a t p (L.L (get_or network_laws k 0))) → Passed b v q (L.L (get_or network_laws i 0))
-    → (k : ℕ) → k < i + 1 → Passed b t p (L.L (get_or network_laws k 0))
-net_law_more a b t v p q i on same way before here =
-    below_more (λ k. Passed b t p (L.L (get_or network_laws k 0))) i (λ k h. passed_on a b t p (L.L (get_or network_laws k 0)) on (before k h))
-    (subst (λ w. Passed b w p (L.L (get_or network_laws i 0))) same (subst (λ x. Passed b v x (L.L (get_or network_laws i 0))) way here))
-
-pub leaf_law_more : (a b : Bool) (t v : TypedNetwork) (p q : List ℕ) (i : ℕ) → (a ≡ true → b ≡ true) → v ≡ t → q ≡ p
-    → ((k : ℕ) → k < i → Passed a t p (L.E (get_or expression_laws k 0))) → Passed b v q (L.E (get_or expression_laws i 0))
-    → (k : ℕ) → k < i + 1 → Passed b t p (L.E (get_or expression_laws k 0))
-leaf_law_more a b t v p q i on same way before here =
-    below_more (λ k. Passed b t p (L.E (get_or expression_laws k 0))) i (λ k h. passed_on a b t p (L.E (get_or expression_laws k 0)) on (before k h))
-    (subst (λ w. Passed b w p (L.E (get_or expression_laws i 0))) same (subst (λ x. Passed b v x (L.E (get_or expression_laws i 0))) way here))
+pub law_more : (a b : Bool) (t v : TypedNetwork) (p q : List ℕ) (laws : ℕ → Law) (i : ℕ) → (a ≡ true → b ≡ true) → v ≡ t → q ≡ p
+    → ((k : ℕ) → k < i → Passed a t p (laws k)) → Passed b v q (laws i) → (k : ℕ) → k < i + 1 → Passed b t p (laws k)
+law_more a b t v p q laws i on same way before here =
+    below_more (λ k. Passed b t p (laws k)) i (λ k h. passed_on a b t p (laws k) on (before k h))
+    (subst (λ w. Passed b w p (laws i)) same (subst (λ x. Passed b v x (laws i)) way here))
 
 -- a step by the law that is tried now is the first there
-first_by : (b : Bool) (t v u : TypedNetwork) (p q : List ℕ) (law : Law) (s : Step) → v ≡ t → q ≡ p → FirstTriedLaw (Passed b t p) law → Takes v s u × (s ≡ forward_step law q)
-    → Takes t s u × FirstAt b t p s
-first_by b t v u p q law s same way first h = (
-  subst (λ w. Takes w s u) same h.0,
-  record { there = ap (λ (z : Step). z.position) h.1 ∙ way; first_law = subst (FirstTriedLaw (Passed b t p)) (sym (ap (λ (z : Step). z.law) h.1)) first },
+first_tried : (So : Law → Type 0) (u : Tree Expression) (i : ℕ) → i < length (numbers_at u) → ((k : ℕ) → k < i → So (law_tried u k))
+    → FirstTriedLaw So (law_tried u i)
+first_tried So (a_network f) i lt before = record { index = i; within = lt; is = refl; before = before }
+first_tried So (a_leaf e) i lt before = record { index = i; within = lt; is = refl; before = before }
+
+pub first_by : (a b : Bool) (t v w : TypedNetwork) (p q : List ℕ) (u : Tree Expression) (i : ℕ) (s : Step) → (a ≡ true → b ≡ true) → v ≡ t → q ≡ p
+    → i < length (numbers_at u) → ((k : ℕ) → k < i → Passed a t p (law_tried u k))
+    → Takes v s w × (s ≡ forward_step (law_tried u i) q) → Takes t s w × FirstAt b t p s
+first_by a b t v w p q u i s on same way lt before h = (
+  subst (λ x. Takes x s w) same h.0,
+  record {
+    there = ap (λ (z : Step). z.position) h.1 ∙ way;
+    first_law = subst (FirstTriedLaw (Passed b t p)) (sym (ap (λ (z : Step). z.law) h.1))
+        (first_tried (Passed b t p) u i lt (λ k l. passed_on a b t p (law_tried u k) on (before k l)));
+  },
 )
-
-pub first_net_law : (a b : Bool) (t v u : TypedNetwork) (p q : List ℕ) (i : ℕ) (s : Step) → (a ≡ true → b ≡ true) → v ≡ t → q ≡ p → i < length network_laws
-    → ((k : ℕ) → k < i → Passed a t p (L.L (get_or network_laws k 0))) → Takes v s u × (s ≡ forward_step (L.L (get_or network_laws i 0)) q) → Takes t s u × FirstAt b t p s
-first_net_law a b t v u p q i s on same way lt before h =
-    first_by b t v u p q (L.L (get_or network_laws i 0)) s same way
-    (record { index = i; within = lt; is = refl; before = λ k l. passed_on a b t p (L.L (get_or network_laws k 0)) on (before k l) }) h
-
-pub first_leaf_law : (a b : Bool) (t v u : TypedNetwork) (p q : List ℕ) (i : ℕ) (s : Step) → (a ≡ true → b ≡ true) → v ≡ t → q ≡ p → i < length expression_laws
-    → ((k : ℕ) → k < i → Passed a t p (L.E (get_or expression_laws k 0))) → Takes v s u × (s ≡ forward_step (L.E (get_or expression_laws i 0)) q) → Takes t s u × FirstAt b t p s
-first_leaf_law a b t v u p q i s on same way lt before h =
-    first_by b t v u p q (L.E (get_or expression_laws i 0)) s same way
-    (record { index = i; within = lt; is = refl; before = λ k l. passed_on a b t p (L.E (get_or expression_laws k 0)) on (before k l) }) h
 
 -- the first of the walk from the root is the first of all
 first_law_on : (b : Bool) (t : TypedNetwork) (p : List ℕ) (law : Law) → FirstTriedLaw (Passed b t p) law → FirstTriedLaw (NoStepBy t p) law

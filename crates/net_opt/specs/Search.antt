@@ -2,26 +2,27 @@
 use Rattle.std.specs.Prelude.{◌≡◌, ◌⊎◌, ℕ, Bool, true, false, List, ◌++◌, length, Option, Some, None}
 use Rattle.leaf_core.specs.Expression.{Expression}
 use Rattle.net_tree.specs.Place.{Tree, a_network, a_leaf}
-use Rattle.net_syntax.specs.Placed.{placed, placed_at}
 use Rattle.net_meaning.specs.TypedNetwork.{TypedNetwork}
 use Rattle.net_tree.specs.LawStep.{Step, step_of}
 use Rattle.net_tree.specs.declared.law_step.LawStep.{LawStep}
 use Rattle.net_tree.specs.declared.law_step.Law.{Law}
+use Rattle.net_tree.specs.declared.law_step.Law.TheVariants as L
 use Rattle.net_syntax.specs.Rewriting.{Rewrites}
 use Rattle.net_types.specs.Answered.{NoRewriting}
 use Rattle.cert_check.specs.Derives.{Answered, Next}
-use Rattle.net_opt.specs.Optimising.{IsTried, MayTake, forward_step, NoStepBy, FirstTriedLaw}
+use Rattle.net_opt.specs.Optimising.{network_laws, expression_laws, IsTried, MayTake, forward_step, NoStepBy, FirstTriedLaw}
 use Rattle.net_opt.specs.Nesting.{IsTooHigh}
 use Rattle.net_opt.specs.Order.{Before, LeftOf}
 
--- what stands at the position, with so many frozen networks in scope
-pub record StandsThere (t : TypedNetwork) (p : List ℕ) (n : ℕ) (u : Tree Expression) : Type 0 where
-  pub params : ℕ
-  pub there : placed_at 0 0 (a_network t.net) p ≡ Some (placed params n u)
+-- the numbers of the laws that are tried at such a tree, in this order
+abbrev pub numbers_at : Tree Expression → List ℕ
+numbers_at (a_network f) = network_laws
+numbers_at (a_leaf e) = expression_laws
 
--- the same of an expression, whatever is in scope
-abbrev pub ExpressionThere : TypedNetwork → List ℕ → Expression → Type 0
-ExpressionThere t p e = (n : ℕ) × StandsThere t p n (a_leaf e)
+-- the law of the number among those of the tree's kind
+abbrev pub law_at : Tree Expression → ℕ → Law
+law_at (a_network f) n = L.L n
+law_at (a_leaf e) n = L.E n
 
 -- the law doesn't match what stands at the position
 abbrev pub NoMatchBy : TypedNetwork → List ℕ → Law → Type 0

@@ -1,25 +1,20 @@
 // A step at a place.
 
 ghost use Rattle.std.specs.Prelude.{◌≡◌, IfOk, Some};
-ghost use Rattle.std.specs.List.{Contains};
-ghost use Rattle.leaf_core.specs.ExpressionView.{expression_of};
 ghost use Rattle.net_syntax.specs.ChildParts.{seen_place};
-ghost use Rattle.net_tree.specs.LawStep.{part_of};
-ghost use Rattle.net_tree.specs.NetworkView.{tree_of};
+ghost use Rattle.net_tree.specs.LawStep.{part_of, seen};
 ghost use Rattle.net_tree.specs.Place.{a_network};
 ghost use Rattle.net_syntax.specs.Placed.{placed_at};
-ghost use Rattle.net_tree.specs.declared.law_step.Law.TheVariants as V;
-ghost use Rattle.net_opt.specs.Optimising.{expression_laws, forward_step, network_laws};
-ghost use Rattle.net_opt.specs.Search.{ExpressionThere, FirstAt, FoundStep, Passed, PassedAt, Puts, StandsThere};
+ghost use Rattle.net_opt.specs.Optimising.{IsTried, forward_step};
+ghost use Rattle.net_opt.specs.Search as S;
+ghost use Rattle.net_opt.specs.Search.{FirstAt, FoundStep, Passed, PassedAt, Puts};
 ghost use Rattle.net_opt.specs.Walk.{KeepsWalk};
 
 use crate::nesting::is_too_high;
 use crate::walk::Walk;
-use expr_laws::apply_expr;
-use law_rules::apply_law;
-use leaf_core::Expr;
+use cert_check::answer_at;
 use net_syntax::{Place, TypedNet};
-use net_tree::{Direction, Law, LawStep, Net, Position, Tree, TreeRef};
+use net_tree::{Direction, Law, LawStep, Position, Tree, TreeRef};
 use net_types::{Rewritten, rewrite};
 use sample_core::Memory;
 use std::alloc::Global;
@@ -47,100 +42,54 @@ pub(crate) fn step_at(
         (FirstAt walk.new.refused typed.old walk.old.path.items)
         typed.old typed.new) }
 {
-    match place.tree {
-        TreeRef::Net(net) => step_at_net(alloc, typed, walk, net, place.olds),
-        TreeRef::Expr(expr) => step_at_expr(alloc, typed, walk, expr),
-    }
-}
-
-/// Takes the first step at a network.
-fn step_at_net(
-    alloc: Global,
-    typed: &mut TypedNet,
-    walk: &mut Walk,
-    net: &Net<Expr>,
-    olds: u32,
-) -> Result<Option<LawStep>, Memory>
-    requires { StandsThere typed.old walk.old.path.items olds (a_network (tree_of net.now)) }
-    ensures keeps { KeepsWalk walk.old walk.new }
-    ensures found { IfOk result (FoundStep
-        (PassedAt walk.new.refused typed.old walk.old.path.items)
-        (FirstAt walk.new.refused typed.old walk.old.path.items)
-        typed.old typed.new) }
-{
-    for number in NETWORK_LAWS {
-        if let Some(step) = step_by_net_law(alloc, typed, walk, net, olds, number)? {
+    for number in numbers_at(place.tree) {
+        let law = law_at(place.tree, *number);
+        if let Some(step) = step_by_law(alloc, typed, walk, place, law)? {
             return Ok(Some(step));
         }
     }
     Ok(None)
 }
 
-/// Takes the first step at an expression.
-fn step_at_expr(
-    alloc: Global,
-    typed: &mut TypedNet,
-    walk: &mut Walk,
-    expr: &Expr,
-) -> Result<Option<LawStep>, Memory>
-    requires { ExpressionThere typed.old walk.old.path.items (expression_of expr.now) }
-    ensures keeps { KeepsWalk walk.old walk.new }
-    ensures found { IfOk result (FoundStep
-        (PassedAt walk.new.refused typed.old walk.old.path.items)
-        (FirstAt walk.new.refused typed.old walk.old.path.items)
-        typed.old typed.new) }
+/// The numbers of the laws that are tried at such a tree, in this order.
+fn numbers_at(tree: TreeRef<'_>) -> &'static [u8]
+    ensures { result.now ≡ S.numbers_at (seen tree.entry) }
 {
-    for number in EXPRESSION_LAWS {
-        if let Some(step) = step_by_expr_law(alloc, typed, walk, expr, number)? {
-            return Ok(Some(step));
-        }
-    }
-    Ok(None)
-}
-
-/// Takes the step by this law of networks where the walk is and this network stands.
-fn step_by_net_law(
-    alloc: Global,
-    typed: &mut TypedNet,
-    walk: &mut Walk,
-    net: &Net<Expr>,
-    olds: u32,
-    number: u8,
-) -> Result<Option<LawStep>, Memory>
-    requires stands { StandsThere typed.old walk.old.path.items olds (a_network (tree_of net.now)) }
-    requires tried { Contains network_laws number }
-    ensures keeps { KeepsWalk walk.old walk.new }
-    ensures found { IfOk result (FoundStep
-        (Passed walk.new.refused typed.old walk.old.path.items (V.L number))
-        (λ s. s ≡ forward_step (V.L number) walk.old.path.items)
-        typed.old typed.new) }
-{
-    let law = Law::L(number);
-    match apply_law(alloc, law, Direction::Forward, net, None, olds)? {
-        Some(right) => put(alloc, typed, walk, law, Tree::Net(right)),
-        None => Ok(None),
+    match tree {
+        TreeRef::Net(_) => &NETWORK_LAWS,
+        TreeRef::Expr(_) => &EXPRESSION_LAWS,
     }
 }
 
-/// Takes the step by this law of expressions where the walk is and this expression stands.
-fn step_by_expr_law(
+/// The law of the number among those of the tree's kind.
+fn law_at(tree: TreeRef<'_>, number: u8) -> Law
+    ensures { result ≡ S.law_at (seen tree.entry) number }
+{
+    match tree {
+        TreeRef::Net(_) => Law::L(number),
+        TreeRef::Expr(_) => Law::E(number),
+    }
+}
+
+/// Takes the step by this law where the walk is, at this place.
+fn step_by_law(
     alloc: Global,
     typed: &mut TypedNet,
     walk: &mut Walk,
-    expr: &Expr,
-    number: u8,
+    place: Place<'_>,
+    law: Law,
 ) -> Result<Option<LawStep>, Memory>
-    requires stands { ExpressionThere typed.old walk.old.path.items (expression_of expr.now) }
-    requires tried { Contains expression_laws number }
+    requires stands { placed_at 0 0 (a_network typed.old.net) walk.old.path.items
+        ≡ Some (seen_place place) }
+    requires tried { IsTried law }
     ensures keeps { KeepsWalk walk.old walk.new }
     ensures found { IfOk result (FoundStep
-        (Passed walk.new.refused typed.old walk.old.path.items (V.E number))
-        (λ s. s ≡ forward_step (V.E number) walk.old.path.items)
+        (Passed walk.new.refused typed.old walk.old.path.items law)
+        (λ s. s ≡ forward_step law walk.old.path.items)
         typed.old typed.new) }
 {
-    let law = Law::E(number);
-    match apply_expr(alloc, law, Direction::Forward, expr, None)? {
-        Some(right) => put(alloc, typed, walk, law, Tree::Expr(right)),
+    match answer_at(alloc, law, Direction::Forward, place, None)? {
+        Some(right) => put(alloc, typed, walk, law, right),
         None => Ok(None),
     }
 }

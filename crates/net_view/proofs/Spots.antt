@@ -36,6 +36,7 @@ use Rattle.net_opt.specs.Optimising.{forward_step}
 use Rattle.net_opt.specs.Order.{Before}
 use Rattle.net_opt.specs.Walk.{Reached}
 use Rattle.net_opt.proofs.Insides.{inside}
+use Rattle.net_opt.proofs.Tried.{refused_at}
 use Rattle.net_opt.proofs.Walked.{found_inside, placed_here, reached_inside}
 use Rattle.net_view.specs.Listed.{InOrder, Lists, AddsPositions, IsInside}
 use Rattle.net_view.specs.Possible.{Possible, EarlierStep, earlier_position, IsFoundBy, IsPossible, ListsSteps, ArePossible, ArePossibleAt, MayBeTaken, changing, possible_of}
@@ -44,7 +45,7 @@ use Rattle.net_view.specs.Walked.{inside_tree}
 use Rattle.net_view.specs.declared.possible.PossibleStep.{PossibleStep}
 use Rattle.net_view.proofs.Listings.{order_mapped, lists_same, lists_joined}
 use Rattle.net_view.proofs.Paths.{IsUpTo, inside_at, none_below, order_behind, paths_begin, paths_more, paths_end, found_positions, no_positions}
-use Rattle.net_view.proofs.Stepping.{steps_in, no_positions_yet, steps_more, all_possible, untyped_by}
+use Rattle.net_view.proofs.Stepping.{steps_in, no_positions_yet, steps_more, all_possible}
 use Rattle.net_view.proofs.Putting.{Has, Put, what_is_there, part_put}
 use Rattle.net_view.proofs.Heavier.{whole_times, whole_light}
 use Rattle.net_view.proofs.Higher.{whole_rises, whole_low}
@@ -377,7 +378,7 @@ found_by t p law c new found r answer may is =
 
 pub none_by : (t : TypedNetwork) (p : List ℕ) (law : Law) (c : Placed) (new : Tree Expression) → Reached t p c → TreeAnswer c.olds law Forward c.tree None new
     → MayStand t p new false → IsFoundBy t p law None
-none_by t p law c new r answer may = untyped_by t p c.params c.olds c.tree new law r.stands answer may
+none_by t p law c new r answer may = refused_at t p c law new r.stands answer may
 
 -- and none where it has no answer
 pub unanswered : (t : TypedNetwork) (p : List ℕ) (law : Law) (c : Placed) (answer : Option C.Tree) → Reached t p c → answer ≡ None

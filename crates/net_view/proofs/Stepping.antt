@@ -5,7 +5,7 @@ use Rattle.std.proofs.lemmas.List.{map-append}
 use Rattle.std.proofs.lemmas.List.Elements.{All-nil, All-append, All-push, All-contains, Contains-append_left, Contains-push_cases, Contains-push}
 use Rattle.leaf_core.specs.Expression.{Expression}
 use Rattle.net_tree.specs.Place.{Tree, a_network, a_leaf}
-use Rattle.net_syntax.specs.Placed.{Placed, placed, placed_at}
+use Rattle.net_syntax.specs.Placed.{Placed}
 use Rattle.net_tree.specs.LawStep.{Step}
 use Rattle.net_meaning.specs.TypedNetwork.{TypedNetwork}
 use Rattle.net_tree.specs.declared.law_step.Law.{Law}
@@ -16,9 +16,7 @@ use Rattle.expr_laws.proofs.Numbers.{law_numbers}
 use Rattle.law_rules.specs.Answer as N
 use Rattle.law_rules.proofs.Numbers.{law-numbers}
 use Rattle.cert_check.specs.TreeAnswer.{TreeAnswer}
-use Rattle.net_syntax.specs.Rewriting.{Rewrites}
 use Rattle.cert_check.specs.Derives.{Next}
-use Rattle.net_opt.proofs.Tried.{refused_net, refused_leaf}
 use Rattle.net_opt.specs.Order.{Before}
 use Rattle.net_opt.specs.Optimising.{forward_step, NoStepBy}
 use Rattle.net_text.specs.CertificatePrinting.{IsLaw}
@@ -179,18 +177,6 @@ all_possible t p ps xs all h = record {
       (λ s b. (b.0, all.every s.position (b.1, there_at t s b.0))) (steps_in xs) h.all;
   each = h.each;
 }
-
--- what a check refuses doesn't lead on
-pub untyped_by : (t : TypedNetwork) (p : List ℕ) (m n : ℕ) (u new : Tree Expression) (law : Law) → placed_at 0 0 (a_network t.net) p ≡ Some (placed m n u)
-    → TreeAnswer n law Forward u None new → ((v : TypedNetwork) → Rewrites t p new v → ⊥) → NoStepBy t p law
-untyped_by t p m n (a_network f) (a_network r) (L.L j) there (N.forward_answer is_law) refused =
-    refused_net t p n j f r (record { params = m; there = there }) is_law refused
-untyped_by t p m n (a_network f) (a_network r) (L.E j) there a refused = elim a [ ]
-untyped_by t p m n (a_network f) (a_leaf r) law there a refused = absurd a
-untyped_by t p m n (a_leaf e) (a_leaf r) (L.E j) there (E.forward_answer is_law) refused =
-    refused_leaf t p j e r (n, record { params = m; there = there }) is_law refused
-untyped_by t p m n (a_leaf e) (a_leaf r) (L.L j) there a refused = elim a [ ]
-untyped_by t p m n (a_leaf e) (a_network r) law there a refused = absurd a
 
 pub found_more : (t : TypedNetwork) (p : List ℕ) (k : ℕ) (law : Law) (items now : List PossibleStep) (found : Option PossibleStep) (x : PossibleStep) → law_rank law ≡ k + 1
     → IsLaw law → IsFoundBy t p law (option_map possible_of found) → found ≡ Some x → now ≡ items ++ x ∷ [] → ListsSteps t (ByLaws t p k) (map possible_of items)

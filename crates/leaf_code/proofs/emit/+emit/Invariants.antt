@@ -20,20 +20,11 @@ invariant-emit_elements-loop-e l =
 abbrev pub decreases-emit : goal.decreases-emit
 decreases-emit l = 8 * expr_nodes l.e.now + 1
 
-abbrev pub decreases-emit_add : goal.decreases-emit_add
-decreases-emit_add l = 8 * (nodes_in l.a.now + nodes_in l.b.now) + 4
-
-abbrev pub decreases-emit_and : goal.decreases-emit_and
-decreases-emit_and l = 8 * (nodes_in l.a.now + nodes_in l.b.now) + 4
-
 abbrev pub decreases-emit_choice : goal.decreases-emit_choice
 decreases-emit_choice l = 8 * (nodes_in l.c.now + nodes_in l.a.now + nodes_in l.b.now) + 4
 
 abbrev pub decreases-emit_elements : goal.decreases-emit_elements
 decreases-emit_elements l = 8 * exprs_nodes (map expression_of l.all.now) + 2
-
-abbrev pub decreases-emit_equal : goal.decreases-emit_equal
-decreases-emit_equal l = 8 * (nodes_in l.a.now + nodes_in l.b.now) + 4
 
 abbrev pub decreases-emit_event : goal.decreases-emit_event
 decreases-emit_event l = 8 * nodes_in l.a.now + 3
@@ -44,14 +35,8 @@ decreases-emit_left l = 8 * nodes_in l.a.now + 3
 abbrev pub decreases-emit_len : goal.decreases-emit_len
 decreases-emit_len l = 8 * nodes_in l.a.now + 3
 
-abbrev pub decreases-emit_less : goal.decreases-emit_less
-decreases-emit_less l = 8 * (nodes_in l.a.now + nodes_in l.b.now) + 4
-
 abbrev pub decreases-emit_list : goal.decreases-emit_list
 decreases-emit_list l = 8 * exprs_nodes l.all.now + 4
-
-abbrev pub decreases-emit_mul : goal.decreases-emit_mul
-decreases-emit_mul l = 8 * (nodes_in l.a.now + nodes_in l.b.now) + 4
 
 abbrev pub decreases-emit_neg : goal.decreases-emit_neg
 decreases-emit_neg l = 8 * nodes_in l.a.now + 3
@@ -65,9 +50,6 @@ decreases-emit_nth l = 8 * (nodes_in l.a.now + nodes_in l.i.now + nodes_in l.d.n
 abbrev pub decreases-emit_on : goal.decreases-emit_on
 decreases-emit_on l = 8 * (nodes_in l.a.now + nodes_in l.d.now + nodes_in l.b.now) + 4
 
-abbrev pub decreases-emit_or : goal.decreases-emit_or
-decreases-emit_or l = 8 * (nodes_in l.a.now + nodes_in l.b.now) + 4
-
 abbrev pub decreases-emit_pair : goal.decreases-emit_pair
 decreases-emit_pair l = 8 * (nodes_in l.a.now + nodes_in l.b.now) + 4
 
@@ -76,9 +58,6 @@ decreases-emit_part l = 8 * nodes_in l.a.now + 2
 
 abbrev pub decreases-emit_right : goal.decreases-emit_right
 decreases-emit_right l = 8 * nodes_in l.a.now + 3
-
-abbrev pub decreases-emit_sub : goal.decreases-emit_sub
-decreases-emit_sub l = 8 * (nodes_in l.a.now + nodes_in l.b.now) + 4
 
 abbrev pub decreases-emit_then : goal.decreases-emit_then
 decreases-emit_then l = 8 * (nodes_in l.f.now + nodes_in l.g.now) + 3
