@@ -1,9 +1,9 @@
 // The queue of a `delay` starts and steps.
 
-ghost use Rattle.std.specs.Prelude.{◌≡◌, ◌+◌, ◌<◌, ◌^◌, ◌∷◌, [], reverse, IfOk, OnOk, length};
+ghost use Rattle.std.specs.Prelude.{◌≡◌, ◌+◌, ◌<◌, ◌∷◌, [], reverse, IfOk, OnOk, length};
 ghost use Rattle.sample_core.specs.ValueView.{datum_of};
 ghost use Rattle.cell_core.specs.{Cell.cell_step, CellView.cell_of, CellView.outcome_of};
-ghost use Rattle.cell_core.specs.Delays.{delay_of, queue_of, Follows, IsJoined, IsTurnedOver, IsGathered};
+ghost use Rattle.cell_core.specs.Delays.{delay_of, queue_of, IsJoined, IsTurnedOver, IsGathered};
 ghost use Rattle.cell_core.specs.{Earlier.back_of, Entries.entries_of, Queue.IsRenewed, Queue.Gathers};
 ghost use Rattle.cell_core.specs.Start.{cell_start};
 

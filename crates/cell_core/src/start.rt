@@ -1,8 +1,8 @@
 // How each form starts.
 
 ghost use Rattle.std.specs.Prelude.{◌≡◌, ◌≤◌, IfOk};
-ghost use Rattle.sample_core.specs.{Datum.unit, Datum.int_of, ValueView.datum_of};
-ghost use Rattle.cell_core.specs.{CellView.cell_of, CellView.outcome_of, Start.cell_start};
+ghost use Rattle.sample_core.specs.{Datum.unit, ValueView.datum_of};
+ghost use Rattle.cell_core.specs.{CellView.outcome_of, Start.cell_start};
 
 use crate::cell::Cell;
 use crate::form::Form;
@@ -59,16 +59,5 @@ pub(crate) fn time() -> (Cell, Sample)
 pub(crate) fn integral(sample: &Sample) -> (Cell, Sample)
     ensures { outcome_of result ≡ cell_start Form.Integral unit (datum_of sample.now) }
 {
-    (Cell::Integral(0, whole_of(sample)), Sample::Int(0))
-}
-
-/// The number of an `Int`; 0 of another value.
-#[inline(always)]
-pub(crate) fn whole_of(sample: &Sample) -> i64
-    ensures { result ≡ int_of (datum_of sample.now) }
-{
-    match sample {
-        Sample::Int(n) => *n,
-        _ => 0,
-    }
+    (Cell::Integral(0, sample.number()), Sample::Int(0))
 }

@@ -10,7 +10,6 @@ ghost use Rattle.cell_core.specs.Cell.{cell_step, previous, latest as holding, a
 
 use crate::cell::Cell;
 use crate::recurring::Recurring;
-use crate::start::whole_of;
 use sample_core::{Memory, Sample, SampleChild};
 use std::alloc::Global;
 use std::rc::Rc;
@@ -263,7 +262,7 @@ pub(crate) fn integral(
         ≡ cell_step (summing sum before) (dt, datum_of sample.now) }
 {
     let sum = wrapped_area(sum, before, dt);
-    place.put(Cell::Integral(sum, whole_of(sample)));
+    place.put(Cell::Integral(sum, sample.number()));
     out.put_int(sum);
 }
 

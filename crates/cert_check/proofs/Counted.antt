@@ -5,7 +5,7 @@ use Rattle.leaf_core.specs.Expression.{Expression}
 use Rattle.net_tree.specs.Network.{Network, Networks, no_members, and_member}
 use Rattle.net_meaning.specs.Typing.{Arrow, arrow, copies, members}
 use Rattle.net_tree.specs.Place as P
-use Rattle.net_tree.specs.Place.{Tree, a_network, a_leaf, p_switch_child, member_child, event_child, continuation_child}
+use Rattle.net_tree.specs.Place.{Tree, a_leaf, p_switch_child, member_child}
 use Rattle.net_syntax.specs.Placed.{Bound, bound_in, bound_behind, bound_started, placed, placed_at}
 use Rattle.net_syntax.specs.Standing.{Standing, ChildStands, continuation_in_switch, continuation_in_r_switch, continuation_in_k_switch, member_in_p_switch, event_in_p_switch, continuation_in_p_switch, member_in_rp_switch, choice_in_rp_switch, continuation_in_rp_switch, StandsAt, at_network, inside_network, inside_expression}
 use Rattle.net_syntax.proofs.Children.{event_is, continuation_is}

@@ -2,14 +2,14 @@
 use Rattle.std.proofs.Common.{◌≡◌, ◌≤◌, ◌<◌, ◌^◌, ◌+◌, ℕ, zero, suc, pos, if◌then◌else◌, List, [], ◌∷◌, ◌++◌, map, length, take, get_or, Option, Some, None, refl, sym, ap, ◌∙◌, arith, subst, append-nil, append_assoc, length-take, min}
 use Rattle.std.proofs.lemmas.List.{length-map}
 use Rattle.std.specs.List.{slice_get}
-use Rattle.sample_core.specs.Datum.{Datum, Datums, unit, int, pair, list, left, right, list_of, elements}
+use Rattle.sample_core.specs.Datum.{Datum, Datums, unit, int, pair, list, left, right, list_of, elements, items_of}
 use Rattle.sample_core.specs.TypeTree.{TypeTree, unit_ty, int_ty, pair_ty, event_ty, list_ty}
 use Rattle.leaf_core.specs.declared.expr.Expr.{Expr}
 use Rattle.leaf_core.specs.ExpressionView.{expression_of}
 use Rattle.leaf_code.specs.Fitting.{Bounds, Fits, AllFit, unit_fits, int_fits, pair_fits, no_event_fits, event_fits, list_fits, end_fits, more_fits, ParamsFit, no_param, and_param, LeafFits}
 use Rattle.leaf_code.proofs.Fitting.{left-fits, right-fits, leaf-fits}
 use Rattle.net_tree.specs.Network.{Timing, at_once, delayed}
-use Rattle.net_meaning.specs.SignalFunction.{item_at, item_named, items_named, items_of}
+use Rattle.net_meaning.specs.SignalFunction.{item_at, item_named, items_named}
 use Rattle.cell_core.specs.Cell.{Cell, accumulator_of}
 use Rattle.cell_core.specs.declared.form.Form.TheVariants as C
 use Rattle.net_machine.specs.Store.{Moment, start, step, Store, Origin, written, made, Entry, entries, stored, nothing, both as two_parts, mode as moded, frozen as kept_frozen, one, other, fed_value, looped, mode_of, front_part, taker_part, frozen_when, frozen_part, resumer_part, cell_in}

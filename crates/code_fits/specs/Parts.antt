@@ -1,6 +1,5 @@
 -- What is tested of the parts of a switch, whose types are numbers in a table.
 use Rattle.std.specs.Prelude.{◌≡◌, ℕ, List, [], ◌∷◌, ◌++◌, map, slice_get, Some}
-use Rattle.sample_core.specs.TypeTree.{TypeTree}
 use Rattle.code_fits.specs.declared.types.Types.{Types}
 use Rattle.code_fits.specs.declared.types.TypeEntry.TheVariants as R
 use Rattle.code_fits.specs.declared.layout.Layout.{Layout}

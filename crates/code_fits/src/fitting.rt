@@ -1,6 +1,6 @@
 // Whether the functions of a program fit their layouts.
 
-ghost use Rattle.std.specs.Prelude.{◌≡◌, IfOk, slice_get, Some};
+ghost use Rattle.std.specs.Prelude.{◌≡◌, IfOk, Some};
 ghost use Rattle.sample_core.specs.TypeView.{type_of};
 ghost use Rattle.code_fits.specs.Rules.{AllBelow};
 ghost use Rattle.code_fits.specs.Programs.{HasWhole};

@@ -1,5 +1,5 @@
 -- The C of a network: a file.
-use Rattle.std.specs.Prelude.{ℕ, suc, ◌-◌, Bool, true, false, if◌then◌else◌, List, [], ◌∷◌, ◌++◌, codes, length, map, slice_get, Option, Some, None}
+use Rattle.std.specs.Prelude.{ℕ, suc, ◌-◌, if◌then◌else◌, List, [], ◌∷◌, ◌++◌, codes, length, map, slice_get, Option, Some, None}
 use Rattle.sample_core.specs.TypeTree.{TypeTree, unit_ty}
 use Rattle.sample_core.specs.TypeView.{type_of}
 use Rattle.net_code.specs.declared.statement.Function.{Function}

@@ -1,5 +1,5 @@
 -- The C of a function: its leaves, and its statements.
-use Rattle.std.specs.Prelude.{ℕ, zero, suc, ◌+◌, Bool, true, false, List, [], ◌∷◌, ◌++◌, codes, map, get_or, Option, Some, None}
+use Rattle.std.specs.Prelude.{ℕ, suc, ◌+◌, Bool, true, false, List, [], ◌∷◌, ◌++◌, codes, map, get_or, Option, Some}
 use Rattle.sample_core.specs.TypeTree.{TypeTree, unit_ty, int_ty, pair_ty, event_ty}
 use Rattle.leaf_core.specs.declared.expr.Expr.{Expr}
 use Rattle.leaf_core.specs.ExpressionView.{expression_of}
@@ -16,10 +16,9 @@ use Rattle.net_code.specs.declared.statement.Function.{Function}
 use Rattle.net_code.specs.declared.statement.Function.TheVariants as F
 use Rattle.net_code.specs.Running.{Body}
 use Rattle.net_code.specs.CodeView.{body_of}
-use Rattle.code_text.specs.Piece.{Piece, text, name, number, ty, spelt, reg, pieces_text}
+use Rattle.code_text.specs.Piece.{text, name, number, ty, spelt, reg, pieces_text}
 use Rattle.code_text.specs.PieceView.{pieces_if}
 use Rattle.code_text.specs.LeafText.{Leaf, leaf_text}
-use Rattle.code_text.specs.CellText.{Declared}
 use Rattle.code_text.specs.ScopeText.{Caller, type_at, arguments_text, unused_line}
 use Rattle.code_text.specs.StatementText.{action_text, effect_text, guard_pieces}
 use Rattle.code_text.specs.CollectionText.{kept_type}

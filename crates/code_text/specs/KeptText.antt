@@ -1,5 +1,5 @@
 -- The C of what functions keep: a struct each.
-use Rattle.std.specs.Prelude.{ℕ, suc, List, [], ◌∷◌, ◌++◌, codes, Bool, true, false, if◌then◌else◌, Option, Some, None}
+use Rattle.std.specs.Prelude.{ℕ, suc, List, [], ◌∷◌, ◌++◌, codes, if◌then◌else◌, Option, Some, None}
 use Rattle.sample_core.specs.TypeTree.{TypeTree}
 use Rattle.cell_core.specs.declared.form.Form.{Form}
 use Rattle.cell_core.specs.declared.form.Form.TheVariants as M

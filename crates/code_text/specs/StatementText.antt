@@ -1,7 +1,6 @@
 -- The C of a function's statements: actions, effects and guards.
 use Rattle.std.specs.Prelude.{ℕ, suc, Bool, true, false, ◌||◌, List, [], ◌∷◌, ◌++◌, codes, length, slice_get, Option, Some, None}
 use Rattle.sample_core.specs.TypeTree.{TypeTree, event_ty}
-use Rattle.sample_core.specs.TypeView.{type_of}
 use Rattle.cell_core.specs.declared.form.Form.{Form}
 use Rattle.cell_core.specs.declared.form.Form.TheVariants as M
 use Rattle.net_code.specs.declared.statement.Part.{Part}

@@ -4,7 +4,7 @@ ghost use Rattle.std.specs.Prelude.{◌≡◌, ◌++◌, IfOk, map, string_bytes
 ghost use Rattle.sample_core.specs.{TypeTree.event_ty, TypeTree.list_ty, TypeTree.pair_ty, TypeView.type_of};
 ghost use Rattle.leaf_core.specs.TypeLimits.{same_tree};
 ghost use Rattle.code_text.specs.Piece.{pieces_text};
-ghost use Rattle.code_text.specs.FilterText.{filter_text, has_parts, is_part, reader_head, reader_if, reader_text, readers_text, reading_pieces, sample_pieces, writer_head, writer_if, writer_text, writers_text, writing_pieces};
+ghost use Rattle.code_text.specs.FilterText.{filter_text, has_parts, is_part, reader_if, reader_text, readers_text, reading_pieces, sample_pieces, writer_if, writer_text, writers_text, writing_pieces};
 
 use crate::filter_text::{HEAD, TAIL};
 use crate::named::push_named;

@@ -1,6 +1,6 @@
 // The C that each file has: numbers, and the two functions that a program calls.
 
-ghost use Rattle.std.specs.Prelude.{◌≡◌, ◌++◌, IfOk, codes, string_bytes};
+ghost use Rattle.std.specs.Prelude.{◌≡◌, ◌++◌, IfOk, string_bytes};
 ghost use Rattle.code_text.specs.Piece.{pieces_text};
 ghost use Rattle.code_text.specs.FixedText.{binary_pieces, entries_text, init_pieces, numbers_text, opening_pieces, passed, prototype_pieces, step_pieces, use_pieces, wrapped_pieces};
 

@@ -2,7 +2,6 @@
 
 ghost use Rattle.std.specs.Prelude.{◌≡◌, ◌≤◌, ◌++◌, IfOk, false, map, string_bytes};
 ghost use Rattle.sample_core.specs.{TypeTree.int_ty, TypeTree.pair_ty, TypeView.type_of};
-ghost use Rattle.net_code.specs.CodeView.{body_of};
 ghost use Rattle.code_text.specs.{ScopeText.caller_in, ScopeText.named_in, ScopeText.type_at};
 ghost use Rattle.code_text.specs.LeafText.{leaf_text};
 ghost use Rattle.code_text.specs.CollectionText.{kept_type, type_in};

@@ -1,8 +1,8 @@
 // Pieces of C.
 
 ghost use Rattle.std.specs.Prelude.{◌≡◌, ◌++◌, IfOk, map, string_bytes};
-ghost use Rattle.sample_core.specs.{Adding.Adds, TypeView.type_of};
-ghost use Rattle.code_text.specs.Piece.{address, c_type, letters, piece_text, pieces_text, register};
+ghost use Rattle.sample_core.specs.{TypeView.type_of};
+ghost use Rattle.code_text.specs.Piece.{c_type, letters, piece_text, pieces_text};
 ghost use Rattle.code_text.specs.PieceView.{piece_of, pieces_if};
 
 use sample_core::{Memory, Ty, push_type};

@@ -1,8 +1,8 @@
 // The C of calls: what functions are handed.
 
-ghost use Rattle.std.specs.Prelude.{◌≡◌, ◌++◌, IfOk, length, map, string_bytes};
+ghost use Rattle.std.specs.Prelude.{◌≡◌, ◌++◌, IfOk, map, string_bytes};
 ghost use Rattle.sample_core.specs.TypeView.{type_of};
-ghost use Rattle.code_text.specs.{LeafText.params_text, Piece.pieces_text, PieceView.piece_of};
+ghost use Rattle.code_text.specs.{LeafText.params_text, PieceView.piece_of};
 ghost use Rattle.code_text.specs.ScopeText.{arguments_text, call_in, call_text, caller_in, first_params, first_scope, frozen_member, frozen_members, frozen_of, frozen_text, frozen_watched, keeps, leaf_call_text, members, named_in, old_argument, old_arguments, passed_old, passed_olds, same_scope, scope_text, taken_scope, type_at, unused_line, unused_old, unused_olds, unused_params};
 
 use crate::piece::{Piece, push, push_if};

@@ -4,7 +4,7 @@ ghost use Rattle.std.specs.Prelude.{◌≡◌, IfOk, codes, map, option_map, fal
 ghost use Rattle.clap.specs.Words.{app_of, first_of, found_of, kind_of, rows_of, rule_of, subcommand_rows_of, with_rule};
 ghost use Rattle.clap.specs.declared.builder.command.Command.TheViews.{out-Command};
 ghost use Rattle.command_line.specs.CommandRows.{RequestRows, OptimiseRows, DerivationRows, PlaceRows, StepsRows, CompileRows, HelpRows, VersionRows, NothingRows, NoOptimiseRows, NoStepsRows, NoCompileRows};
-ghost use Rattle.command_line.specs.CommandLine.{IsNothing, ReadsWords, RepliesTo, and_command, and_compiling, and_rewriting, and_running, apply_in, certify_in, command_line, command_taking, compile_checked_in, compile_in, derivation_in, derivation_view, file_name, flag, is_given, printing_in, printing_view, laws_in, leading_view, request_by, request_on, request_view, valued, wanted_by, wanted_in, with_printing, types, run, outline, optimise, improve, check, run_checked};
+ghost use Rattle.command_line.specs.CommandLine.{IsNothing, ReadsWords, RepliesTo, and_command, and_compiling, and_rewriting, and_running, apply_in, certify_in, command_line, command_taking, compile_checked_in, compile_in, derivation_in, derivation_view, file_name, flag, is_given, printing_in, printing_view, laws_in, request_by, request_on, request_view, valued, wanted_by, wanted_in, with_printing, types, run, outline, optimise, improve, check, run_checked};
 
 use crate::help::{self, HelpText};
 use clap::error::{Error, ErrorKind};

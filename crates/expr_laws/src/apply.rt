@@ -1,6 +1,6 @@
 // Applying a law at an expression.
 
-ghost use Rattle.std.specs.Prelude.{◌≡◌, IfOk, MatchOption, option_map};
+ghost use Rattle.std.specs.Prelude.{◌≡◌, IfOk, MatchOption};
 ghost use Rattle.leaf_core.specs.ExpressionView.{expression_of};
 ghost use Rattle.expr_laws.specs.ExpressionLaw.{ExpressionLaw};
 ghost use Rattle.expr_laws.specs.Answer.{IsExpressionAnswer, IsRightSide, given_of};

@@ -12,7 +12,7 @@ use Rattle.law_patterns.specs.declared.net_sym.NetLetter.TheVariants as L
 use Rattle.law_patterns.specs.declared.net_sym.NetSym.{NetSym}
 use Rattle.law_patterns.specs.declared.net_sym.NetSym.TheVariants as S
 use Rattle.law_patterns.specs.Pattern.{put_before}
-use Rattle.law_patterns.specs.Matching.{FoundLetters, Matching, failed, matching, step}
+use Rattle.law_patterns.specs.Matching.{Matching, failed, matching, step}
 use Rattle.law_patterns.specs.NetPattern.{NetAssignment, net_chosen, Written, both, with_nets, net_put_before, net_put_before_some, net_written}
 use Rattle.law_patterns.specs.NetMatching.{NetFound, net_found_at, net_found_with, NetMatching, net_failed, net_matching, net_going, net_bound, number_bound, beside, net_met, next_met, met_by, net_step, net_matched, net_ended, net_fitted}
 use Rattle.law_patterns.proofs.Fits.{AgreesAt, Agrees, agrees-none, fits-made, step-sound}

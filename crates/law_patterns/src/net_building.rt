@@ -7,7 +7,7 @@ ghost use Rattle.net_tree.specs.Network.{accum_by, first, k_switch};
 ghost use Rattle.net_tree.specs.NetworkView.{tree_of, tree};
 ghost use Rattle.law_patterns.specs.Matching.{completed, found_of};
 ghost use Rattle.law_patterns.specs.NetBuilding.{both_there, leaf_form, pair_form};
-ghost use Rattle.law_patterns.specs.NetMatching.{net_completed, nets_found_of, or_zero};
+ghost use Rattle.law_patterns.specs.NetMatching.{net_completed, nets_found_of};
 ghost use Rattle.law_patterns.specs.NetPattern.{both, net_filled, net_put_before, of_fed, of_leaf, of_leaves, only_net, with_exprs, with_nets};
 ghost use Rattle.law_patterns.specs.Pattern.{around_one, around_two, around_three, put_before};
 

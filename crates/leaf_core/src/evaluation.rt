@@ -12,8 +12,8 @@ use crate::expr::{Expr, ExprChild, Exprs};
 use crate::literal::Literal;
 use crate::looked::{Looked, path_at, short_path_at};
 use crate::operations::{
-    count, element, equal, literal_value, negated, number, param_number, part, put_number,
-    put_pair, put_param, put_truth, sum_of, truth,
+    count, element, equal, literal_value, negated, param_number, part, put_number, put_pair,
+    put_param, put_truth, sum_of, truth,
 };
 use crate::scope::Scope;
 use sample_core::{Memory, Sample, SampleChild, SamplePair, Samples};
@@ -475,10 +475,10 @@ fn eval_number(scope: &Scope<'_>, child: &ExprChild) -> Result<i64, Memory>
     let form = child.get();
     match form {
         Expr::Literal(Literal::Int(n)) => Ok(*n),
-        Expr::Input => Ok(number(scope.x)),
+        Expr::Input => Ok(scope.x.number()),
         Expr::Param(k) => Ok(param_number(scope.params, *k)),
         Expr::Fst(e) | Expr::Snd(e) => match e.get() {
-            Expr::Input => Ok(number(part(form, scope.x))),
+            Expr::Input => Ok(part(form, scope.x).number()),
             _ => far_number(scope, child),
         },
         _ => far_number(scope, child),
@@ -496,7 +496,7 @@ fn far_number(scope: &Scope<'_>, child: &ExprChild) -> Result<i64, Memory>
         Expr::Add(a, b) | Expr::Sub(a, b) | Expr::Mul(a, b) => eval_sum(scope, form, a, b),
         Expr::Len(e) => eval_len(scope, e),
         Expr::Fst(e) | Expr::Snd(e) => match short_path_at(scope.x, e.get()) {
-            Some(value) => Ok(number(part(form, value))),
+            Some(value) => Ok(part(form, value).number()),
             None => look_number(scope, child),
         },
         Expr::Nth(e, i, d) => nth_number(scope, e, i, d),
@@ -519,7 +519,7 @@ fn nth_number(
     let at = eval_number(scope, i)?;
     let all = look(scope, list)?;
     let found = match element(all.get(), at) {
-        Some(found) => Some(number(found)),
+        Some(found) => Some(found.number()),
         None => None,
     };
     drop(all);
@@ -536,7 +536,7 @@ fn look_number(scope: &Scope<'_>, part: &ExprChild) -> Result<i64, Memory>
     ensures { IfOk result (λ n. n ≡ int_of (value_in part.now scope.now)) }
 {
     let value = look(scope, part)?;
-    let number = number(value.get());
+    let number = value.get().number();
     drop(value);
     Ok(number)
 }

@@ -44,4 +44,4 @@ pub use literal::Literal;
 pub use part_types::part_type;
 pub use parts::{part, part_at, with_part_at};
 pub use shape::{Shape, shape_laws, shape_of};
-pub use typing::{ExprFault, type_of_expr};
+pub use typing::{ExprFault, literal_type, type_of_expr};

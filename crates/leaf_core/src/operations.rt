@@ -9,7 +9,7 @@ ghost use Rattle.leaf_core.specs.ExpressionValue.{value_of, is_true, sum_by, par
 
 use crate::expr::Expr;
 use crate::literal::Literal;
-use sample_core::{Memory, Sample, SampleChild, SamplePair, same};
+use sample_core::{Memory, Sample, SamplePair, same};
 use std::alloc::Global;
 
 /// The value that a literal writes out.
@@ -20,16 +20,6 @@ pub fn literal_value(literal: Literal) -> Sample
         Literal::Unit => Sample::Unit,
         Literal::Bool(b) => Sample::Bool(b),
         Literal::Int(n) => Sample::Int(n),
-    }
-}
-
-/// The number of a number value; 0 of another.
-pub fn number(value: &Sample) -> i64
-    ensures { result ≡ int_of (datum_of value.now) }
-{
-    match value {
-        Sample::Int(n) => *n,
-        _ => 0,
     }
 }
 
@@ -89,7 +79,7 @@ pub fn param_number(params: &[Sample], k: u32) -> i64
     ensures { result ≡ int_of (param_at (map datum_of params.now) k) }
 {
     match param(params, k) {
-        Some(value) => number(value),
+        Some(value) => value.number(),
         None => 0,
     }
 }

@@ -1,6 +1,6 @@
 // The parts of an expression by their numbers, and the expression with another part.
 
-ghost use Rattle.std.specs.Prelude.{◌≡◌, ◌<◌, IfOk, length, map, option_map, set};
+ghost use Rattle.std.specs.Prelude.{◌≡◌, ◌<◌, IfOk, length, option_map, set};
 ghost use Rattle.sample_core.specs.TypeView.{type_of};
 ghost use Rattle.leaf_core.specs.{ExpressionView.expression_of, Inside.one, Inside.two, Inside.three, Inside.many, Inside.inside_of};
 ghost use Rattle.leaf_core.specs.Expression.{expressions_of, list_expr};

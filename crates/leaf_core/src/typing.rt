@@ -1,8 +1,8 @@
 // The type of an expression.
 
-ghost use Rattle.std.specs.Prelude.{◌≡◌, ◌≢◌, IfOk, MatchResult, List, Ok, Err, map};
+ghost use Rattle.std.specs.Prelude.{◌≡◌, IfOk, MatchResult, List, Ok, Err, map};
 ghost use Rattle.sample_core.specs.Answer.{◌>>=◌ as on_ok, GivesUnless};
-ghost use Rattle.sample_core.specs.TypeTree.{TypeTree, bool_ty, int_ty, pair_ty, event_ty, list_ty};
+ghost use Rattle.sample_core.specs.TypeTree.{TypeTree, int_ty, pair_ty, event_ty, list_ty};
 ghost use Rattle.sample_core.specs.TypeView.{type_of};
 ghost use Rattle.leaf_core.specs.Expression.{expressions_of, pair_expr, then_expr, equal, if_expr, event_expr, on, list_expr, nth, len};
 ghost use Rattle.leaf_core.specs.ExpressionView.{expression_of, literal_of};
@@ -534,7 +534,7 @@ fn limited_copy(alloc: Global, ty: &Ty) -> Result<Ty, ExprFault>
 }
 
 /// The type of a literal.
-fn literal_type(literal: Literal) -> Ty
+pub fn literal_type(literal: Literal) -> Ty
     ensures { (Ps : List TypeTree) (A : TypeTree)
         → type_walk Ps A (literal_of literal) ≡ within_limits (type_of result) }
 {

@@ -1,7 +1,7 @@
 // Reading types.
 #![tactic(auto, using(crate::proofs::Reading::reading))]
 
-ghost use Rattle.std.specs.Prelude.{◌≡◌, ◌<◌, ◌≤◌, length};
+ghost use Rattle.std.specs.Prelude.{◌<◌, ◌≤◌, length};
 ghost use Rattle.leaf_expr.specs.{Form.type_production, Grammar.type_sort};
 ghost use Rattle.leaf_expr.specs.ReadText.{GivesTree, tree_at, word_tree, form_at, production_parts, last_at, type_left};
 ghost use Rattle.leaf_expr.specs.Token.{tokens_from};

@@ -2,20 +2,10 @@
 
 ghost use Rattle.std.specs.Prelude.{◌≡◌, ◌+ℤ◌, ◌*ℤ◌, IfOk};
 ghost use Rattle.std.specs.Int.{int_wrap, w64};
-ghost use Rattle.sample_core.specs.{Datum.pair, Datum.left, Datum.right, Datum.int_of, ValueView.datum_of};
+ghost use Rattle.sample_core.specs.{Datum.pair, ValueView.datum_of};
 
 use sample_core::{Memory, Sample, SampleChild, SamplePair};
 use std::alloc::{AllocError, Global};
-
-/// The number of a number value; 0 of another.
-pub fn number(value: &Sample) -> i64
-    ensures { result ≡ int_of (datum_of value.now) }
-{
-    match value {
-        Sample::Int(n) => *n,
-        _ => 0,
-    }
-}
 
 /// The product modulo 2^64, read as signed.
 pub fn product(m: i64, n: i64) -> i64
@@ -29,26 +19,6 @@ pub fn sum(m: i64, n: i64) -> i64
     ensures { result ≡ int_wrap w64 (m +ℤ n) }
 {
     m.wrapping_add(n)
-}
-
-/// The first part of a pair; another value itself.
-pub fn first(value: &Sample) -> &Sample
-    ensures { datum_of result.now ≡ left (datum_of value.now) }
-{
-    match value {
-        Sample::Pair(parts) => parts.first(),
-        _ => value,
-    }
-}
-
-/// The second part of a pair; another value itself.
-pub fn second(value: &Sample) -> &Sample
-    ensures { datum_of result.now ≡ right (datum_of value.now) }
-{
-    match value {
-        Sample::Pair(parts) => parts.second(),
-        _ => value,
-    }
 }
 
 /// A copy of the value, whose parts are shared with it. `AllocError` only where a count of

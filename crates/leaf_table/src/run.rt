@@ -6,7 +6,7 @@ ghost use Rattle.sample_core.specs.ValueView.{datum_of};
 ghost use Rattle.leaf_core.specs.declared.shape.Shape.TheVariants as S;
 ghost use Rattle.leaf_table.specs.Computes.{Computes, OfShape};
 
-use crate::part::{child, copied, first, number, paired, product, second, sum};
+use crate::part::{child, copied, paired, product, sum};
 use leaf_core::{Expr, LeafKey, Literal, eval, eval_over};
 use sample_core::{Memory, Sample};
 use std::alloc::{AllocError, Global};
@@ -52,7 +52,7 @@ pub fn run_affine(
 ) -> Result<Sample, AllocError>
     ensures { IfOk result (λ v. OfShape (S.Affine a b) (datum_of x.now) (datum_of v)) }
 {
-    Ok(Sample::Int(sum(product(a, number(x)), b)))
+    Ok(Sample::Int(sum(product(a, x.number()), b)))
 }
 
 /// The input's parts the other way round, for an expression of the shape `Swap`. Each part of an
@@ -61,7 +61,7 @@ pub fn run_affine(
 pub fn run_swap(alloc: Global, _params: &[Sample], x: &Sample) -> Result<Sample, AllocError>
     ensures { IfOk result (λ v. OfShape S.Swap (datum_of x.now) (datum_of v)) }
 {
-    paired(alloc, second(x), first(x))
+    paired(alloc, x.right(), x.left())
 }
 
 /// The input's first part, for an expression of the shape `Left`; another input than a pair
@@ -70,7 +70,7 @@ pub fn run_swap(alloc: Global, _params: &[Sample], x: &Sample) -> Result<Sample,
 pub fn run_left(alloc: Global, _params: &[Sample], x: &Sample) -> Result<Sample, AllocError>
     ensures { IfOk result (λ v. OfShape S.Left (datum_of x.now) (datum_of v)) }
 {
-    copied(alloc, first(x))
+    copied(alloc, x.left())
 }
 
 /// The input's second part, for an expression of the shape `Right`; another input than a pair
@@ -79,7 +79,7 @@ pub fn run_left(alloc: Global, _params: &[Sample], x: &Sample) -> Result<Sample,
 pub fn run_right(alloc: Global, _params: &[Sample], x: &Sample) -> Result<Sample, AllocError>
     ensures { IfOk result (λ v. OfShape S.Right (datum_of x.now) (datum_of v)) }
 {
-    copied(alloc, second(x))
+    copied(alloc, x.right())
 }
 
 /// Whether the input is less than `k`, for an expression of the shape `Below`. An input that is no
@@ -88,7 +88,7 @@ pub fn run_right(alloc: Global, _params: &[Sample], x: &Sample) -> Result<Sample
 pub fn run_below(_: Global, k: i64, _params: &[Sample], x: &Sample) -> Result<Sample, AllocError>
     ensures { IfOk result (λ v. OfShape (S.Below k) (datum_of x.now) (datum_of v)) }
 {
-    Ok(Sample::Bool(number(x) < k))
+    Ok(Sample::Bool(x.number() < k))
 }
 
 /// An event that carries the input, for an expression of the shape `Wrap`. `AllocError` where

@@ -1,7 +1,7 @@
 // The type of an expression, where its form tells it.
 
 use crate::sketch::NoMove;
-use leaf_core::{Expr, ExprChild, Literal};
+use leaf_core::{Expr, ExprChild, literal_type};
 use sample_core::{Memory, Ty, TyChild};
 use std::alloc::Global;
 
@@ -17,7 +17,7 @@ pub fn none_told(alloc: Global, e: &Expr) -> Result<ExprChild, NoMove> {
 /// parameters are: not that of what is taken from these, nor of a pair or an event.
 pub(crate) fn type_told(alloc: Global, e: &Expr) -> Result<Option<Ty>, Memory> {
     match e {
-        Expr::Literal(literal) => Ok(Some(type_of_literal(*literal))),
+        Expr::Literal(literal) => Ok(Some(literal_type(*literal))),
         Expr::Neg(_) | Expr::Add(..) | Expr::Sub(..) | Expr::Mul(..) | Expr::Len(_) => {
             Ok(Some(Ty::Int))
         }
@@ -36,14 +36,5 @@ pub(crate) fn type_told(alloc: Global, e: &Expr) -> Result<Option<Ty>, Memory> {
             Ok(Some(Ty::List(element)))
         }
         _ => Ok(None),
-    }
-}
-
-/// The type of a literal.
-fn type_of_literal(literal: Literal) -> Ty {
-    match literal {
-        Literal::Unit => Ty::Unit,
-        Literal::Bool(_) => Ty::Bool,
-        Literal::Int(_) => Ty::Int,
     }
 }

@@ -3,8 +3,8 @@ use Rattle.std.proofs.Common.{◌≡◌, ◌≤◌, ℕ, suc, ◌+◌, min, Bool
 use Rattle.std.proofs.Math.Path.{fun_ext}
 use Rattle.std.proofs.lemmas.List.{drop-drop, length-map, take-map, map-append}
 use Rattle.std.proofs.lemmas.Simd.{map-map}
-use Rattle.sample_core.specs.Datum.{Datum, left, right, list, list_of}
-use Rattle.net_meaning.specs.SignalFunction.{TimedList, SignalFunction, Pieces, put_sample, pieces, heads, tails, gather, Member, items_of, items_named, new_members, chosen, moved, by_members, member_outputs, first_members, rp_switch_function}
+use Rattle.sample_core.specs.Datum.{Datum, left, right, list, list_of, items_of}
+use Rattle.net_meaning.specs.SignalFunction.{TimedList, SignalFunction, Pieces, put_sample, pieces, heads, tails, gather, Member, items_named, new_members, chosen, moved, by_members, member_outputs, first_members, rp_switch_function}
 use Rattle.net_meaning.proofs.RelatedMembers.{AllRelated, no_member, and_member, rows_of, any_values, related-selected, related-moved}
 use Rattle.net_meaning.proofs.MappedMembers.{items_named-map}
 use Rattle.net_machine.specs.Store.{Store, Origin, made, nothing, Entry, entries, stored}

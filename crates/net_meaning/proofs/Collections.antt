@@ -1,10 +1,10 @@
 -- `rpSwitchB` of signals is a signal, and agrees where its parts do.
 use Rattle.std.proofs.Common.{◌≡◌, ℕ, ◌+◌, List, [], ◌∷◌, ◌++◌, map, length, take, drop, refl, sym, ap, ap₂, ◌∙◌, arith, inl, inr, append_assoc, length-append, length-drop, subst}
 use Rattle.std.proofs.lemmas.List.{drop-take}
-use Rattle.sample_core.specs.Datum.{Datum, Datums, left, right, elements}
+use Rattle.sample_core.specs.Datum.{Datum, Datums, left, right, elements, items_of}
 use Rattle.sample_core.specs.TypeTree.{TypeTree, int_ty, pair_ty, event_ty, list_ty}
 use Rattle.sample_core.specs.HasType.{HasType, HaveType, list_has, end_has, more_has}
-use Rattle.net_meaning.specs.SignalFunction.{TimedList, SignalFunction, gather, pieces, retime, Member, items_of, new_members, first_members, chosen, moved, by_members, member_outputs, rp_switch_function, IsSignalFunction}
+use Rattle.net_meaning.specs.SignalFunction.{TimedList, SignalFunction, gather, pieces, retime, Member, new_members, first_members, chosen, moved, by_members, member_outputs, rp_switch_function, IsSignalFunction}
 use Rattle.net_meaning.specs.Typing.{TypedValues, TypedSamples}
 use Rattle.net_meaning.specs.Sameness.{SameAt, AllSameAt, no_twin, and_twin}
 use Rattle.net_meaning.proofs.Zips.{length-gather, gather-take, gather-retime}

@@ -2,8 +2,8 @@
 use Rattle.std.proofs.Common.{◌≡◌, ℕ, zero, suc, pos, List, [], ◌∷◌, ◌++◌, map, take, refl, sym, ap, ap₂, ◌∙◌}
 use Rattle.std.proofs.lemmas.List.{take-map, map-append}
 use Rattle.std.proofs.lemmas.Simd.{map-map}
-use Rattle.sample_core.specs.Datum.{Datum, int, left, right}
-use Rattle.net_meaning.specs.SignalFunction.{TimedList, Member, item_at, item_named, items_named, items_of, new_members, chosen, moved, by_members}
+use Rattle.sample_core.specs.Datum.{Datum, int, left, right, items_of}
+use Rattle.net_meaning.specs.SignalFunction.{TimedList, Member, item_at, item_named, items_named, new_members, chosen, moved, by_members}
 
 module _ {A B : Type 0} (g : A → B) where
   item_at-map : (ms : List A) (k : ℕ) → item_at (map g ms) k ≡ map g (item_at ms k)

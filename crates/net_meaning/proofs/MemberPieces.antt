@@ -1,8 +1,8 @@
 -- What the members of a collection give on the pieces of a timed list: outputs, or counts.
 use Rattle.std.proofs.Common.{◌≡◌, ℕ, zero, suc, ◌+◌, List, [], ◌∷◌, ◌++◌, length, take, refl, sym, ap, ◌∙◌, arith, inl, inr, append-nil, append_assoc, length-append, take_all}
 use Rattle.std.proofs.lemmas.List.{take-append-le, take_at}
-use Rattle.sample_core.specs.Datum.{Datum, left, right, pair, event}
-use Rattle.net_meaning.specs.SignalFunction.{TimedList, pieces, Member, items_of, chosen, moved, by_members}
+use Rattle.sample_core.specs.Datum.{Datum, left, right, pair, event, items_of}
+use Rattle.net_meaning.specs.SignalFunction.{TimedList, pieces, Member, chosen, moved, by_members}
 use Rattle.net_meaning.proofs.Switched.{take_into_at}
 use Rattle.net_meaning.proofs.Restarting.{IsUncut, uncut_or_cut, KeepsPace}
 use Rattle.net_meaning.proofs.RelatedMembers.{any_values, AllRelated, related-selected, related-moved}

@@ -5,7 +5,7 @@ use Rattle.sample_core.specs.Datum.{Datum, unit, left, right, pair, list, list_o
 use Rattle.net_meaning.specs.SignalFunction.{TimedList, SignalFunction, last_or, zip_with, with_values, pair_samples, values, each_value, pairs, seq_function, first_function, par_function, all_of, gather, heads, tails, prefixes, by_past, watch, loop_pre_function, feedback_values, IsSignalFunction, answer}
 use Rattle.net_meaning.proofs.Plain.{AllSignals, and_signal, IsSignal-after}
 use Rattle.net_meaning.proofs.Feedback.{fed, length-fed, length-fed_back, fed_back-take, fed_back-more}
-use Rattle.net_meaning.proofs.Steps.{last_or-push, push_zip_with, signal-push, answer_is}
+use Rattle.net_meaning.proofs.Steps.{push_zip_with, signal-push, answer_is}
 
 pub prefixes_push : {A : Type 0} (xs : List A) (x : A) → prefixes (xs ++ x ∷ []) ≡ prefixes xs ++ (xs ++ x ∷ []) ∷ []
 prefixes_push [] x = refl

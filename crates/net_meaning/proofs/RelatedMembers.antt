@@ -1,7 +1,7 @@
 -- Members of a collection, and what holds of each of those that are chosen.
 use Rattle.std.proofs.Common.{◌≡◌, ℕ, zero, suc, ◌+◌, pos, List, [], ◌∷◌, ◌++◌, map, length, take, drop, refl, sym, ap, ap₂, ◌∙◌, append_assoc, length-append, subst}
-use Rattle.sample_core.specs.Datum.{Datum, int, left, right}
-use Rattle.net_meaning.specs.SignalFunction.{TimedList, SignalFunction, gather, Member, item_at, item_named, items_named, items_of, new_members, chosen, moved, by_members, member_outputs}
+use Rattle.sample_core.specs.Datum.{Datum, int, left, right, items_of}
+use Rattle.net_meaning.specs.SignalFunction.{TimedList, SignalFunction, gather, Member, item_at, item_named, items_named, new_members, chosen, moved, by_members, member_outputs}
 
 -- the members' outputs on a piece, a row for each
 abbrev pub rows_of : List (Member SignalFunction) → TimedList → List (List Datum)

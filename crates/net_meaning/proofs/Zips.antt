@@ -1,7 +1,7 @@
 -- Lists item by item: how the words of the definitions go with `take`, `length` and the first step.
 use Rattle.std.proofs.Common.{◌≡◌, ℕ, zero, suc, List, [], ◌∷◌, map, length, take, drop, refl, ap, arith}
-use Rattle.sample_core.specs.Datum.{pair, Datum, list_of, unit, list}
-use Rattle.net_meaning.specs.SignalFunction.{pairs, TimedList, zip_with, with_values, pair_samples, values, each_value, retime, gather, heads, tails}
+use Rattle.sample_core.specs.Datum.{Datum, list_of, unit, list}
+use Rattle.net_meaning.specs.SignalFunction.{TimedList, zip_with, with_values, pair_samples, values, each_value, retime, gather, heads, tails}
 
 pub length-zip_with : {A B C : Type 0} (h : A → B → C) (xs : List A) (ys : List B) → length ys ≡ length xs → length (zip_with h xs ys) ≡ length xs
 length-zip_with h [] ys e = refl

@@ -16,7 +16,7 @@ use Rattle.net_meaning.specs.TypedNetwork.{NetTyped}
 use Rattle.net_meaning.specs.Sameness.{SameLeaf, SameNet}
 use Rattle.net_meaning.specs.AlikeEnvironments.{SameOutputs}
 use Rattle.net_tree.specs.Place as P
-use Rattle.net_tree.specs.Place.{Tree, a_network, a_leaf, member, child, child_network, collection_child, PSwitchChild, p_switch_child, member_child, event_child, continuation_child}
+use Rattle.net_tree.specs.Place.{Tree, a_network, a_leaf, member, child, child_network, collection_child, p_switch_child, member_child, event_child, continuation_child}
 use Rattle.net_syntax.specs.Placed.{with_member, with_child, with_p_switch_child, with_collection_child, replaced}
 use Rattle.net_syntax.specs.Standing.{Standing, standing, TreeTyped, MembersTyped, ChildStands, in_arr, first_in_seq, second_in_seq, in_first, in_par, constant_in_loop, network_in_loop, in_i_pre, in_delay, in_hold, step_in_accum, start_in_accum, in_after, in_repeatedly, network_in_switch, continuation_in_switch, network_in_r_switch, continuation_in_r_switch, network_in_k_switch, event_in_k_switch, continuation_in_k_switch, route_in_p_switch, member_in_p_switch, event_in_p_switch, continuation_in_p_switch, constant_in_initial_out, network_in_initial_out, constant_in_initial_in, network_in_initial_in, member_in_rp_switch, choice_in_rp_switch, continuation_in_rp_switch, at_network, inside_network, inside_expression}
 use Rattle.net_meaning.specs.Congruence.{TwinLeaf, Twin, TwinMembers, no_twins, and_twins}

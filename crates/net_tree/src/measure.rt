@@ -2,7 +2,7 @@
 
 ghost use Rattle.std.specs.Prelude.{◌≡◌, ◌+◌, ◌*◌, ◌++◌, ◌∷◌, get_or, map, min, max, suc, [], IfOk, OnOk};
 ghost use Rattle.leaf_core.specs.Expression.{input};
-ghost use Rattle.net_tree.specs.Height.{height as height_of, heights as heights_of, greatest};
+ghost use Rattle.net_tree.specs.Height.{height as height_of, heights as heights_of};
 ghost use Rattle.net_tree.specs.Measured.{AddsMeasures, Counts, GathersMeasures, Measured, capped};
 ghost use Rattle.net_tree.specs.Network.{seq, first, par, old, k_switch, p_switch, delayed, r_switch, rp_switch, network_size, networks_size};
 ghost use Rattle.net_tree.specs.NetworkView.{members_of, tree, tree_of, trees};

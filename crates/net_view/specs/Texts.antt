@@ -1,5 +1,5 @@
 -- The outline and the steps that may be taken, as they are printed.
-use Rattle.std.specs.Prelude.{◌≡◌, ℕ, List, [], ◌∷◌, ◌++◌, Option, Some, None, codes}
+use Rattle.std.specs.Prelude.{◌≡◌, ℕ, List, [], ◌∷◌, ◌++◌, Option, Some, None}
 use Rattle.std.specs.Fmt.{decimal}
 use Rattle.sample_core.specs.Spelling.{type_spelling}
 use Rattle.leaf_core.specs.Expression.{Expression}

@@ -42,6 +42,11 @@ abbrev pub int_of : Datum → ℤ
 int_of (int n) = n
 int_of v = pos 0
 
+-- the elements of a list value; none of another value
+abbrev pub items_of : Datum → List Datum
+items_of (list vs) = elements vs
+items_of _ = []
+
 -- how many forms stand inside one another: what falls in a recursion
 abbrev mutual
   pub datum_size : Datum → ℕ

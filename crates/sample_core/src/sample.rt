@@ -264,7 +264,50 @@ impl Samples {
 }
 
 impl Sample {
-    ghost use Rattle.sample_core.specs.Datum.{bool, int};
+    ghost use Rattle.sample_core.specs.Datum.{bool, int, int_of, items_of, left, right};
+
+    /// The number of an `Int`; 0 of another value.
+    #[inline(always)]
+    pub fn number(&self) -> i64
+        ensures { result ≡ int_of (datum_of self.now) }
+    {
+        match self {
+            Sample::Int(n) => *n,
+            _ => 0,
+        }
+    }
+
+    /// The first part of a pair; another value itself.
+    #[inline(always)]
+    pub fn left(&self) -> &Sample
+        ensures { datum_of result.now ≡ left (datum_of self.now) }
+    {
+        match self {
+            Sample::Pair(parts) => parts.first(),
+            _ => self,
+        }
+    }
+
+    /// The second part of a pair; another value itself.
+    #[inline(always)]
+    pub fn right(&self) -> &Sample
+        ensures { datum_of result.now ≡ right (datum_of self.now) }
+    {
+        match self {
+            Sample::Pair(parts) => parts.second(),
+            _ => self,
+        }
+    }
+
+    /// The elements of a list value; none of another value.
+    pub fn elements(&self) -> &[Sample]
+        ensures { map datum_of result.now ≡ items_of (datum_of self.now) }
+    {
+        match self {
+            Sample::List(all) => all.as_slice(),
+            _ => &[],
+        }
+    }
 
     /// Puts another value in place of this one. A place that holds no parts is written at once.
     #[inline(always)]

@@ -5,10 +5,10 @@ use Rattle.std.proofs.lemmas.Option.{slice_get_read, slice_get_past}
 use Rattle.std.proofs.Math.Seq.{take-suc}
 use Rattle.std.specs.Slice.{IsItemAt}
 use Rattle.sample_core.specs.ValueView.{datum_of}
-use Rattle.sample_core.specs.Datum.{Datum, int, list_of, elements}
+use Rattle.sample_core.specs.Datum.{Datum, int, list_of, elements, items_of}
 use Rattle.sample_core.specs.declared.sample.Sample.{Sample}
 use Rattle.sample_core.specs.declared.sample.Sample.TheVariants as V
-use Rattle.net_meaning.specs.SignalFunction.{item_at, item_named, items_named, items_of}
+use Rattle.net_meaning.specs.SignalFunction.{item_at, item_named, items_named}
 use Rattle.state_core.specs.declared.env.Frozen.{Frozen as CodeFrozen}
 use Rattle.state_core.specs.State.{Frozen, selected}
 use Rattle.state_core.specs.StateView.{frozen_of}

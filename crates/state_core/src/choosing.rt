@@ -2,7 +2,7 @@
 
 ghost use Rattle.std.specs.Prelude.{◌≡◌, ◌∷◌, [], IfOk, MatchOption, map};
 ghost use Rattle.sample_core.specs.ValueView.{datum_of};
-ghost use Rattle.net_meaning.specs.SignalFunction.{item_named, items_of};
+ghost use Rattle.net_meaning.specs.SignalFunction.{item_named};
 ghost use Rattle.state_core.specs.State.{selected};
 ghost use Rattle.state_core.specs.StateView.{frozen_of};
 
@@ -22,7 +22,7 @@ pub fn select<'n>(
         ≡ selected (map frozen_of all.now) (datum_of numbers.now)) }
 {
     let mut chosen = Vec::new(alloc);
-    for number in elements(numbers) {
+    for number in numbers.elements() {
         if chosen.len() == MOST_MEMBERS {
             return Ok(chosen);
         }
@@ -32,16 +32,6 @@ pub fn select<'n>(
         }
     }
     Ok(chosen)
-}
-
-/// The elements of a list value; none of another value.
-fn elements(value: &Sample) -> &[Sample]
-    ensures { map datum_of result.now ≡ items_of (datum_of value.now) }
-{
-    match value {
-        Sample::List(all) => all.as_slice(),
-        _ => &[],
-    }
 }
 
 /// The frozen network of the number; none for a number outside, and for another value.

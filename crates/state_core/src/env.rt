@@ -1,8 +1,8 @@
 // What is in scope, and frozen networks.
 
-ghost use Rattle.std.specs.Prelude.{◌≡◌, ◌++◌, IfOk, OnOk, IfSome, IfNone, [], Some, None};
+ghost use Rattle.std.specs.Prelude.{◌≡◌, ◌++◌, IfOk, OnOk, [], Some, None};
 ghost use Rattle.sample_core.specs.ValueView.{datum_of};
-ghost use Rattle.state_core.specs.State.{no_frozen, and_frozen, append_frozens, frozen_at, push_param as with_param, push_old as with_old, push_olds as with_olds, scope, unstarted as unstarted_network, paused as paused_state};
+ghost use Rattle.state_core.specs.State.{no_frozen, push_param as with_param, push_old as with_old, push_olds as with_olds, scope, unstarted as unstarted_network, paused as paused_state};
 ghost use Rattle.state_core.specs.StateView.{state_of, scope_of, frozen_of, frozens_in, olds_of, frozen_from, IsFrozenAt};
 ghost use Rattle.state_core.specs.RowsView.{rows_in};
 

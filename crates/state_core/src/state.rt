@@ -1,6 +1,6 @@
 // What runs, with what it keeps.
 
-ghost use Rattle.std.specs.Prelude.{◌≡◌, ◌∷◌, ◌++◌, [], IfOk, IfNone, Some, None, MatchOption, length, map, slice_get};
+ghost use Rattle.std.specs.Prelude.{◌≡◌, ◌∷◌, ◌++◌, [], IfOk, Some, None, MatchOption, length, map, slice_get};
 ghost use Rattle.state_core.specs.Depth.{depth_running};
 ghost use Rattle.state_core.specs.{StateView.kept_of, StateView.state_of, StateView.running_of, StateView.scope_of, Tree.nothing};
 

@@ -1,9 +1,9 @@
 -- What holds of each member before an event, and of each that starts, holds of each that the event
 -- chooses.
 use Rattle.std.proofs.Common.{ℕ, zero, suc, pos, negsuc, List, [], ◌∷◌, ◌++◌, take}
-use Rattle.sample_core.specs.Datum.{Datum, unit, bool, int, pair, no_event, event, list, left, right}
+use Rattle.sample_core.specs.Datum.{Datum, unit, bool, int, pair, no_event, event, list, left, right, items_of}
 use Rattle.net_tree.specs.Network.{Network}
-use Rattle.net_meaning.specs.SignalFunction.{item_at, item_named, items_named, items_of}
+use Rattle.net_meaning.specs.SignalFunction.{item_at, item_named, items_named}
 use Rattle.state_core.specs.State.{Scope, Frozen, unstarted, push_param, each_started, chosen_frozen}
 use Rattle.step_core.specs.Runs.{EachIs}
 

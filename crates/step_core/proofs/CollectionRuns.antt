@@ -12,7 +12,7 @@ use Rattle.step_core.specs.Flow.{Past, standing, members_before, MembersRun, Run
 use Rattle.step_core.specs.Outcome.{outcome}
 use Rattle.step_core.specs.Rank.{frozen_rank}
 use Rattle.step_core.specs.Runs as R
-use Rattle.step_core.specs.Runs.{RunsWhere, AllRunWhere, RpSwitchBy}
+use Rattle.step_core.specs.Runs.{RunsWhere, RpSwitchBy}
 use Rattle.step_core.specs.Stepping.{restart_in}
 use Rattle.step_core.specs.Switching.{IsChosen, IsTurned, TurnedRun}
 use Rattle.step_core.proofs.Kepts.{joined_assoc, joined_nothing}

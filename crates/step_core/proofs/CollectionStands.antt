@@ -1,8 +1,8 @@
 -- What a collection stands for, by the frozen networks that its members go on from.
 use Rattle.std.proofs.Common.{◌≡◌, ◌⊎◌, ℕ, zero, suc, pos, List, [], ◌∷◌, ◌++◌, map, take, refl, sym, inl, inr, None, append_assoc, subst}
-use Rattle.sample_core.specs.Datum.{Datum, int, event, left, right, pair, list, list_of}
+use Rattle.sample_core.specs.Datum.{Datum, int, event, left, right, pair, list, list_of, items_of}
 use Rattle.net_tree.specs.Network.{Network, Networks, no_members, and_member}
-use Rattle.net_meaning.specs.SignalFunction.{TimedList, Member, each_value, item_at, item_named, items_named, items_of, new_members, first_members, chosen, moved}
+use Rattle.net_meaning.specs.SignalFunction.{TimedList, Member, each_value, item_at, item_named, items_named, new_members, first_members, chosen, moved}
 use Rattle.state_core.specs.CountedFunction.{CountedFunction, IsCountedFunction, StandsVia, TakesSample}
 use Rattle.state_core.specs.CountedForms.{counted_members}
 use Rattle.state_core.specs.CountedContext.{CountedContext, counted_meaning, counted_meanings}

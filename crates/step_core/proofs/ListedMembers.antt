@@ -3,10 +3,10 @@ use Rattle.std.proofs.Common.{◌≡◌, Some, None, ℕ, zero, suc, ◌-◌, �
 use Rattle.std.proofs.lemmas.List.{length-map, take-map, take_all, take_min}
 use Rattle.leaf_table.specs.declared.table.LeafId.{LeafId}
 use Rattle.net_tree.specs.Network.{Network, Networks, map_networks}
-use Rattle.net_meaning.specs.SignalFunction.{items_named, items_of}
+use Rattle.net_meaning.specs.SignalFunction.{items_named}
 use Rattle.net_tree.specs.NetworkView.{members_of}
 use Rattle.net_tree.specs.declared.net.Net.{Net}
-use Rattle.sample_core.specs.Datum.{Datum, left, right}
+use Rattle.sample_core.specs.Datum.{Datum, left, right, items_of}
 use Rattle.sample_core.specs.ValueView.{datum_of}
 use Rattle.sample_core.specs.declared.sample.Sample.{Sample}
 use Rattle.state_core.specs.RowsView.{rows_in, row_number}

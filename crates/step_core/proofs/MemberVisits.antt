@@ -3,8 +3,8 @@
 use Rattle.std.proofs.Common.{◌≡◌, ℕ, suc, ◌+◌, ◌*◌, ◌≤◌, List, [], ◌∷◌, ◌++◌, map, length, take, drop, sym, ap, ap₂, ◌∙◌, arith, length-append, length-drop, length-take}
 use Rattle.std.proofs.Math.Nat.{mul-le-mul_right}
 use Rattle.std.proofs.lemmas.List.{length-map, take-map, drop-take}
-use Rattle.sample_core.specs.Datum.{Datum, left, right}
-use Rattle.net_meaning.specs.SignalFunction.{TimedList, zip_with, pieces, Member, items_named, items_of, new_members, first_members, chosen, moved, by_members}
+use Rattle.sample_core.specs.Datum.{Datum, left, right, items_of}
+use Rattle.net_meaning.specs.SignalFunction.{TimedList, zip_with, pieces, Member, items_named, new_members, first_members, chosen, moved, by_members}
 use Rattle.net_tree.specs.Height.{greatest}
 use Rattle.net_meaning.proofs.Switched.{take_into}
 use Rattle.net_meaning.proofs.Zips.{length-zip_with, take-zip_with}

@@ -3,11 +3,10 @@ use Rattle.std.proofs.Common.{◌≡◌, ℕ, zero, suc, ◌+◌, ◌*◌, ◌<�
 use Rattle.std.proofs.lemmas.List.{length-take}
 use Rattle.std.proofs.Math.Nat.{suc-mul}
 use Rattle.std.proofs.lemmas.Nat.{mul-le}
-use Rattle.sample_core.specs.Datum.{Datum, right}
+use Rattle.sample_core.specs.Datum.{Datum, right, items_of}
 use Rattle.leaf_core.specs.KeyTree.{KeyTree}
 use Rattle.net_tree.specs.Height.{greatest}
 use Rattle.net_tree.specs.Network.{Network, Networks, no_members, and_member}
-use Rattle.net_meaning.specs.SignalFunction.{items_of}
 use Rattle.net_tree.specs.Weight.{weight, weights, total}
 use Rattle.state_core.specs.State.{States, Scope, Frozen, Frozens, no_state, and_state, no_frozen, and_frozen, push_param, all_unstarted, all_paused, frozen_list, first_frozen, chosen_frozen}
 use Rattle.step_core.specs.Rank.{ranks, ranks_in, frozen_rank, frozen_ranks}

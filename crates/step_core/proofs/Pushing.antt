@@ -26,7 +26,7 @@ use Rattle.state_core.specs.StateView.{state_of, frozen_from}
 use Rattle.state_core.specs.declared.state.State.{State as CodeState}
 use Rattle.step_core.specs.StateOption.{state_in}
 use Rattle.step_core.specs.Stepping as G
-use Rattle.step_core.specs.Stepping.{Resumes, Starts, Steps}
+use Rattle.step_core.specs.Stepping.{Resumes}
 use Rattle.step_core.proofs.EnvironmentBounds.{IsCount-visited}
 use Rattle.step_core.proofs.MappedNetworks.{meaning-map, visits-map}
 use Rattle.step_core.proofs.Runners.{Pushed, pushed, first_push, next_push}

@@ -6,16 +6,16 @@ use Rattle.sample_core.specs.HasType.{HasType, pair_has, event_has, no_event_has
 use Rattle.leaf_core.specs.KeyTree.{KeyTree}
 use Rattle.net_tree.specs.Network.{Network}
 use Rattle.net_meaning.specs.Typing as N
-use Rattle.net_meaning.specs.Typing.{Arrow, AnyType, Typed, AllTyped}
+use Rattle.net_meaning.specs.Typing.{Arrow, AnyType, Typed}
 use Rattle.state_core.specs.State.{State, States, Scope, Frozen, rp_switch_state, no_state, and_state, params_of, all_paused, frozen_list, first_frozen, chosen_frozen, turned}
 use Rattle.step_core.specs.Stepping as G
 use Rattle.step_core.specs.Stepping.{Resumes, ResumesEach, restart_in}
 use Rattle.step_core.specs.RowTyping.{RowTyped}
 use Rattle.step_core.specs.StateTyping as T
-use Rattle.step_core.specs.StateTyping.{StatesTyped, ScopeTyped, FrozenTyped, row_value}
+use Rattle.step_core.specs.StateTyping.{ScopeTyped, row_value}
 use Rattle.step_core.specs.Outcome.{Outcome, IsRan}
 use Rattle.step_core.specs.Runs as R
-use Rattle.step_core.specs.Runs.{Ran, RunsWhere, RpSwitchBy, EachIs, MemberStatesTyped, AllRan, AllRunWhere}
+use Rattle.step_core.specs.Runs.{Ran, RunsWhere, RpSwitchBy, MemberStatesTyped, AllRan, AllRunWhere}
 use Rattle.step_core.specs.Switching.{IsTurned}
 use Rattle.step_core.proofs.CalledRows.{called_value}
 use Rattle.step_core.proofs.StateTypings.{row_typed, cut_typed, params_typed, first_typed, paused_members, chosen_typed}

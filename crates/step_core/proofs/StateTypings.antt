@@ -2,14 +2,13 @@
 use Rattle.std.proofs.Common.{◌≡◌, ℕ, suc, ◌+◌, ◌≤◌, ◌<◌, min, List, [], ◌∷◌, ◌++◌, length, ap, Bool, true, false, if◌then◌else◌, nat_le, pos, refl, sym, subst, arith, Some, w64, lit<}
 use Rattle.std.proofs.lemmas.Int.{fits_signed_from_abs}
 use Rattle.std.proofs.lemmas.List.{length-take}
-use Rattle.sample_core.specs.Datum.{Datum, Datums, int, left, right, list_of, elements}
+use Rattle.sample_core.specs.Datum.{Datum, Datums, int, left, right, list_of, elements, items_of}
 use Rattle.sample_core.specs.TypeTree.{TypeTree, int_ty, pair_ty, event_ty, list_ty}
 use Rattle.sample_core.specs.HasType.{HasType, HaveType, unit_has, int_has, pair_has, no_event_has, event_has, list_has, end_has, more_has, TypedParams, no_params, and_param}
 use Rattle.leaf_core.specs.ExpressionValue.{value_of}
 use Rattle.leaf_core.specs.KeyTree.{KeyTree}
 use Rattle.leaf_core.proofs.Soundness.{typed_value}
 use Rattle.net_tree.specs.Network.{Timing, at_once, delayed, Network, Networks}
-use Rattle.net_meaning.specs.SignalFunction.{items_of}
 use Rattle.net_meaning.specs.Typing as T
 use Rattle.net_meaning.specs.Typing.{Arrow, OldAt, old_here, old_after, copies, members, arrow, AnyType, Typed, AllTyped, TypedSamples, no_sample, and_sample, no_value, and_value}
 use Rattle.net_meaning.proofs.SameNets.{TypedParams-append}

@@ -11,7 +11,6 @@ ghost use Rattle.step_core.specs.Flow.{members_before, past_in};
 ghost use Rattle.step_core.specs.Switching.{IsChosen};
 
 use crate::on::On;
-use crate::part::{elements, first, second};
 use crate::rows::Rows;
 use leaf_table::LeafId;
 use net_tree::{MOST_MEMBERS, Net};
@@ -75,8 +74,8 @@ fn chosen_by<'n, R: Rows>(
         ≡ chosen_frozen (rows_in starts.entry.now) (scope_of on.now.env.now) (map frozen_of all.now)
         (datum_of which.now)) }
 {
-    let mut chosen = select(on.alloc, all, first(which))?;
-    match add_started(on, starts, elements(second(which)), &mut chosen) {
+    let mut chosen = select(on.alloc, all, which.left())?;
+    match add_started(on, starts, which.right().elements(), &mut chosen) {
         Ok(()) => Ok(chosen),
         Err(memory) => {
             drop(chosen);

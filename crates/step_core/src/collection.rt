@@ -1,6 +1,6 @@
 // One sample through the members of an `rpSwitchB`.
 
-ghost use Rattle.std.specs.Prelude.{◌≡◌, [], IfOk, map};
+ghost use Rattle.std.specs.Prelude.{[], IfOk, map};
 ghost use Rattle.sample_core.specs.ValueView.{datum_of};
 ghost use Rattle.net_tree.specs.Network.{map_networks, rp_switch};
 ghost use Rattle.net_tree.specs.NetworkView.{members_of};
@@ -13,7 +13,7 @@ ghost use Rattle.step_core.specs.Switching.{BeginsAfter, TurnedRun};
 
 use crate::choice::{Choice, chosen, first_members};
 use crate::on::{On, both, node};
-use crate::part::{first, make_place, restart_of};
+use crate::part::{make_place, restart_of};
 use crate::rows::Rows;
 use crate::run::{on_frozen, on_state, run_at_next};
 use leaf_table::LeafId;
@@ -79,10 +79,10 @@ fn run_turned<'n, R: Rows>(
             visits
         }
         None => match on.before {
-            Some(before) => step_each(on, before.places.as_slice(), first(x), kept, answers),
+            Some(before) => step_each(on, before.places.as_slice(), x.left(), kept, answers),
             None => {
                 let all = first_members(on, members)?;
-                let visits = resume_each(on, all.as_slice(), first(x), kept, answers);
+                let visits = resume_each(on, all.as_slice(), x.left(), kept, answers);
                 drop(all);
                 visits
             }

@@ -13,9 +13,7 @@ ghost use Rattle.step_core.specs.Flow.{Flows, AllFlow, IsCell, IsFedBack, IsOneC
 
 use crate::cells::{start_accum, start_cell, step_accum};
 use crate::on::{On, both, node};
-use crate::part::{
-    answer_places, first, let_go, let_parts_go, make_place, put_pair, restart_of, second,
-};
+use crate::part::{answer_places, let_go, make_place, put_pair, restart_of};
 use crate::rows::Rows;
 use crate::run::{go_on, run_place, start_under};
 use cell_core::Form;
@@ -165,9 +163,9 @@ fn flow_first<'n, R: Rows>(
         (kept_of kept.old) (kept_of kept.new) (datum_of out.new) n) }
 {
     let mut answer = Sample::Int(0);
-    match flow(on, f, first(x), kept, &mut answer) {
+    match flow(on, f, x.left(), kept, &mut answer) {
         Ok(one) => {
-            let done = put_pair(on.alloc, &answer, second(x), out);
+            let done = put_pair(on.alloc, &answer, x.right(), out);
             let_go(answer);
             done?;
             Ok(node(one, 0))
@@ -401,9 +399,9 @@ fn keep_fed(
     ensures { IfOk result (λ _. (datum_of out.new ≡ left (datum_of answer))
         × (cells.new ≡ slice_set cells.old at (previous (right (datum_of answer))))) }
 {
-    match cells.put_previous(alloc, at, second(&answer)) {
+    match cells.put_previous(alloc, at, answer.right()) {
         Ok(()) => {
-            let done = out.put_copy(alloc, first(&answer));
+            let done = out.put_copy(alloc, answer.left());
             drop(answer);
             done
         }
@@ -534,7 +532,7 @@ fn flow_restart<'n, R: Rows>(
             drop(env);
             Ok(node(one?, 0))
         }
-        None => Ok(node(run_place(on, f, first(x), kept, out)?, 0)),
+        None => Ok(node(run_place(on, f, x.left(), kept, out)?, 0)),
     }
 }
 
@@ -581,6 +579,6 @@ fn flow_late_restart<'n, R: Rows>(
                 }
             }
         }
-        None => Ok(node(run_place(on, f, first(x), kept, out)?, 0)),
+        None => Ok(node(run_place(on, f, x.left(), kept, out)?, 0)),
     }
 }

@@ -1,6 +1,6 @@
 // Networks with rows in place of their expressions.
 
-ghost use Rattle.std.specs.Prelude.{◌≡◌, ◌≢◌, ◌++◌, [], IfOk, None, Some, map, zero};
+ghost use Rattle.std.specs.Prelude.{◌≡◌, ◌≢◌, [], IfOk, None, Some, map, zero};
 ghost use Rattle.leaf_core.specs.{Expression.input, ExpressionView.expression_of};
 ghost use Rattle.net_tree.specs.Network.{first, par, accum_by, k_switch, p_switch, rp_switch, map_network, map_networks};
 ghost use Rattle.net_tree.specs.FormView.{fed_tree};

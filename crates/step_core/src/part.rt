@@ -1,33 +1,12 @@
 // Parts of values.
 
-ghost use Rattle.std.specs.Prelude.{◌≡◌, ◌≤◌, ◌<◌, IfOk, length, map, take};
-ghost use Rattle.sample_core.specs.{Datum.left, Datum.right, Datum.pair, ValueView.datum_of};
-ghost use Rattle.net_meaning.specs.SignalFunction.{items_of};
+ghost use Rattle.std.specs.Prelude.{◌≡◌, ◌≤◌, ◌<◌, IfOk, length, take};
+ghost use Rattle.sample_core.specs.{Datum.pair, ValueView.datum_of};
 ghost use Rattle.step_core.specs.Stepping.{event_in, restart_in};
 ghost use Rattle.step_core.specs.EventView.{event_found, restart_found};
 
 use sample_core::{Memory, Sample, SamplePair};
 use std::alloc::Global;
-
-/// The first part of a pair; another value itself.
-pub(crate) fn first(value: &Sample) -> &Sample
-    ensures { datum_of result.now ≡ left (datum_of value.now) }
-{
-    match value {
-        Sample::Pair(pair) => pair.first(),
-        _ => value,
-    }
-}
-
-/// The second part of a pair; another value itself.
-pub(crate) fn second(value: &Sample) -> &Sample
-    ensures { datum_of result.now ≡ right (datum_of value.now) }
-{
-    match value {
-        Sample::Pair(pair) => pair.second(),
-        _ => value,
-    }
-}
 
 /// A pair of two values. `Memory` if allocation fails.
 pub(crate) fn paired(alloc: Global, v: Sample, w: Sample) -> Result<Sample, Memory>
@@ -139,16 +118,6 @@ pub(crate) fn restart_of(value: &Sample) -> Option<(&Sample, &Sample)>
             _ => None,
         },
         _ => None,
-    }
-}
-
-/// The elements of a list value; none of another value.
-pub(crate) fn elements(value: &Sample) -> &[Sample]
-    ensures { map datum_of result.now ≡ items_of (datum_of value.now) }
-{
-    match value {
-        Sample::List(all) => all.as_slice(),
-        _ => &[],
     }
 }
 

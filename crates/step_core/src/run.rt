@@ -18,7 +18,7 @@ use crate::collection::run_collection;
 use crate::fire::{fire, fire_all, fire_one};
 use crate::flow::{call_into, flow};
 use crate::on::{On, both, node};
-use crate::part::{answer_places, first, let_go, let_second_go, make_place, put_pair, second};
+use crate::part::{answer_places, let_go, let_second_go, make_place, put_pair};
 use crate::rows::Rows;
 use leaf_table::LeafId;
 use net_tree::Net;
@@ -341,7 +341,7 @@ fn run_switch<'n, R: Rows>(
 {
     let mut answer = Sample::Int(0);
     match run_place(on, f, x, &mut running.kept, &mut answer) {
-        Ok(one) => match fire(on.alloc, second(&answer), on.env) {
+        Ok(one) => match fire(on.alloc, answer.right(), on.env) {
             Ok(Some(env)) => {
                 let two = run_in(&on.started(&env), over.net, x, running, out);
                 let done = hear(on.alloc, over.delayed, &answer, out);
@@ -351,7 +351,7 @@ fn run_switch<'n, R: Rows>(
                 Ok(node(one, two?))
             }
             Ok(None) => {
-                let done = out.put_copy(on.alloc, first(&answer));
+                let done = out.put_copy(on.alloc, answer.left());
                 drop(answer);
                 done?;
                 running.kept.end();
@@ -377,7 +377,7 @@ fn hear(alloc: Global, delayed: bool, before: &Sample, out: &mut Sample) -> Resu
         ≡ heard (timing_of delayed) (left (datum_of before.now)) (datum_of out.old)) }
 {
     if delayed {
-        out.put_copy(alloc, first(before))
+        out.put_copy(alloc, before.left())
     } else {
         Ok(())
     }

@@ -42,7 +42,7 @@ pub struct Runner<'a> {
 }
 
 impl<'a> Runner<'a> {
-    ghost use Rattle.step_core.specs.RunnerState.{RunnerState, network_in, StandsFor, Pushes};
+    ghost use Rattle.step_core.specs.RunnerState.{network_in, StandsFor, Pushes};
     ghost use Rattle.step_core.specs.RunnerView.{runner_state};
     ghost use Rattle.step_core.specs.RowTyping.{network_by};
 

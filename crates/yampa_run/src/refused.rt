@@ -1,6 +1,6 @@
 // What the program prints of a file that is refused.
 
-ghost use Rattle.std.specs.Prelude.{◌≡◌, codes, IfOk, string_bytes};
+ghost use Rattle.std.specs.Prelude.{◌≡◌, IfOk, string_bytes};
 ghost use Rattle.yampa_run.specs.RefusalLines.{byte_words, check_words, expression_words, line_on, no_layout_words, no_most_words, no_name_words, no_number_words, no_place_words, none_found_words, not_there_words, place_words, role_words, step_words, text_words, too_large_words, type_words, unread_words};
 
 use crate::printed::push_number;

@@ -1,5 +1,4 @@
 use Rattle.std.proofs.Common.{◌≡◌, ◌↔◌, IsTrue, ap₂, subst}
-use Rattle.leaf_core.specs.ExpressionView.{expression_of}
 use Rattle.expr_laws.proofs.NamedLaws.{same-made, other-made}
 use Rattle.expr_laws.proofs.compare.turned_equal.Goals as goal
 
