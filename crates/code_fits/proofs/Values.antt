@@ -1,7 +1,8 @@
 -- What values fit: lists, parameters, accumulators.
-use Rattle.std.proofs.Common.{◌≡◌, ◌≤◌, ℕ, zero, suc, List, [], ◌∷◌, ◌++◌, length, take, refl, sym, ap, subst}
-use Rattle.sample_core.specs.Datum.{Datum, list, list_of, elements}
+use Rattle.std.proofs.Common.{◌≤◌, ℕ, zero, suc, List, [], ◌∷◌, ◌++◌, length, take, sym, subst}
+use Rattle.sample_core.specs.Datum.{Datum, list, list_of}
 use Rattle.sample_core.specs.TypeTree.{TypeTree, pair_ty, event_ty, list_ty}
+use Rattle.sample_core.proofs.Elements.{elements_of_list}
 use Rattle.leaf_code.specs.Fitting.{Bounds, Fits, AllFit, pair_fits, no_event_fits, event_fits, list_fits, ParamsFit, no_param, and_param}
 use Rattle.net_meaning.specs.SignalFunction.{latest_event, if_event}
 use Rattle.cell_core.specs.Cell.{Cell}
@@ -13,12 +14,8 @@ use Rattle.code_fits.specs.Standing.{CellFits, accumulator_fits}
 use Rattle.code_fits.proofs.Cells.{At, BothFit}
 
 module _ (bound : Bounds) where
-  elements-of : (vs : List Datum) → elements (list_of vs) ≡ vs
-  elements-of [] = refl
-  elements-of (v ∷ vs) = ap (λ t. v ∷ t) (elements-of vs)
-
   pub listed : (B : TypeTree) (vs : List Datum) → length vs ≤ bound B → AllFit bound (list_of vs) B → Fits bound (list (list_of vs)) (list_ty B)
-  listed B vs l h = list_fits (subst (λ us. length us ≤ bound B) (sym (elements-of vs)) l) h
+  listed B vs l h = list_fits (subst (λ us. length us ≤ bound B) (sym (elements_of_list vs)) l) h
 
   -- one parameter more
   pub params-push : {Ps : List TypeTree} {ps : List Datum} {V : TypeTree} {c : Datum} → ParamsFit bound Ps ps → Fits bound c V → ParamsFit bound (Ps ++ V ∷ []) (ps ++ c ∷ [])

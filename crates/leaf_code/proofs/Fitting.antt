@@ -3,8 +3,9 @@ use Rattle.std.proofs.Common.{◌≡◌, ◌≤◌, ℕ, zero, suc, ℤ, pos, ne
 use Rattle.std.specs.Int.{int_wrap}
 use Rattle.std.proofs.lemmas.Int.{SFits-int_wrap}
 use Rattle.std.proofs.lemmas.List.{length-map}
-use Rattle.sample_core.specs.Datum.{Datum, Datums, int, list, left, right, list_of, elements}
+use Rattle.sample_core.specs.Datum.{Datum, Datums, int, list, left, right, list_of}
 use Rattle.sample_core.specs.TypeTree.{TypeTree, unit_ty, bool_ty, int_ty, pair_ty, event_ty, list_ty}
+use Rattle.sample_core.proofs.Elements.{elements_of_list}
 use Rattle.leaf_core.specs.Expression.{Expression, Expressions, then_expr, on}
 use Rattle.leaf_core.specs.ExpressionValue.{value_of, choose, nth_of, element_at, param_at}
 use Rattle.leaf_core.specs.ExpressionTyping.{ParamAt, param_here, param_after, ExpressionTyped, ExpressionsTyped, input_typed, param_typed, unit_typed, bool_typed, int_typed, pair_typed, fst_typed, snd_typed, then_typed, neg_typed, add_typed, sub_typed, mul_typed, less_typed, equal_typed, not_typed, and_typed, or_typed, if_typed, no_event_typed, event_typed, on_typed, list_typed, nth_typed, len_typed, no_more_typed, and_then_typed}
@@ -58,10 +59,6 @@ module _ (bound : TypeTree → ℕ) where
   param-type : {Ps : List TypeTree} {k : ℕ} {B : TypeTree} → ParamAt Ps k B → get_or Ps k unit_ty ≡ B
   param-type param_here = refl
   param-type (param_after i) = param-type i
-
-  elements-of : (vs : List Datum) → elements (list_of vs) ≡ vs
-  elements-of [] = refl
-  elements-of (v ∷ vs) = ap (λ t. v ∷ t) (elements-of vs)
 
   within-front : (s d : List Step) → ListsWithin bound (s ++ d) → ListsWithin bound s
   within-front [] d w = tt
@@ -212,7 +209,7 @@ module _ (bound : TypeTree → ℕ) where
           → Fits bound (list (list_of (map (register (after ps v s)) ks))) (list_ty T)
       list-fits s ks T h l =
           let n : length (map (register (after ps v s)) ks) ≡ length ks = length-map ks (register (after ps v s)) in
-          list_fits (subst (λ vs. length vs ≤ bound T) (sym (elements-of (map (register (after ps v s)) ks))) (omega arith)) (all-fit s ks T h)
+          list_fits (subst (λ vs. length vs ≤ bound T) (sym (elements_of_list (map (register (after ps v s)) ks))) (omega arith)) (all-fit s ks T h)
 
       then-sound : (f k : Expression) (x : ℕ) (s : List Step) (X C B : TypeTree) → IsSound f x X C → ((y : ℕ) → IsSound k y C B) → Good s → Typed s x X
           → ListsWithin bound (emit Ps A (then_expr f k) x s).0 → Sound (emit Ps A (then_expr f k) x s) B

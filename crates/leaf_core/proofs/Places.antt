@@ -3,7 +3,7 @@ use Rattle.std.proofs.Common.{◌≡◌, ℕ, zero, suc, ◌<◌, ◌≤◌, ℤ
 use Rattle.std.specs.Option.{ok_or, option_map}
 use Rattle.std.proofs.lemmas.List.{get_or-map, get_or_past, length-map}
 use Rattle.std.proofs.lemmas.Option.{slice_get-map, slice_get-get_or, slice_get_past}
-use Rattle.sample_core.specs.Datum.{Datum, list, elements, list_of}
+use Rattle.sample_core.specs.Datum.{Datum, list, list_of}
 use Rattle.sample_core.specs.ValueView.{datum_of}
 use Rattle.sample_core.specs.declared.sample.Sample.{Sample}
 use Rattle.leaf_core.specs.Expression.{Expression, Expressions, no_more, and_then, expressions_of, nodes_in, nodes_in_all}
@@ -11,6 +11,7 @@ use Rattle.leaf_core.specs.ExpressionView.{expression_of}
 use Rattle.leaf_core.specs.declared.expr.Expr.{Expr}
 use Rattle.sample_core.specs.TypeView.{type_of}
 use Rattle.sample_core.specs.declared.ty.Ty.{Ty}
+use Rattle.sample_core.proofs.Elements.{elements_of_list}
 use Rattle.leaf_core.specs.ExpressionCheck.{type_of_param}
 use Rattle.leaf_core.specs.declared.typing.ExprFault.TheVariants.{NoParam}
 use Rattle.leaf_core.specs.ExpressionValue.{nth_of, element_at}
@@ -25,16 +26,12 @@ type_found Ps k T h = ap (λ o. ok_or o NoParam) (slice_get-map type_of Ps k ∙
 pub type_missing : (Ps : List Ty) (k : ℕ) → length Ps ≤ k → type_of_param (map type_of Ps) k ≡ Err NoParam
 type_missing Ps k h = ap (λ o. ok_or o NoParam) (slice_get_past (map type_of Ps) k (rw length-map h))
 
-pub elements_of_elements : (vs : List Datum) → elements (list_of vs) ≡ vs
-elements_of_elements [] = refl
-elements_of_elements (v ∷ vs) = ap (λ t. v ∷ t) (elements_of_elements vs)
-
 -- a place of the list that a list value has elements by
 nth_found : (all : List Sample) (n : ℕ) (d : Datum) (s : Sample) → n < length all → nth_of (list_of (map datum_of all)) n d ≡ datum_of (get_or all n s)
-nth_found all n d s h = ap (λ vs. get_or vs n d) (elements_of_elements (map datum_of all)) ∙ get_or-map datum_of all n s d h
+nth_found all n d s h = ap (λ vs. get_or vs n d) (elements_of_list (map datum_of all)) ∙ get_or-map datum_of all n s d h
 
 nth_missing : (all : List Sample) (n : ℕ) (d : Datum) → length all ≤ n → nth_of (list_of (map datum_of all)) n d ≡ d
-nth_missing all n d h = ap (λ vs. get_or vs n d) (elements_of_elements (map datum_of all)) ∙ past datum_of all n d h
+nth_missing all n d h = ap (λ vs. get_or vs n d) (elements_of_list (map datum_of all)) ∙ past datum_of all n d h
 
 pub element_found : (all : List Sample) (at : ℤ) (n : ℕ) (d : Datum) (s : Sample) → at ≡ pos n → n < length all
     → element_at (list (list_of (map datum_of all))) at d ≡ datum_of (get_or all n s)

@@ -5,7 +5,7 @@ use Rattle.std.proofs.lemmas.Option.{slice_get_read, slice_get_past}
 use Rattle.std.proofs.Math.Seq.{take-suc}
 use Rattle.std.specs.Slice.{IsItemAt}
 use Rattle.sample_core.specs.ValueView.{datum_of}
-use Rattle.sample_core.specs.Datum.{Datum, int, list_of, elements, items_of}
+use Rattle.sample_core.specs.Datum.{Datum, int, items_of}
 use Rattle.sample_core.specs.declared.sample.Sample.{Sample}
 use Rattle.sample_core.specs.declared.sample.Sample.TheVariants as V
 use Rattle.net_meaning.specs.SignalFunction.{item_at, item_named, items_named}
@@ -79,11 +79,3 @@ picked-all all chosen ns i numbers k full e =
     e
     ∙ sym (take-append-le 64 so_far (items_named ms (map datum_of (drop i ns))) (omega (arith, length-take 64 so_far)))
     ∙ ap (take 64) (sym (named-append ms (map datum_of (take i ns)) (map datum_of (drop i ns))) ∙ ap (items_named ms) (sym (map-append datum_of (take i ns) (drop i ns)) ∙ ap (map datum_of) (take-append-drop i ns) ∙ k))
-
-elements_all : (vs : List Datum) → elements (list_of vs) ≡ vs
-elements_all [] = refl
-elements_all (v ∷ vs) = ap (λ us. v ∷ us) (elements_all vs)
-
--- the elements of what is a list
-pub listed_items : (v : Sample) (vs : List Datum) → v ≡ V.List vs → vs ≡ items_of (datum_of v)
-listed_items v vs e = sym (ap (λ s. items_of (datum_of s)) e ∙ elements_all vs)
