@@ -6,6 +6,7 @@ use Rattle.std.proofs.Math.Seq.{take-suc}
 use Rattle.std.specs.Slice.{IsItemAt}
 use Rattle.sample_core.specs.ValueView.{datum_of}
 use Rattle.sample_core.specs.Datum.{Datum, int, items_of}
+use Rattle.sample_core.specs.declared.sample.Sample.{Sample}
 use Rattle.net_meaning.specs.SignalFunction.{item_at, item_named, items_named}
 use Rattle.state_core.specs.declared.env.Frozen.{Frozen as CodeFrozen}
 use Rattle.state_core.specs.State.{Frozen, selected}
