@@ -9,11 +9,11 @@ use Rattle.leaf_core.specs.ExpressionView.{expression_of}
 use Rattle.leaf_code.specs.Fitting.{Bounds, Fits, AllFit, unit_fits, int_fits, pair_fits, no_event_fits, event_fits, list_fits, end_fits, more_fits, ParamsFit, no_param, and_param, LeafFits}
 use Rattle.leaf_code.proofs.Fitting.{left-fits, right-fits, leaf-fits}
 use Rattle.net_tree.specs.Network.{Timing, at_once, delayed}
-use Rattle.net_meaning.specs.SignalFunction.{item_at, item_named, items_named}
+use Rattle.net_meaning.specs.SignalFunction.{item_at, item_named, items_named, event_in}
 use Rattle.cell_core.specs.Cell.{Cell, accumulator_of}
 use Rattle.cell_core.specs.declared.form.Form.TheVariants as C
 use Rattle.net_machine.specs.Store.{Moment, start, step, Store, Origin, written, made, Entry, entries, stored, nothing, both as two_parts, mode as moded, frozen as kept_frozen, one, other, fed_value, looped, mode_of, front_part, taker_part, frozen_when, frozen_part, resumer_part, cell_in}
-use Rattle.net_machine.specs.Stepper.{Stepper, each_step, routed, event_in, event_beside, cell_at, Turn, turns, new_turns, written_from, members_at, members_in, step_at, member_step, turns_step}
+use Rattle.net_machine.specs.Stepper.{Stepper, each_step, routed, event_beside, cell_at, Turn, turns, new_turns, written_from, members_at, members_in, step_at, member_step, turns_step}
 use Rattle.net_machine.specs.Machine.{no_leaf}
 use Rattle.net_code.specs.declared.statement.Action.TheVariants as Ac
 use Rattle.net_code.specs.declared.statement.Part.TheVariants as P

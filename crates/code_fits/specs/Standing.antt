@@ -7,12 +7,12 @@ use Rattle.leaf_core.specs.declared.expr.Expr.{Expr}
 use Rattle.leaf_core.specs.ExpressionView.{expression_of}
 use Rattle.leaf_code.specs.CodeOf.{right_type, carried_type}
 use Rattle.leaf_code.specs.Fitting.{Bounds, Fits, LeafFits}
-use Rattle.net_meaning.specs.SignalFunction.{TimedList}
+use Rattle.net_meaning.specs.SignalFunction.{TimedList, event_in}
 use Rattle.cell_core.specs.Cell.{Cell, previous, queue, latest as held, accumulating, waiting, over, recurring, ticking, summing, accumulator_of}
 use Rattle.cell_core.specs.declared.form.Form.{Form}
 use Rattle.cell_core.specs.declared.form.Form.TheVariants as C
 use Rattle.net_machine.specs.Store.{Moment, start, step, Store, Origin, written, made, one, other, mode_of, front_part, taker_part, cell_in}
-use Rattle.net_machine.specs.Stepper.{Timed, Stepper, moment, event_in, event_beside, Turn, members_at, members_in}
+use Rattle.net_machine.specs.Stepper.{Timed, Stepper, moment, event_beside, Turn, members_at, members_in}
 use Rattle.net_code.specs.declared.statement.Action.{Action}
 use Rattle.net_code.specs.declared.statement.Action.TheVariants as A
 use Rattle.net_code.specs.declared.statement.Effect.{Effect}

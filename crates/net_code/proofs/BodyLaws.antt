@@ -7,7 +7,8 @@ use Rattle.net_tree.specs.Network.{Timing, at_once, delayed}
 use Rattle.cell_core.specs.declared.form.Form.{Form}
 use Rattle.cell_core.specs.declared.form.Form.TheVariants as CellForm
 use Rattle.net_machine.specs.Store.{Moment, start, step, Store, nothing, both, mode, frozen, mode_of, mode_at, one, other, front_part, taker_part, resumer_part}
-use Rattle.net_machine.specs.Stepper.{Stepper, event_in, event_beside, arr_step, seq_step, first_step, par_step, loop_step, cell_form_step, switched, switch_step, going_on, restarted_late, resume_in, r_switch_in, r_switch_step, initial_out_step, initial_in_step, resume_step, same_step, watched, freezing_step, routed, rp_switch_step}
+use Rattle.net_meaning.specs.SignalFunction.{event_in}
+use Rattle.net_machine.specs.Stepper.{Stepper, event_beside, arr_step, seq_step, first_step, par_step, loop_step, cell_form_step, switched, switch_step, going_on, restarted_late, resume_in, r_switch_in, r_switch_step, initial_out_step, initial_in_step, resume_step, same_step, watched, freezing_step, routed, rp_switch_step}
 use Rattle.net_machine.specs.Machine.{no_leaf}
 use Rattle.net_code.specs.declared.statement.Part.TheVariants as P
 use Rattle.net_code.specs.declared.statement.When.TheVariants as W

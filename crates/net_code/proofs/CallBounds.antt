@@ -6,9 +6,9 @@ use Rattle.leaf_core.specs.declared.expr.Expr.{Expr}
 use Rattle.net_tree.specs.Network.{at_once, delayed, Network, Networks, arr, seq, first, par, loop_pre, initial_out, initial_in, i_pre, delay, hold, accum_by, after, repeatedly, time, integral, switch, r_switch, rp_switch, k_switch, p_switch, old, no_members, and_member}
 use Rattle.net_tree.specs.Height.{greatest}
 use Rattle.net_tree.specs.Weight.{weight, weights, weight_at, total}
-use Rattle.net_meaning.specs.SignalFunction.{TimedList}
+use Rattle.net_meaning.specs.SignalFunction.{TimedList, event_in}
 use Rattle.net_machine.specs.Store.{Moment, start, step, Store, Origin, written, made, one, other, mode_of, front_part, taker_part, entries}
-use Rattle.net_machine.specs.Stepper.{Timed, Stepper, event_in, event_beside, Turn, turns, members_at, members_in}
+use Rattle.net_machine.specs.Stepper.{Timed, Stepper, event_beside, Turn, turns, members_at, members_in}
 use Rattle.net_code.specs.declared.freezable.Freezable.{Freezable}
 use Rattle.net_code.specs.Running.{Body, Code, Given, given_value, value_taken, cleared, taken_by, frozen_now, beside_in, is_none, going, Linked, Local, entered, latest, nothing_given}
 use Rattle.net_code.specs.Bodies.{member_statements}

@@ -2,10 +2,10 @@
 use Rattle.std.specs.Prelude.{ℕ, zero, suc, Bool, true, false, if◌then◌else◌, List, [], ◌∷◌, ◌++◌, take, get_or, length, ◌-◌, Option, Some, None}
 use Rattle.sample_core.specs.Datum.{Datum, unit, pair, left, right, no_event}
 use Rattle.leaf_core.specs.declared.expr.Expr.{Expr}
-use Rattle.net_meaning.specs.SignalFunction.{SignalFunction}
+use Rattle.net_meaning.specs.SignalFunction.{SignalFunction, event_in}
 use Rattle.cell_core.specs.declared.form.Form.TheVariants as CellForm
 use Rattle.net_machine.specs.Store.{Moment, start, step, Store, nothing, both, fed, mode, frozen, one, other, fed_value, looped, mode_of, front_part, taker_part, frozen_when, frozen_part, resumer_part}
-use Rattle.net_machine.specs.Stepper.{Timed, Stepper, run, event_in, par_step, routed, cell_form_step, rp_switch_step}
+use Rattle.net_machine.specs.Stepper.{Timed, Stepper, run, par_step, routed, cell_form_step, rp_switch_step}
 use Rattle.net_machine.specs.Machine.{no_leaf}
 use Rattle.net_code.specs.declared.statement.Part.{Part}
 use Rattle.net_code.specs.declared.statement.Part.TheVariants as P

@@ -1,7 +1,7 @@
 -- What starts stands for the network's meaning, and what steps goes on standing for it.
 use Rattle.std.proofs.Common.{◌≡◌, ℕ, suc, ◌+◌, List, [], ◌∷◌, map, refl, sym, ap, ap₂, subst, None}
 use Rattle.sample_core.specs.Datum.{Datum, unit, left, right, pair, list, list_of, no_event}
-use Rattle.net_meaning.specs.SignalFunction.{TimedList, SignalFunction, last_or, each_value, first_event, rights, watch, collect, i_pre_value, latest_event, values, if_event, Member, first_members, IsSignalFunction}
+use Rattle.net_meaning.specs.SignalFunction.{TimedList, SignalFunction, last_or, each_value, first_event, rights, watch, collect, i_pre_value, latest_event, values, if_event, Member, first_members, IsSignalFunction, heard}
 use Rattle.net_tree.specs.Network.{Network, Networks, arr, loop_pre, i_pre, delay, hold, accum_by, after, repeatedly, at_once, delayed, switch, r_switch, initial_out, initial_in, rp_switch, p_switch}
 use Rattle.state_core.specs.Visits.{first_and_one}
 use Rattle.std.proofs.lemmas.List.{map_push}
@@ -13,7 +13,7 @@ use Rattle.state_core.specs.State.{State, States, Scope, Frozen, scope, no_froze
 use Rattle.state_core.specs.StandsByForm.{CellStands}
 use Rattle.state_core.specs.Stands.{StandsDirectly, StandDirectly, StandEach, Denotes, AllDenote, FrozenDenotes, Stands}
 use Rattle.step_core.specs.Stepping
-use Rattle.step_core.specs.Stepping.{Starts, StartsEach, Resumes, ResumesEach, Steps, StepsEach, heard}
+use Rattle.step_core.specs.Stepping.{Starts, StartsEach, Resumes, ResumesEach, Steps, StepsEach}
 use Rattle.net_meaning.proofs.Steps.{signal-nil}
 use Rattle.step_core.proofs.CountedFunctions.{Took-continues, Took-equal}
 use Rattle.step_core.proofs.PlainCounts.{arr_took, seq_took, first_took, loop_took}

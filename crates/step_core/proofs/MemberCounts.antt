@@ -2,13 +2,12 @@
 use Rattle.std.proofs.Common.{◌≡◌, ℕ, suc, ◌+◌, List, [], ◌∷◌, ◌++◌, map, length, refl, sym, ap, ap₂, ◌∙◌, arith, length-append, Some, None}
 use Rattle.std.proofs.lemmas.List.{map_push}
 use Rattle.sample_core.specs.Datum.{Datum, list, list_of, pair}
-use Rattle.net_meaning.specs.SignalFunction.{TimedList, last_or, each_value, route, route_each, collect, first_event, watch, pair_samples, answer}
+use Rattle.net_meaning.specs.SignalFunction.{TimedList, last_or, each_value, route, route_each, collect, first_event, watch, pair_samples, answer, event_in}
 use Rattle.state_core.specs.Visits.{IsCount, VisitCounts, zeros, sum_of_all, sum_by_route}
 use Rattle.net_tree.specs.Weight.{total}
 use Rattle.state_core.specs.CountedFunction.{CountedFunction, IsCountedFunction, StandsVia, TakesSample, visits_at}
 use Rattle.state_core.specs.CountedForms.{counted_par, functions_of, counts_of_all, same_input, route_by, counted_resume, counted_resume_each, counted_p_switch}
 use Rattle.state_core.specs.StandsByForm.{ParStands, PSwitchStands}
-use Rattle.step_core.specs.Stepping.{event_in}
 use Rattle.net_meaning.proofs.Plain.{AllSignals, no_signal, and_signal}
 use Rattle.net_meaning.proofs.Switches.{IsSignal-collect, AllSignals-routes}
 use Rattle.net_meaning.proofs.Resumed.{IsSignal-resume}

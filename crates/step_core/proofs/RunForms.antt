@@ -7,7 +7,8 @@ use Rattle.leaf_core.specs.KeyTree.{KeyTree}
 use Rattle.net_tree.specs.Network.{Timing, at_once, delayed, Network, initial_out, initial_in}
 use Rattle.net_meaning.specs.Typing as N
 use Rattle.state_core.specs.State.{State, Scope, Frozen, seq_state, first_state, loop_state, switch_state, r_switch_state, k_switch_state, unstarted, paused, params_of, push_param, push_old}
-use Rattle.step_core.specs.Stepping.{event_in, restart_in, heard}
+use Rattle.net_meaning.specs.SignalFunction.{event_in, heard}
+use Rattle.step_core.specs.Stepping.{restart_in}
 use Rattle.step_core.specs.Stepping as G
 use Rattle.step_core.specs.Stepping.{Starts, Resumes, Steps}
 use Rattle.step_core.specs.Called.{Called}

@@ -10,7 +10,8 @@ use Rattle.net_meaning.specs.Typing.{members}
 use Rattle.state_core.specs.CountedForms.{same_input, route_by}
 use Rattle.state_core.specs.State.{State, States, Scope, Frozen, Frozens, par_state, p_switch_state, no_state, and_state, no_frozen, and_frozen, unstarted, paused, params_of, push_param, push_olds, all_unstarted, all_paused}
 use Rattle.step_core.specs.Stepping as G
-use Rattle.step_core.specs.Stepping.{Starts, StartsEach, Resumes, StepsEach, event_in}
+use Rattle.net_meaning.specs.SignalFunction.{event_in}
+use Rattle.step_core.specs.Stepping.{Starts, StartsEach, Resumes, StepsEach}
 use Rattle.step_core.specs.StateTyping as T
 use Rattle.step_core.specs.StateTyping.{FrozenTyped, row_value}
 use Rattle.step_core.specs.Outcome.{Outcome, IsRan}

@@ -18,7 +18,8 @@ use Rattle.cell_core.specs.Cell.{Cell, count_down, due, after_cell, cell_step}
 use Rattle.state_core.specs.State.{State, States, Scope, Frozens, Frozen, append_frozens, params_of, frozens_of, frozen_at, push_param, push_olds, all_unstarted, all_paused, frozen_list, first_frozen, chosen_frozen, turned}
 use Rattle.step_core.specs.Stepping as G
 use Rattle.step_core.specs.Stepping.{Starts, StartsEach, Resumes, ResumesEach, Steps, StepsEach}
-use Rattle.step_core.specs.Stepping.{event_in, restart_in, heard}
+use Rattle.net_meaning.specs.SignalFunction.{event_in, heard}
+use Rattle.step_core.specs.Stepping.{restart_in}
 use Rattle.state_core.specs.EmptyScope.{empty_scope}
 use Rattle.step_core.specs.RowTyping.{RowTyped, expression_in}
 use Rattle.step_core.specs.StateTyping.{row_value, CellTyped, previous_typed, queue_typed, latest_typed, accumulating_typed, waiting_typed, over_typed, recurring_typed, ticking_typed, summing_typed, StateTyped, StatesTyped, ScopeTyped, FrozensTyped, FrozenTyped, arr_state_typed, seq_state_typed, first_state_typed, par_state_typed, loop_state_typed, cell_state_typed, accum_state_typed, switch_state_typed, r_switch_state_typed, k_switch_state_typed, p_switch_state_typed, rp_switch_state_typed, no_state_typed, and_state_typed, scope_typed, no_frozen_typed, and_frozen_typed, unstarted_typed, paused_typed}

@@ -3,12 +3,11 @@ use Rattle.std.proofs.Common.{◌≡◌, ℕ, suc, ◌+◌, ◌<◌, List, [], �
 use Rattle.std.proofs.lemmas.List.{take_at, drop_at}
 use Rattle.sample_core.specs.Datum.{Datum, event, left, right, pair}
 use Rattle.net_tree.specs.Network.{Timing, at_once, delayed}
-use Rattle.net_meaning.specs.SignalFunction.{TimedList, SignalFunction, last_or, first_event, step_of, lefts, rights, watch, pair_samples, resume, IsSignalFunction, answer}
+use Rattle.net_meaning.specs.SignalFunction.{TimedList, SignalFunction, last_or, first_event, step_of, lefts, rights, watch, pair_samples, resume, IsSignalFunction, answer, event_in, heard}
 use Rattle.state_core.specs.Visits.{VisitCounts, both_at_first, switch_counts, and_one, add_counts}
 use Rattle.state_core.specs.CountedFunction.{CountedFunction, IsCountedFunction, Continues, StandsVia, TakesSample, visits_at}
 use Rattle.state_core.specs.CountedForms.{counted_switch_at, counted_switch, counted_watch, counted_k_switch, counted_resume}
 use Rattle.state_core.specs.StandsByForm.{SwitchStands, KSwitchStands}
-use Rattle.step_core.specs.Stepping.{event_in, heard}
 use Rattle.net_meaning.proofs.Zips.{length-zip_with}
 use Rattle.net_meaning.proofs.Events.{IsPlain}
 use Rattle.net_meaning.proofs.Plain.{IsSignal-watching}

@@ -16,7 +16,7 @@ use Rattle.step_core.specs.Outcome.{outcome}
 use Rattle.step_core.specs.Rank.{ranks_in, frozen_rank, frozen_ranks}
 use Rattle.step_core.specs.Runs as R
 use Rattle.step_core.specs.Runs.{RunsWhere, RunEachWhere, SwitchBy, KSwitchBy, PSwitchBy, by_row}
-use Rattle.step_core.specs.Stepping.{event_in, heard}
+use Rattle.net_meaning.specs.SignalFunction.{event_in, heard}
 use Rattle.step_core.specs.Switching.{ListRuns}
 use Rattle.step_core.proofs.Falling.{members_fall, par_falls, delayed_within, k_switch_within, p_switch_within, old_falls, over_old_weighs, over_olds_weighs}
 use Rattle.step_core.proofs.Flows.{also_by, par_by, r_switch_by}

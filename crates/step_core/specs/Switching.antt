@@ -11,7 +11,8 @@ use Rattle.state_core.specs.declared.env.Env.{Env}
 use Rattle.state_core.specs.declared.state.Running.{Running}
 use Rattle.step_core.specs.Called.{Called}
 use Rattle.step_core.specs.Flow.{AllRun, MembersRun, Past, members_before}
-use Rattle.step_core.specs.Stepping.{event_in, restart_in}
+use Rattle.net_meaning.specs.SignalFunction.{event_in}
+use Rattle.step_core.specs.Stepping.{restart_in}
 
 -- this network is to run in this scope, and keeps nothing yet
 abbrev pub BeginsAfter : Running → Network ℕ → Scope ℕ → Type 0

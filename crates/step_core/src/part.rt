@@ -2,7 +2,8 @@
 
 ghost use Rattle.std.specs.Prelude.{◌≡◌, ◌≤◌, ◌<◌, IfOk, length, take};
 ghost use Rattle.sample_core.specs.{Datum.pair, ValueView.datum_of};
-ghost use Rattle.step_core.specs.Stepping.{event_in, restart_in};
+ghost use Rattle.net_meaning.specs.SignalFunction.{event_in};
+ghost use Rattle.step_core.specs.Stepping.{restart_in};
 ghost use Rattle.step_core.specs.EventView.{event_found, restart_found};
 
 use sample_core::{Memory, Sample, SamplePair};

@@ -10,7 +10,7 @@ ghost use Rattle.state_core.specs.StateView.{frozen_of, kept_of, running_of, sco
 ghost use Rattle.step_core.specs.Called.{Called};
 ghost use Rattle.step_core.specs.Flow.{AllRun, Runs, past_behind, past_in, placed, standing};
 ghost use Rattle.step_core.specs.Runs.{RunsWhere};
-ghost use Rattle.step_core.specs.Stepping.{heard};
+ghost use Rattle.net_meaning.specs.SignalFunction.{heard};
 ghost use Rattle.step_core.specs.Switching.{BeginsAfter, ListRuns, timing_of};
 
 use crate::choice::Choice;
