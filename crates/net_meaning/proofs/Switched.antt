@@ -28,7 +28,7 @@ take_into (x ∷ p) q k = let e : suc (length p) + k ≡ suc (length p + k) = om
 pub take_into_at : {A : Type 0} (p q : List A) (n k : ℕ) → length p ≡ n → take (n + k) (p ++ q) ≡ p ++ take k q
 take_into_at p q n k e = ap (λ i. take (i + k) (p ++ q)) (sym e) ∙ take_into p q k
 
-step_of-take : (k : ℕ) (xs : TimedList) → step_of (take (suc k) xs) ≡ step_of xs
+pub step_of-take : (k : ℕ) (xs : TimedList) → step_of (take (suc k) xs) ≡ step_of xs
 step_of-take k [] = refl
 step_of-take k (x ∷ xs) = refl
 

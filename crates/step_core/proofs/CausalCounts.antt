@@ -7,7 +7,7 @@ use Rattle.net_tree.specs.Network.{Timing, at_once, delayed}
 use Rattle.net_meaning.specs.SignalFunction.{TimedList, SignalFunction, until, first_event, step_of, IsSignalFunction}
 use Rattle.state_core.specs.Visits.{VisitCounts, first_and_one, both_at_first, switch_counts, resume_counts, zeros, unheard}
 use Rattle.net_meaning.proofs.Events.{IsFirst, Outlook, never, once, outlook}
-use Rattle.net_meaning.proofs.Switched.{take_into, take_into_at}
+use Rattle.net_meaning.proofs.Switched.{step_of-take, take_into, take_into_at}
 use Rattle.net_meaning.proofs.Restarting.{KeepsPace}
 
 pub length-first_and_one : (ns : List ℕ) → length (first_and_one ns) ≡ length ns
@@ -38,10 +38,6 @@ take-both : (k : ℕ) (ms ns : List ℕ) → both_at_first (take (suc k) ms) (ta
 take-both k [] ns = refl
 take-both k (m ∷ ms) [] = refl
 take-both k (m ∷ ms) (n ∷ ns) = refl
-
-step_of-take : (k : ℕ) (xs : TimedList) → step_of (take (suc k) xs) ≡ step_of xs
-step_of-take k [] = refl
-step_of-take k (x ∷ xs) = refl
 
 module _ (e : SignalFunction) (se : IsSignalFunction e) (v : VisitCounts) (cv : KeepsPace v) (u : Datum → TimedList → ℕ → VisitCounts)
     (cu : (c : Datum) (p : TimedList) (d : ℕ) → KeepsPace (u c p d)) where
