@@ -1,17 +1,10 @@
 -- The cells are signals.
-use Rattle.std.proofs.Common.{◌≡◌, ℕ, [], ◌∷◌, map, refl, sym, ap, ◌∙◌}
+use Rattle.std.proofs.Common.{◌≡◌, ℕ, [], ◌∷◌, map, refl, sym, ap}
 use Rattle.std.proofs.lemmas.List.{length-map, take-map}
 use Rattle.sample_core.specs.Datum.{Datum}
 use Rattle.net_meaning.specs.SignalFunction.{TimedList, values, by_past, retime, i_pre_value, delay_value, latest_event, accum_by_value, after_value, repeatedly_value, time_value, integral_value, IsSignalFunction}
 use Rattle.net_meaning.proofs.Zips.{values-retime}
 use Rattle.net_meaning.proofs.Prefixes.{IsSignal-by_past}
-
-pub IsSignal-map : (h : Datum → Datum) → IsSignalFunction (λ xs. map h (values xs))
-IsSignal-map h = record {
-  sized = λ xs. length-map (values xs) h ∙ length-map xs (λ x. x.1);
-  causal = λ n xs. ap (map h) (sym (take-map (λ x. x.1) n xs)) ∙ sym (take-map h n (values xs));
-  timeless = λ d xs. ap (map h) (values-retime d xs);
-}
 
 pub IsSignal-values : IsSignalFunction values
 IsSignal-values = record {

@@ -1,35 +1,25 @@
 -- Each form does the same where its parts do.
-use Rattle.std.proofs.Common.{List, [], ◌∷◌, ◌++◌, refl, ◌∙◌}
+use Rattle.std.proofs.Common.{List, [], ◌∷◌, ◌++◌}
 use Rattle.sample_core.specs.TypeTree.{TypeTree, unit_ty, int_ty, pair_ty, event_ty, list_ty}
 use Rattle.leaf_core.specs.Expression.{Expression}
 use Rattle.leaf_core.specs.ExpressionValue.{value_of}
 use Rattle.leaf_core.specs.ExpressionTyping.{ExpressionTyped}
 use Rattle.leaf_core.specs.SameValue.{SameValue}
 use Rattle.leaf_core.proofs.Soundness.{typed_value}
-use Rattle.net_tree.specs.Network.{Network, arr, loop_pre, i_pre, delay, hold, accum_by, after, repeatedly, p_switch}
-use Rattle.net_meaning.specs.Typing.{Arrow, arrow, copies, members}
-use Rattle.net_meaning.specs.Environment.{Environment}
+use Rattle.net_tree.specs.Network.{arr, loop_pre, i_pre, delay, hold, accum_by, after, repeatedly, p_switch}
+use Rattle.net_meaning.specs.Typing.{arrow, copies, members}
 use Rattle.net_meaning.specs.Sameness.{SameLeaf}
-use Rattle.net_meaning.specs.AlikeEnvironments.{AlikeEnvironments, SameOutputs}
 use Rattle.net_meaning.specs.Congruence.{TwinLeaf, ArrLaw, SequenceLaw, FirstLaw, ParallelLaw, LoopLaw, PreviousLaw, DelayLaw, HoldLaw, AccumulateLaw, AfterLaw, RepeatedlyLaw, SameSwitchLaw, SameRestartLaw, SameFreezeLaw, SameFreezeMembersLaw}
 use Rattle.net_meaning.proofs.SameNets.{same-arr, same-loop_pre, same-i_pre, same-delay, same-hold, same-accum_by, same-after, same-repeatedly, same-p_switch, same-typed, same-all_typed}
 use Rattle.net_meaning.proofs.SameForms.{seq_same, first_same, loop_same, switch_same, r_switch_same, k_switch_same, par_same, p_switch_same, twins_left}
 use Rattle.net_meaning.proofs.StreamLaws.{same-outputs}
+use Rattle.net_meaning.proofs.SameOutputs.{same-trans}
 
 pub leaf_same : (Ps : List TypeTree) (A B : TypeTree) (e s : Expression) → ExpressionTyped e Ps A B → SameValue Ps A e s → SameLeaf value_of Ps A B e s
 leaf_same Ps A B e s d q = record { leaf_same = q; leaf_typed = typed_value e Ps A B d }
 
 twin_leaf : (Ps : List TypeTree) (A B : TypeTree) (e s : Expression) → TwinLeaf Ps A B e s → SameLeaf value_of Ps A B e s
 twin_leaf Ps A B e s h = leaf_same Ps A B e s h.one_typed h.same
-
--- an environment is alike itself
-alike_itself : (Ps : List TypeTree) (Os : List Arrow) (E F : Environment Expression) → AlikeEnvironments Ps Os E F → AlikeEnvironments Ps Os E E
-alike_itself Ps Os E F a = record { one_typed = a.one_typed; other_typed = a.one_typed; same_params = refl; same_olds = λ k o i xs j. refl }
-
--- one change after another
-both : (Ps : List TypeTree) (Os : List Arrow) (A : TypeTree) (f g h : Network Expression) → SameOutputs Ps Os A f g → SameOutputs Ps Os A g h
-    → SameOutputs Ps Os A f h
-both Ps Os A f g h q r E F a xs j = q E E (alike_itself Ps Os E F a) xs j ∙ r E F a xs j
 
 pub arr_congruent : ArrLaw
 arr_congruent Ps Os A B e s h = same-outputs Ps Os (arr e) (arr s) A B (same-arr value_of e s (twin_leaf Ps A B e s h))
@@ -45,7 +35,7 @@ parallel_congruent Ps Os A B fs gs h = par_same Ps Os A B fs gs h
 
 pub loop_congruent : LoopLaw
 loop_congruent Ps Os A B C c d f f' h p =
-    both Ps Os A (loop_pre c f) (loop_pre d f) (loop_pre d f')
+    same-trans Ps Os A (loop_pre c f) (loop_pre d f) (loop_pre d f')
     (same-outputs Ps Os (loop_pre c f) (loop_pre d f) A B (same-loop_pre value_of c d f f (twin_leaf Ps unit_ty C c d h)
     (same-typed value_of ExpressionTyped typed_value Ps Os f (pair_ty A C) (pair_ty B C) p.one_typed)))
     (loop_same Ps Os A B C d f f' h.other_typed p.one_typed p.same)
@@ -83,7 +73,7 @@ freeze_congruent Ps Os A B C f f' e e' t t' p q r =
 
 pub freeze_members_congruent : SameFreezeMembersLaw
 freeze_members_congruent Ps Os A B C D r s fs gs e e' t t' few h hs p q =
-    both Ps Os A (p_switch r fs e t) (p_switch s fs e t) (p_switch s gs e' t')
+    same-trans Ps Os A (p_switch r fs e t) (p_switch s fs e t) (p_switch s gs e' t')
     (same-outputs Ps Os (p_switch r fs e t) (p_switch s fs e t) A (list_ty B)
     (same-p_switch value_of r s fs fs e e t t few (twin_leaf Ps (pair_ty A int_ty) D r s h)
     (same-all_typed value_of ExpressionTyped typed_value Ps Os fs D B (twins_left Ps Os D B fs gs hs))

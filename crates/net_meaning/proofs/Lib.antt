@@ -31,3 +31,4 @@ pub mod PlainSteps
 pub mod SwitchSteps
 pub mod CellSteps
 pub mod TypingMap
+pub mod NetMembers

@@ -5,8 +5,8 @@ use Rattle.net_meaning.specs.SignalFunction.{TimedList, SignalFunction, retime, 
 use Rattle.net_tree.specs.Network.{Network, Networks, arr, seq, first, par, loop_pre, initial_out, initial_in, i_pre, delay, hold, accum_by, after, repeatedly, time, integral, switch, r_switch, rp_switch, k_switch, p_switch, old, no_members, and_member}
 use Rattle.net_meaning.specs.Meaning.{Context, with_param, with_olds, old_at, meaning, meanings}
 use Rattle.net_meaning.specs.Environment.{Environment, context_of, outputs, closed, param, frozen}
-use Rattle.net_meaning.proofs.Cells.{IsSignal-map, IsSignal-values, IsSignal-previous_of, IsSignal-delay_value, IsSignal-latest_event, IsSignal-accumulation, IsSignal-after_value, IsSignal-repeatedly_value, IsSignal-clock, IsSignal-integral_value}
-use Rattle.net_meaning.proofs.Plain.{AllSignals, no_signal, and_signal, IsSignal-sequence, IsSignal-on_left, IsSignal-in_parallel}
+use Rattle.net_meaning.proofs.Cells.{IsSignal-values, IsSignal-previous_of, IsSignal-delay_value, IsSignal-latest_event, IsSignal-accumulation, IsSignal-after_value, IsSignal-repeatedly_value, IsSignal-clock, IsSignal-integral_value}
+use Rattle.net_meaning.proofs.Plain.{AllSignals, no_signal, and_signal, IsSignal-sequence, IsSignal-on_left, IsSignal-in_parallel, IsSignal-part}
 use Rattle.net_meaning.proofs.Feedback.{IsSignal-feedback}
 use Rattle.net_meaning.proofs.Resumed.{IsSignal-resume}
 use Rattle.net_meaning.proofs.Switches.{IsSignal-switching, IsSignal-switching_on, IsSignal-switching_all}
@@ -26,7 +26,7 @@ IsSignal-old_at (f ∷ fs) (and_signal sf s) (suc k) = IsSignal-old_at fs s k
 mutual
   pub IsSignal-meaning : {L : Type 0} (val : L → List Datum → Datum → Datum) (net : Network L) (E : Context) → AllSignals E.olds
       → IsSignalFunction (meaning val net E)
-  IsSignal-meaning val (arr e) E s = IsSignal-map (val e E.params)
+  IsSignal-meaning val (arr e) E s = IsSignal-part (val e E.params)
   IsSignal-meaning val (seq f g) E s = IsSignal-sequence (meaning val f E) (meaning val g E) (IsSignal-meaning val f E s) (IsSignal-meaning val g E s)
   IsSignal-meaning val (first f) E s = IsSignal-on_left (meaning val f E) (IsSignal-meaning val f E s)
   IsSignal-meaning val (par fs) E s = IsSignal-in_parallel (meanings val fs E) (AllSignals-meanings val fs E s)

@@ -176,7 +176,7 @@ collection_congruent Ps Os D B C V fs gs m n t t' hs h q E F a xs j =
     (λ v i. same_at (Ps ++ V ∷ []) Os D B t t' (param E v) (param F v) q.one_typed q.same (alike_param Ps Os E F V v a i))
     (meanings value_of fs (scope E)) (meanings value_of gs (scope F)) (twins_at Ps Os D B fs gs E F hs a)).same xs j
 
-count_meanings : (fs : Networks Expression) (E : Context) → length (meanings value_of fs E) ≡ members fs
+pub count_meanings : (fs : Networks Expression) (E : Context) → length (meanings value_of fs E) ≡ members fs
 count_meanings no_members E = refl
 count_meanings (and_member f fs) E = ap suc (count_meanings fs E)
 
