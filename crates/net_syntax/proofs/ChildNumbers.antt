@@ -10,29 +10,15 @@ use Rattle.net_tree.specs.NetworkView.{members_of, tree_of, trees}
 use Rattle.net_tree.specs.Place.{member, member_child, continuation_child, p_switch_child}
 use Rattle.net_syntax.specs.Placed.{bound, bound_behind, bound_in}
 use Rattle.net_meaning.specs.Typing.{members}
+use Rattle.net_meaning.proofs.NetMembers.{member-there, member-missing}
 use Rattle.net_tree.specs.declared.net.Net.{Net}
-
-pub counted : (all : List (Net Expr)) → members (trees (members_of all)) ≡ length all
-counted [] = refl
-counted (f ∷ fs) = ap suc (counted fs)
-
--- what stands among the members
-pub member_here : (all : List (Net Expr)) (k : ℕ) (x : Net Expr) → k < length all → member (trees (members_of all)) k ≡ Some (tree_of (get_or all k x))
-member_here [] k x h = absurd (omega arith)
-member_here (f ∷ fs) zero x h = refl
-member_here (f ∷ fs) (suc k) x h = member_here fs k x (omega arith)
-
-no_member : (all : List (Net Expr)) (k : ℕ) → length all ≤ k → member (trees (members_of all)) k ≡ None
-no_member [] k h = refl
-no_member (f ∷ fs) zero h = absurd (omega arith)
-no_member (f ∷ fs) (suc k) h = no_member fs k (omega arith)
 
 pub member_found : (all : List (Net Expr)) (fs : Networks Expr) (k : ℕ) (r : Option (Bor (Net Expr))) → members_of all ≡ fs
     → IfSome r (λ x. x.now ≡ get_or all k x.now) → MatchOption r (length all ≤ k) (λ x. (k < length all) × HoldsAt (λ y. x.now ≡ y) all k)
     → option_map (λ f. tree_of f.now) r ≡ member (trees fs) k
-member_found all fs k None p found within = sym (no_member all k within) ∙ ap (λ z. member (trees z) k) p
+member_found all fs k None p found within = sym (member-missing all k within) ∙ ap (λ z. member (trees z) k) p
 member_found all fs k (Some x) p found within =
-    ap (λ z. Some (tree_of z)) found ∙ (sym (member_here all k x.now within.0) ∙ ap (λ z. member (trees z) k) p)
+    ap (λ z. Some (tree_of z)) found ∙ (sym (member-there all k x.now within.0) ∙ ap (λ z. member (trees z) k) p)
 
 pub below : (all : List (Net Expr)) (k : ℕ) → k < length all → p_switch_child (trees (members_of all)) k ≡ member_child
 below [] k h = absurd (omega arith)

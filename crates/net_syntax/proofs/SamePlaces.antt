@@ -94,7 +94,7 @@ found_network None c p = absurd (none-some c p)
 found_network (Some f) c p = record { found = f; found_is = refl; found_tree = same_Some (a_network f) c p }
 
 -- a number below that of the members is a member's
-member_below : (fs : Networks Expression) (k : ℕ) → k < members fs → p_switch_child fs k ≡ member_child
+pub member_below : (fs : Networks Expression) (k : ℕ) → k < members fs → p_switch_child fs k ≡ member_child
 member_below no_members k l = absurd (omega arith)
 member_below (and_member f fs) zero l = refl
 member_below (and_member f fs) (suc k) l = let l' : k < members fs = omega arith in member_below fs k l'
