@@ -46,6 +46,13 @@ pub(crate) struct Together {
     heaviest: u32,
 }
 
+/// The weights and the heights of members, in their order.
+#[derive(Drop)]
+struct Lists {
+    weights: Vec<u32>,
+    heights: Vec<u32>,
+}
+
 /// What is measured by.
 #[derive(Drop)]
 pub(crate) struct Measuring {
@@ -149,6 +156,31 @@ impl Measures {
     }
 }
 
+impl Lists {
+    /// Those of no members.
+    fn new(alloc: Global) -> Lists
+        ensures weights { result.weights.items ≡ [] }
+        ensures heights { result.heights.items ≡ [] }
+    {
+        Lists {
+            weights: Vec::new(alloc),
+            heights: Vec::new(alloc),
+        }
+    }
+
+    /// Adds those of one more.
+    fn push(&mut self, member: Measures) -> Result<(), Memory>
+        ensures weights { OnOk result (self.new.weights.items
+            ≡ self.old.weights.items ++ member.weight ∷ []) }
+        ensures heights { OnOk result (self.new.heights.items
+            ≡ self.old.heights.items ++ member.height ∷ []) }
+    {
+        self.weights.push(member.weight)?;
+        self.heights.push(member.height)?;
+        Ok(())
+    }
+}
+
 impl Measuring {
     /// One node over what is inside it, where that is within the limits.
     pub(crate) fn above(&self, inside: Measures) -> Result<Measures, Stop>
@@ -207,14 +239,6 @@ pub(crate) fn joined(alloc: Global, scope: &[u32], frozen: &[u32]) -> Result<Vec
     let mut all = scope.to_vec(alloc)?;
     all.extend_from_slice(frozen)?;
     Ok(all)
-}
-
-/// Adds a number to the list.
-pub(crate) fn pushed(numbers: &mut Vec<u32>, number: u32) -> Result<(), Memory>
-    ensures { OnOk result (numbers.new.items ≡ numbers.old.items ++ number ∷ []) }
-{
-    numbers.push(number)?;
-    Ok(())
 }
 
 /// The network's weight and height, and its size with the one so far. It stops at the first network
@@ -304,16 +328,8 @@ fn measure_all(
 ) -> Result<Measures, Stop>
     ensures { AddsMeasures result by.now size (par (trees fs.now)) }
 {
-    let mut weights = Vec::new(alloc);
-    let mut heights = Vec::new(alloc);
-    let fs = measure_members(
-        alloc,
-        fs.as_slice(),
-        by,
-        more(size),
-        &mut weights,
-        &mut heights,
-    )?;
+    let mut lists = Lists::new(alloc);
+    let fs = measure_members(alloc, fs.as_slice(), by, more(size), &mut lists)?;
     by.above(fs.inside)
 }
 
@@ -347,18 +363,10 @@ fn measure_freeze_all(
 ) -> Result<Measures, Stop>
     ensures { AddsMeasures result by.now size (p_switch input (trees fs.now) (tree e.now) (tree t.now)) }
 {
-    let mut weights = Vec::new(alloc);
-    let mut heights = Vec::new(alloc);
-    let fs = measure_members(
-        alloc,
-        fs.as_slice(),
-        by,
-        more(size),
-        &mut weights,
-        &mut heights,
-    )?;
+    let mut lists = Lists::new(alloc);
+    let fs = measure_members(alloc, fs.as_slice(), by, more(size), &mut lists)?;
     let e = measure_net(alloc, e.get(), by, fs.inside.size)?;
-    let t = measure_under(alloc, t, by, &weights, &heights, e.size)?;
+    let t = measure_under(alloc, t, by, &lists.weights, &lists.heights, e.size)?;
     by.above(fs.inside.beside(e).beside(t))
 }
 
@@ -373,16 +381,8 @@ fn measure_collection(
 ) -> Result<Measures, Stop>
     ensures { AddsMeasures result by.now size (rp_switch (trees fs.now) input (tree t.now)) }
 {
-    let mut weights = Vec::new(alloc);
-    let mut heights = Vec::new(alloc);
-    let fs = measure_members(
-        alloc,
-        fs.as_slice(),
-        by,
-        more(size),
-        &mut weights,
-        &mut heights,
-    )?;
+    let mut lists = Lists::new(alloc);
+    let fs = measure_members(alloc, fs.as_slice(), by, more(size), &mut lists)?;
     let t = measure_net(alloc, t.get(), by, fs.inside.size)?;
     by.above(Measures {
         size: t.size,
@@ -423,15 +423,14 @@ fn measure_members(
     fs: &[Net<Expr>],
     by: &Measuring,
     size: u32,
-    weights: &mut Vec<u32>,
-    heights: &mut Vec<u32>,
+    lists: &mut Lists,
 ) -> Result<Together, Stop>
     ensures measures { GathersMeasures result by.now.most (size + networks_size (trees (members_of fs.now)))
         (weights_of (trees (members_of fs.now)) by.now.weights.items)
         (heights_of (trees (members_of fs.now)) by.now.heights.items) }
-    ensures weights { OnOk result (weights.new.items ≡ weights.old.items
+    ensures weights { OnOk result (lists.new.weights.items ≡ lists.old.weights.items
         ++ map capped (weights_of (trees (members_of fs.now)) by.now.weights.items)) }
-    ensures heights { OnOk result (heights.new.items ≡ heights.old.items
+    ensures heights { OnOk result (lists.new.heights.items ≡ lists.old.heights.items
         ++ map capped (heights_of (trees (members_of fs.now)) by.now.heights.items)) }
 {
     let Some((f, rest)) = fs.split_first() else {
@@ -441,9 +440,8 @@ fn measure_members(
         });
     };
     let f = measure_net(alloc, f, by, more(size))?;
-    pushed(weights, f.weight)?;
-    pushed(heights, f.height)?;
-    let rest = measure_members(alloc, rest, by, f.size, weights, heights)?;
+    lists.push(f)?;
+    let rest = measure_members(alloc, rest, by, f.size, lists)?;
     Ok(Together {
         inside: f.beside(rest.inside),
         heaviest: f.weight.max(rest.heaviest),
