@@ -16,7 +16,7 @@ use Rattle.leaf_expr.proofs.TokenLaws.{spells_printed}
 use Rattle.leaf_expr.specs.declared.type_reader.TheConstants.{MOST_OPEN}
 use Rattle.leaf_expr.specs.declared.number_reader.TheConstants.{MOST_INDEX}
 use Rattle.net_tree.specs.Network.{Network, Networks, networks_of, arr, seq, first, par, loop_pre, initial_out, initial_in, i_pre, delay, hold, accum_by, after, repeatedly, time, integral, switch, r_switch, rp_switch, k_switch, p_switch, old, no_members, and_member, at_once, delayed}
-use Rattle.net_text.specs.Grammar.{Version, version_1, version_2, version_3, networks, network_sort, members_sort, leaf_sort, time_sort, Timer, delay_timer, after_timer, repeatedly_timer, least, greatest_time, net_word_at, net_words, net_production_at, net_productions, col_productions}
+use Rattle.net_text.specs.Grammar.{Version, version_1, version_2, version_3, networks, network_sort, members_sort, leaf_sort, time_sort, Timer, delay_timer, after_timer, repeatedly_timer, least, greatest_time, net_word_at, net_words, net_production_at, net_productions, new_productions, second_productions, col_productions}
 use Rattle.net_text.specs.Printing.{network_sexpr, network_sexprs, is_new, are_new, version_by, version_word, Writable, AllWritable, TimeFits}
 use Rattle.net_text.specs.FileLaws.{PrintedFileLaw, IsOfNetworks, header_tokens}
 use Rattle.net_text.proofs.Carried.{meaning_same}
@@ -74,6 +74,12 @@ second_allows new e q = cc
 pub third_allows : (new : Bool) → Allows version_3 new
 third_allows new e q = cc
 
+-- the forms that such a version has more
+newer : (v : Version) → (v ≡ version_1 → ⊥) → new_productions v ≡ second_productions
+newer version_1 h = absurd (h refl)
+newer version_2 h = refl
+newer version_3 h = refl
+
 -- a printed network means the network, and its words are words
 mutual
   unfolding net_word_at net_words net_production_at net_productions col_productions listed
@@ -126,40 +132,25 @@ mutual
     let i : meant (networks v) (leaf_sort index_sort) (atom (decimal k)) ≡ Some k = index_kept v k r in rw i refl,
     rw (decimal_is_word k (omega arith)) refl,
   )
-  printed (initial_out c f) version_2 r h =
-      let i = printed f version_2 r.1 (second_allows _) in
-      (rw (leaf_means version_2 c r.0, i.0) refl, rw (expression_plain c r.0, i.1) refl)
-  printed (initial_in c f) version_2 r h =
-      let i = printed f version_2 r.1 (second_allows _) in
-      (rw (leaf_means version_2 c r.0, i.0) refl, rw (expression_plain c r.0, i.1) refl)
-  printed (r_switch delayed f g) version_2 r h =
-      let i = printed f version_2 r.0 (second_allows _) in
-      let j = printed g version_2 r.1 (second_allows _) in
-      (rw (i.0, j.0) refl, rw (i.1, j.1) refl)
-  printed (rp_switch fs c t) version_2 r h =
-      let i = members_printed fs version_2 r.0 (second_allows _) in
-      let k = printed t version_2 r.2 (second_allows _) in
-      let m : meant (networks version_2) members_sort (form (codes "col") (network_sexprs fs)) ≡ Some fs = i.1 networks_of ∙ ap Some (listed_are fs) in
-      (rw (m, leaf_means version_2 c r.1, k.0) refl, rw (i.2, expression_plain c r.1, k.1) refl)
-  printed (initial_out c f) version_3 r h =
-      let i = printed f version_3 r.1 (third_allows _) in
-      (rw (leaf_means version_3 c r.0, i.0) refl, rw (expression_plain c r.0, i.1) refl)
-  printed (initial_in c f) version_3 r h =
-      let i = printed f version_3 r.1 (third_allows _) in
-      (rw (leaf_means version_3 c r.0, i.0) refl, rw (expression_plain c r.0, i.1) refl)
-  printed (r_switch delayed f g) version_3 r h =
-      let i = printed f version_3 r.0 (third_allows _) in
-      let j = printed g version_3 r.1 (third_allows _) in
-      (rw (i.0, j.0) refl, rw (i.1, j.1) refl)
-  printed (rp_switch fs c t) version_3 r h =
-      let i = members_printed fs version_3 r.0 (third_allows _) in
-      let k = printed t version_3 r.2 (third_allows _) in
-      let m : meant (networks version_3) members_sort (form (codes "col") (network_sexprs fs)) ≡ Some fs = i.1 networks_of ∙ ap Some (listed_are fs) in
-      (rw (m, leaf_means version_3 c r.1, k.0) refl, rw (i.2, expression_plain c r.1, k.1) refl)
-  printed (initial_out c f) version_1 r h = absurd (h refl refl)
-  printed (initial_in c f) version_1 r h = absurd (h refl refl)
-  printed (r_switch delayed f g) version_1 r h = absurd (h refl refl)
-  printed (rp_switch fs c t) version_1 r h = absurd (h refl refl)
+  printed (initial_out c f) v r h =
+      let n = newer v (h refl) in
+      let i = printed f v r.1 (λ _. h refl) in
+      (rw (n, leaf_means v c r.0, i.0) refl, rw (expression_plain c r.0, i.1) refl)
+  printed (initial_in c f) v r h =
+      let n = newer v (h refl) in
+      let i = printed f v r.1 (λ _. h refl) in
+      (rw (n, leaf_means v c r.0, i.0) refl, rw (expression_plain c r.0, i.1) refl)
+  printed (r_switch delayed f g) v r h =
+      let n = newer v (h refl) in
+      let i = printed f v r.0 (λ _. h refl) in
+      let j = printed g v r.1 (λ _. h refl) in
+      (rw (n, i.0, j.0) refl, rw (i.1, j.1) refl)
+  printed (rp_switch fs c t) v r h =
+      let n = newer v (h refl) in
+      let i = members_printed fs v r.0 (λ _. h refl) in
+      let k = printed t v r.2 (λ _. h refl) in
+      let m : meant (networks v) members_sort (form (codes "col") (network_sexprs fs)) ≡ Some fs = i.1 networks_of ∙ ap Some (listed_are fs) in
+      (rw (n, m, leaf_means v c r.1, k.0) refl, rw (i.2, expression_plain c r.1, k.1) refl)
 
   members_printed : (fs : Networks Expression) (v : Version) → AllWritable fs → Allows v (are_new fs) →
       ((make : List (Network Expression) → Network Expression) →
