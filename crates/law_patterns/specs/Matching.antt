@@ -1,5 +1,5 @@
 -- Matching symbol by symbol.
-use Rattle.std.specs.Prelude.{Bool, true, false, not, List, [], ◌∷◌, Option, Some, None}
+use Rattle.std.specs.Prelude.{Bool, true, false, not, List, [], ◌∷◌, map, Option, Some, None}
 use Rattle.std.proofs.Common.{Bor}
 use Rattle.sample_core.specs.TypeTree.{TypeTree, unit_ty}
 use Rattle.sample_core.specs.TypeCode.{type_code}
@@ -33,6 +33,10 @@ nothing_found = record { f = None; g = None; h = None; i = None; t = None }
 abbrev pub held_expression : Option (Bor Expr) → Option Expression
 held_expression None = None
 held_expression (Some e) = Some (expression_of e.now)
+
+-- the expressions that the code has on a stack
+abbrev pub todo_of : List (Bor Expr) → List Expression
+todo_of es = map (λ e. expression_of e.now) es
 
 -- the type that the code holds, if there is one
 abbrev pub held_type : Option (Bor Ty) → Option TypeTree

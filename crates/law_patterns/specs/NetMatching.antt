@@ -1,5 +1,5 @@
 -- Matching networks symbol by symbol.
-use Rattle.std.specs.Prelude.{ℕ, Bool, true, false, nat_eq, List, [], ◌∷◌, Option, Some, None}
+use Rattle.std.specs.Prelude.{ℕ, Bool, true, false, nat_eq, List, [], ◌∷◌, map, Option, Some, None}
 use Rattle.std.proofs.Common.{Bor}
 use Rattle.leaf_core.specs.Expression.{Expression}
 use Rattle.leaf_core.specs.ExpressionCode.{expression_code}
@@ -33,6 +33,10 @@ no_nets_found = record { f = None; g = None; h = None; q = None; exprs = nothing
 abbrev pub held_network : Option (Bor (Net Expr)) → Option (Network Expression)
 held_network None = None
 held_network (Some n) = Some (tree_of n.now)
+
+-- the networks that the code has on a stack
+abbrev pub nets_todo_of : List (Bor (Net Expr)) → List (Network Expression)
+nets_todo_of fs = map (λ n. tree_of n.now) fs
 
 -- what the code's `NetLetters` hold
 abbrev pub nets_found_of : NetLetters → NetFound

@@ -1,6 +1,6 @@
 // Building the expression that a pattern stands for.
 
-ghost use Rattle.std.specs.Prelude.{◌≡◌, IfOk, MatchOption, ◌∷◌, Some, None};
+ghost use Rattle.std.specs.Prelude.{◌≡◌, IfOk, MatchOption, ◌∷◌, [], Some, None};
 ghost use Rattle.leaf_core.specs.ExpressionView.{expression_of};
 ghost use Rattle.law_patterns.specs.Pattern.{around_one, around_two, around_three, put_before, filled};
 ghost use Rattle.law_patterns.specs.Matching.{completed, found_of};
@@ -32,7 +32,29 @@ pub(crate) fn build(
             return Ok(None);
         }
     }
-    stack.only(alloc)
+    taken(alloc, stack.only())
+}
+
+/// The expression of the part, if there is one. `Memory` if a count of references is full.
+fn taken(alloc: Global, part: Option<ExprChild>) -> Result<Option<Expr>, Memory>
+    ensures { IfOk result (λ o. MatchOption o (part ≡ None) (λ e. part ≡ Some (expression_of e))) }
+{
+    match part {
+        None => Ok(None),
+        Some(part) => {
+            let copy = part.get().try_copy(alloc);
+            drop(part);
+            Ok(Some(copy?))
+        }
+    }
+}
+
+/// Takes the expression on top of the stack off, if there is one.
+pub(crate) fn pop_expr(alloc: Global, stack: &mut Stack<ExprChild>) -> Result<Option<Expr>, Memory>
+    ensures { IfOk result (λ o. MatchOption o ((stack.old ≡ []) × (stack.new ≡ []))
+        (λ e. stack.old ≡ expression_of e ∷ stack.new)) }
+{
+    taken(alloc, stack.pop())
 }
 
 /// Puts on the stack what the symbol makes: a letter's expression, or the form with the parts that
@@ -41,7 +63,7 @@ pub(crate) fn make(
     alloc: Global,
     sym: Sym,
     letters: &Letters,
-    stack: &mut Stack,
+    stack: &mut Stack<ExprChild>,
 ) -> Result<bool, Memory>
     ensures { IfOk result (λ b. there b stack.new ≡ put_before (completed (found_of letters.now)) sym stack.old) }
 {
@@ -64,15 +86,15 @@ pub(crate) fn make(
 }
 
 /// Puts the expression on the stack, and answers true.
-fn put(alloc: Global, expr: Expr, stack: &mut Stack) -> Result<bool, Memory>
+fn put(alloc: Global, expr: Expr, stack: &mut Stack<ExprChild>) -> Result<bool, Memory>
     ensures { IfOk result (λ b. there b stack.new ≡ Some (expression_of expr ∷ stack.old)) }
 {
-    stack.put(alloc, expr)?;
-    Ok(true)
+    let part = ExprChild::new(alloc, expr)?;
+    stack.put(part)
 }
 
 /// Puts the form around the part on top of the stack. Whether it was there.
-fn make_one(alloc: Global, form: Sym, stack: &mut Stack) -> Result<bool, Memory>
+fn make_one(alloc: Global, form: Sym, stack: &mut Stack<ExprChild>) -> Result<bool, Memory>
     ensures { IfOk result (λ b. there b stack.new ≡ around_one (one_form form) stack.old) }
 {
     match stack.pop() {
@@ -82,7 +104,7 @@ fn make_one(alloc: Global, form: Sym, stack: &mut Stack) -> Result<bool, Memory>
 }
 
 /// Puts a form of two parts around the two on top of the stack. Whether they were there.
-fn make_two(alloc: Global, form: Sym, stack: &mut Stack) -> Result<bool, Memory>
+fn make_two(alloc: Global, form: Sym, stack: &mut Stack<ExprChild>) -> Result<bool, Memory>
     ensures { IfOk result (λ b. there b stack.new ≡ around_two (two_form form) stack.old) }
 {
     match stack.pop_two() {
@@ -92,7 +114,7 @@ fn make_two(alloc: Global, form: Sym, stack: &mut Stack) -> Result<bool, Memory>
 }
 
 /// Puts a form of three parts around the three on top of the stack. Whether they were there.
-fn make_three(alloc: Global, form: Sym, stack: &mut Stack) -> Result<bool, Memory>
+fn make_three(alloc: Global, form: Sym, stack: &mut Stack<ExprChild>) -> Result<bool, Memory>
     ensures { IfOk result (λ b. there b stack.new ≡ around_three (three_form form) stack.old) }
 {
     let Some((a, b)) = stack.pop_two() else {

@@ -17,14 +17,11 @@ mod matching;
 mod net_building;
 mod net_letters;
 mod net_matching;
-mod net_stack;
 mod net_sym;
-mod net_todo;
 mod rewrite;
 mod stack;
 mod sym;
 mod table;
-mod todo;
 
 pub use laws::pattern_laws;
 pub use net_sym::{NetLetter, NetSym};

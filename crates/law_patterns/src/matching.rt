@@ -2,11 +2,11 @@
 
 ghost use Rattle.std.specs.Prelude.{◌≡◌, IfOk, MatchOption, ◌∷◌, [], Some, None};
 ghost use Rattle.leaf_core.specs.ExpressionView.{expression_of};
-ghost use Rattle.law_patterns.specs.Matching.{going, matching, met, step, fitted, found_of};
+ghost use Rattle.law_patterns.specs.Matching.{going, matching, met, step, fitted, found_of, todo_of};
 
 use crate::letters::Letters;
+use crate::stack::Stack;
 use crate::sym::Sym;
-use crate::todo::Todo;
 use leaf_core::{Expr, Literal};
 use sample_core::Memory;
 use std::alloc::Global;
@@ -23,8 +23,8 @@ pub(crate) fn fit<'t>(
         (fitted pattern.now (expression_of expr.now ∷ []) (found_of letters.entry) ≡ None)
         (λ s. fitted pattern.now (expression_of expr.now ∷ []) (found_of letters.entry) ≡ Some (found_of s))) }
 {
-    let mut todo = Todo::new(alloc);
-    todo.push(expr)?;
+    let mut todo = Stack::new(alloc);
+    todo.put(expr)?;
     for sym in pattern {
         if !meet(*sym, &mut todo, &mut letters)? {
             return Ok(None);
@@ -39,10 +39,10 @@ pub(crate) fn fit<'t>(
 /// Matches the next expression against the symbol: whether they agree.
 pub(crate) fn meet<'t>(
     sym: Sym,
-    todo: &mut Todo<'t>,
+    todo: &mut Stack<&'t Expr>,
     letters: &mut Letters<'t>,
 ) -> Result<bool, Memory>
-    ensures { IfOk result (λ b. going b todo.new (found_of letters.new) ≡ step sym (matching todo.old (found_of letters.old))) }
+    ensures { IfOk result (λ b. going b (todo_of todo.new) (found_of letters.new) ≡ step sym (matching (todo_of todo.old) (found_of letters.old))) }
 {
     match todo.pop() {
         None => Ok(false),
@@ -54,10 +54,10 @@ pub(crate) fn meet<'t>(
 fn meet_expr<'t>(
     sym: Sym,
     expr: &'t Expr,
-    todo: &mut Todo<'t>,
+    todo: &mut Stack<&'t Expr>,
     letters: &mut Letters<'t>,
 ) -> Result<bool, Memory>
-    ensures { IfOk result (λ b. going b todo.new (found_of letters.new) ≡ met sym (expression_of expr.now) todo.old (found_of letters.old)) }
+    ensures { IfOk result (λ b. going b (todo_of todo.new) (found_of letters.new) ≡ met sym (expression_of expr.now) (todo_of todo.old) (found_of letters.old)) }
 {
     match (sym, expr) {
         (Sym::Letter(k), _) => Ok(letters.bind(k, expr)),
@@ -65,18 +65,18 @@ fn meet_expr<'t>(
         (Sym::Unit, Expr::Literal(Literal::Unit)) => Ok(true),
         (Sym::Truth(b), Expr::Literal(Literal::Bool(c))) => Ok(b == *c),
         (Sym::NoEvent, Expr::NoEvent(t)) => Ok(letters.bind_type(t)),
-        (Sym::Fst, Expr::Fst(a)) => todo.put_one(a),
-        (Sym::Snd, Expr::Snd(a)) => todo.put_one(a),
-        (Sym::Event, Expr::Event(a)) => todo.put_one(a),
-        (Sym::Pair, Expr::Pair(a, b)) => todo.put_two(a, b),
-        (Sym::Then, Expr::Then(a, b)) => todo.put_two(a, b),
-        (Sym::Neg, Expr::Neg(a)) => todo.put_one(a),
-        (Sym::Not, Expr::Not(a)) => todo.put_one(a),
-        (Sym::Add, Expr::Add(a, b)) => todo.put_two(a, b),
-        (Sym::Sub, Expr::Sub(a, b)) => todo.put_two(a, b),
-        (Sym::Mul, Expr::Mul(a, b)) => todo.put_two(a, b),
-        (Sym::If, Expr::If(a, b, c)) => todo.put_three(a, b, c),
-        (Sym::On, Expr::On(a, b, c)) => todo.put_three(a, b, c),
+        (Sym::Fst, Expr::Fst(a)) => todo.put(a.get()),
+        (Sym::Snd, Expr::Snd(a)) => todo.put(a.get()),
+        (Sym::Event, Expr::Event(a)) => todo.put(a.get()),
+        (Sym::Pair, Expr::Pair(a, b)) => todo.put_two(a.get(), b.get()),
+        (Sym::Then, Expr::Then(a, b)) => todo.put_two(a.get(), b.get()),
+        (Sym::Neg, Expr::Neg(a)) => todo.put(a.get()),
+        (Sym::Not, Expr::Not(a)) => todo.put(a.get()),
+        (Sym::Add, Expr::Add(a, b)) => todo.put_two(a.get(), b.get()),
+        (Sym::Sub, Expr::Sub(a, b)) => todo.put_two(a.get(), b.get()),
+        (Sym::Mul, Expr::Mul(a, b)) => todo.put_two(a.get(), b.get()),
+        (Sym::If, Expr::If(a, b, c)) => todo.put_three(a.get(), b.get(), c.get()),
+        (Sym::On, Expr::On(a, b, c)) => todo.put_three(a.get(), b.get(), c.get()),
         _ => Ok(false),
     }
 }

@@ -1,6 +1,6 @@
 // Building the network that a pattern stands for.
 
-ghost use Rattle.std.specs.Prelude.{◌≡◌, IfOk, MatchOption, ◌∷◌, Some, None};
+ghost use Rattle.std.specs.Prelude.{◌≡◌, IfOk, MatchOption, ◌∷◌, Some, None, map};
 ghost use Rattle.leaf_core.specs.ExpressionView.{expression_of};
 ghost use Rattle.net_tree.specs.FormView.{fed_tree};
 ghost use Rattle.net_tree.specs.Network.{accum_by, first, k_switch};
@@ -14,11 +14,10 @@ ghost use Rattle.law_patterns.specs.Pattern.{around_one, around_two, around_thre
 use crate::building;
 use crate::letters::Letters;
 use crate::net_letters::NetLetters;
-use crate::net_stack::NetStack;
 use crate::net_sym::NetSym;
 use crate::stack::Stack;
 use crate::sym::Sym;
-use leaf_core::Expr;
+use leaf_core::{Expr, ExprChild};
 use net_tree::{FedForm, LeafForm, Net, NetChild, PairForm};
 use sample_core::Memory;
 use std::alloc::Global;
@@ -36,7 +35,7 @@ pub(crate) fn build_net(
         ≡ Some (tree_of n))) }
 {
     let mut exprs = Stack::new(alloc);
-    let mut nets = NetStack::new(alloc);
+    let mut nets = Stack::new(alloc);
     let mut left = pattern.len();
     while left > 0 {
         left -= 1;
@@ -48,15 +47,24 @@ pub(crate) fn build_net(
 }
 
 /// The network, where it is the only one and there are no expressions beside it.
-fn only_net(alloc: Global, exprs: &Stack, nets: NetStack) -> Result<Option<Net<Expr>>, Memory>
-    ensures { IfOk result (λ o. MatchOption o (only_net (Some (both exprs.now nets)) ≡ None)
-        (λ n. only_net (Some (both exprs.now nets)) ≡ Some (tree_of n))) }
+fn only_net(
+    alloc: Global,
+    exprs: &Stack<ExprChild>,
+    nets: Stack<NetChild<Expr>>,
+) -> Result<Option<Net<Expr>>, Memory>
+    ensures { IfOk result (λ o. MatchOption o (only_net (Some (both exprs.now (map tree nets))) ≡ None)
+        (λ n. only_net (Some (both exprs.now (map tree nets))) ≡ Some (tree_of n))) }
 {
-    if exprs.is_empty() {
-        nets.only(alloc)
-    } else {
+    if !exprs.is_empty() {
         drop(nets);
-        Ok(None)
+        return Ok(None);
+    }
+    match nets.only() {
+        None => Ok(None),
+        Some(top) => {
+            let copy = top.get().try_copy(alloc)?;
+            Ok(Some(copy))
+        }
     }
 }
 
@@ -66,12 +74,12 @@ fn make(
     alloc: Global,
     sym: NetSym,
     letters: &NetLetters,
-    exprs: &mut Stack,
-    nets: &mut NetStack,
+    exprs: &mut Stack<ExprChild>,
+    nets: &mut Stack<NetChild<Expr>>,
 ) -> Result<bool, Memory>
-    ensures { IfOk result (λ b. both_there b exprs.new nets.new
+    ensures { IfOk result (λ b. both_there b exprs.new (map tree nets.new)
         ≡ net_put_before (net_completed (nets_found_of letters.now)) sym
-        (both exprs.old nets.old)) }
+        (both exprs.old (map tree nets.old))) }
 {
     match sym {
         NetSym::Letter(k) => {
@@ -97,16 +105,21 @@ fn make(
 }
 
 /// Puts the network on the stack, and answers true.
-fn put(alloc: Global, net: Net<Expr>, nets: &mut NetStack) -> Result<bool, Memory>
-    ensures { IfOk result (λ b. (es : _) → both_there b es nets.new
-        ≡ Some (both es (tree_of net ∷ nets.old))) }
+fn put(alloc: Global, net: Net<Expr>, nets: &mut Stack<NetChild<Expr>>) -> Result<bool, Memory>
+    ensures { IfOk result (λ b. (es : _) → both_there b es (map tree nets.new)
+        ≡ Some (both es (tree_of net ∷ map tree nets.old))) }
 {
-    nets.put(alloc, net)?;
-    Ok(true)
+    let part = NetChild::new(alloc, net)?;
+    nets.put(part)
 }
 
 /// Puts on the stack what an expression's symbol makes. Whether its parts were there.
-fn make_expr(alloc: Global, sym: Sym, letters: &Letters, exprs: &mut Stack) -> Result<bool, Memory>
+fn make_expr(
+    alloc: Global,
+    sym: Sym,
+    letters: &Letters,
+    exprs: &mut Stack<ExprChild>,
+) -> Result<bool, Memory>
     ensures { IfOk result (λ b. (fs : _) → both_there b exprs.new fs
         ≡ with_nets (put_before (completed (found_of letters.now)) sym exprs.old) fs) }
 {
@@ -118,13 +131,13 @@ fn make_leaf(
     alloc: Global,
     form: NetSym,
     q: u64,
-    exprs: &mut Stack,
-    nets: &mut NetStack,
+    exprs: &mut Stack<ExprChild>,
+    nets: &mut Stack<NetChild<Expr>>,
 ) -> Result<bool, Memory>
-    ensures { IfOk result (λ b. both_there b exprs.new nets.new
-        ≡ of_leaf (leaf_form form q) exprs.old nets.old) }
+    ensures { IfOk result (λ b. both_there b exprs.new (map tree nets.new)
+        ≡ of_leaf (leaf_form form q) exprs.old (map tree nets.old)) }
 {
-    match exprs.pop_expr(alloc)? {
+    match building::pop_expr(alloc, exprs)? {
         None => Ok(false),
         Some(expr) => put(alloc, leaf(form, q, expr), nets),
     }
@@ -145,14 +158,18 @@ fn leaf(form: NetSym, q: u64, expr: Expr) -> Net<Expr>
 }
 
 /// Puts `accumBy` around the two expressions on top of the stack. Whether they were there.
-fn make_accum(alloc: Global, exprs: &mut Stack, nets: &mut NetStack) -> Result<bool, Memory>
-    ensures { IfOk result (λ b. both_there b exprs.new nets.new
-        ≡ of_leaves accum_by exprs.old nets.old) }
+fn make_accum(
+    alloc: Global,
+    exprs: &mut Stack<ExprChild>,
+    nets: &mut Stack<NetChild<Expr>>,
+) -> Result<bool, Memory>
+    ensures { IfOk result (λ b. both_there b exprs.new (map tree nets.new)
+        ≡ of_leaves accum_by exprs.old (map tree nets.old)) }
 {
-    let Some(g) = exprs.pop_expr(alloc)? else {
+    let Some(g) = building::pop_expr(alloc, exprs)? else {
         return Ok(false);
     };
-    match exprs.pop_expr(alloc) {
+    match building::pop_expr(alloc, exprs) {
         Ok(Some(z)) => put(alloc, Net::AccumBy(g, z), nets),
         Ok(None) => {
             drop(g);
@@ -170,13 +187,13 @@ fn make_accum(alloc: Global, exprs: &mut Stack, nets: &mut NetStack) -> Result<b
 fn make_fed(
     alloc: Global,
     form: FedForm,
-    exprs: &mut Stack,
-    nets: &mut NetStack,
+    exprs: &mut Stack<ExprChild>,
+    nets: &mut Stack<NetChild<Expr>>,
 ) -> Result<bool, Memory>
-    ensures { IfOk result (λ b. both_there b exprs.new nets.new
-        ≡ of_fed (fed_tree form) exprs.old nets.old) }
+    ensures { IfOk result (λ b. both_there b exprs.new (map tree nets.new)
+        ≡ of_fed (fed_tree form) exprs.old (map tree nets.old)) }
 {
-    let Some(c) = exprs.pop_expr(alloc)? else {
+    let Some(c) = building::pop_expr(alloc, exprs)? else {
         return Ok(false);
     };
     match nets.pop() {
@@ -189,9 +206,9 @@ fn make_fed(
 }
 
 /// Puts `first` around the network on top of the stack. Whether it was there.
-fn make_first(alloc: Global, nets: &mut NetStack) -> Result<bool, Memory>
-    ensures { IfOk result (λ b. (es : _) → both_there b es nets.new
-        ≡ with_exprs es (around_one first nets.old)) }
+fn make_first(alloc: Global, nets: &mut Stack<NetChild<Expr>>) -> Result<bool, Memory>
+    ensures { IfOk result (λ b. (es : _) → both_there b es (map tree nets.new)
+        ≡ with_exprs es (around_one first (map tree nets.old))) }
 {
     match nets.pop() {
         None => Ok(false),
@@ -200,9 +217,9 @@ fn make_first(alloc: Global, nets: &mut NetStack) -> Result<bool, Memory>
 }
 
 /// Puts the form around the two networks on top of the stack. Whether they were there.
-fn make_pair(alloc: Global, form: NetSym, nets: &mut NetStack) -> Result<bool, Memory>
-    ensures { IfOk result (λ b. (es : _) → both_there b es nets.new
-        ≡ with_exprs es (around_two (pair_form form) nets.old)) }
+fn make_pair(alloc: Global, form: NetSym, nets: &mut Stack<NetChild<Expr>>) -> Result<bool, Memory>
+    ensures { IfOk result (λ b. (es : _) → both_there b es (map tree nets.new)
+        ≡ with_exprs es (around_two (pair_form form) (map tree nets.old))) }
 {
     match nets.pop_two() {
         None => Ok(false),
@@ -224,9 +241,9 @@ fn pair(form: NetSym, f: NetChild<Expr>, g: NetChild<Expr>) -> Net<Expr>
 }
 
 /// Puts `kSwitch` around the three networks on top of the stack. Whether they were there.
-fn make_freeze(alloc: Global, nets: &mut NetStack) -> Result<bool, Memory>
-    ensures { IfOk result (λ b. (es : _) → both_there b es nets.new
-        ≡ with_exprs es (around_three k_switch nets.old)) }
+fn make_freeze(alloc: Global, nets: &mut Stack<NetChild<Expr>>) -> Result<bool, Memory>
+    ensures { IfOk result (λ b. (es : _) → both_there b es (map tree nets.new)
+        ≡ with_exprs es (around_three k_switch (map tree nets.old))) }
 {
     let Some((f, e)) = nets.pop_two() else {
         return Ok(false);

@@ -5,13 +5,13 @@ ghost use Rattle.leaf_core.specs.ExpressionView.{expression_of};
 ghost use Rattle.net_tree.specs.NetworkView.{tree_of};
 ghost use Rattle.law_patterns.specs.NetPattern.{net_chosen};
 ghost use Rattle.law_patterns.specs.NetMatching.{beside, no_nets_found, nets_found_of, net_found_at, net_found_with, held_network, net_going, net_bound, number_bound, net_completed, or_time, or_zero};
-ghost use Rattle.law_patterns.specs.Matching.{matching, step};
+ghost use Rattle.law_patterns.specs.Matching.{matching, step, todo_of};
 
 use crate::letters::Letters;
 use crate::matching::meet;
 use crate::net_sym::NetLetter;
+use crate::stack::Stack;
 use crate::sym::Sym;
-use crate::todo::Todo;
 use leaf_core::Expr;
 use net_tree::{Net, same_net};
 use sample_core::Memory;
@@ -95,10 +95,14 @@ impl<'t> NetLetters<'t> {
 
     /// Matches the symbol of an expression against the next expression: whether they agree.
     /// `Memory` if allocation fails.
-    pub(crate) fn meet_expr(&mut self, sym: Sym, exprs: &mut Todo<'t>) -> Result<bool, Memory>
-        ensures { IfOk result (λ b. (fs : _) → net_going b exprs.new fs (nets_found_of self.new)
+    pub(crate) fn meet_expr(
+        &mut self,
+        sym: Sym,
+        exprs: &mut Stack<&'t Expr>,
+    ) -> Result<bool, Memory>
+        ensures { IfOk result (λ b. (fs : _) → net_going b (todo_of exprs.new) fs (nets_found_of self.new)
             ≡ beside fs (nets_found_of self.old)
-            (step sym (matching exprs.old (nets_found_of self.old).exprs))) }
+            (step sym (matching (todo_of exprs.old) (nets_found_of self.old).exprs))) }
     {
         meet(sym, exprs, &mut self.exprs)
     }
@@ -109,13 +113,13 @@ impl<'t> NetLetters<'t> {
         &mut self,
         q: u64,
         expr: &'t Expr,
-        exprs: &mut Todo<'t>,
+        exprs: &mut Stack<&'t Expr>,
     ) -> Result<bool, Memory>
-        ensures { IfOk result (λ b. (fs : _) → net_going b exprs.new fs (nets_found_of self.new)
-            ≡ number_bound (nets_found_of self.old).q q (expression_of expr.now ∷ exprs.old) fs
+        ensures { IfOk result (λ b. (fs : _) → net_going b (todo_of exprs.new) fs (nets_found_of self.new)
+            ≡ number_bound (nets_found_of self.old).q q (expression_of expr.now ∷ todo_of exprs.old) fs
             (nets_found_of self.old)) }
     {
-        exprs.push(expr)?;
+        exprs.put(expr)?;
         Ok(self.bind_number(q))
     }
 

@@ -3,12 +3,12 @@
 ghost use Rattle.std.specs.Prelude.{◌≡◌, IfOk, MatchOption, ◌∷◌, [], Some, None, true};
 ghost use Rattle.leaf_core.specs.ExpressionView.{expression_of};
 ghost use Rattle.net_tree.specs.NetworkView.{tree_of, tree};
-ghost use Rattle.law_patterns.specs.NetMatching.{net_going, net_matching, net_met, next_met, net_step, net_fitted, no_nets_found, nets_found_of};
+ghost use Rattle.law_patterns.specs.Matching.{todo_of};
+ghost use Rattle.law_patterns.specs.NetMatching.{net_going, net_matching, net_met, next_met, net_step, net_fitted, no_nets_found, nets_found_of, nets_todo_of};
 
 use crate::net_letters::NetLetters;
 use crate::net_sym::NetSym;
-use crate::net_todo::NetTodo;
-use crate::todo::Todo;
+use crate::stack::Stack;
 use leaf_core::Expr;
 use net_tree::{Net, NetChild};
 use sample_core::Memory;
@@ -26,9 +26,9 @@ pub(crate) fn fit_net<'t>(
         ≡ Some (nets_found_of s))) }
 {
     let mut letters = NetLetters::new();
-    let mut exprs = Todo::new(alloc);
-    let mut nets = NetTodo::new(alloc);
-    nets.push(net)?;
+    let mut exprs = Stack::new(alloc);
+    let mut nets = Stack::new(alloc);
+    nets.put(net)?;
     for sym in pattern {
         if !meet(*sym, &mut exprs, &mut nets, &mut letters)? {
             return Ok(None);
@@ -43,12 +43,12 @@ pub(crate) fn fit_net<'t>(
 /// Matches the symbol against what is next: whether they agree.
 fn meet<'t>(
     sym: NetSym,
-    exprs: &mut Todo<'t>,
-    nets: &mut NetTodo<'t>,
+    exprs: &mut Stack<&'t Expr>,
+    nets: &mut Stack<&'t Net<Expr>>,
     letters: &mut NetLetters<'t>,
 ) -> Result<bool, Memory>
-    ensures { IfOk result (λ b. net_going b exprs.new nets.new (nets_found_of letters.new)
-        ≡ net_step sym (net_matching exprs.old nets.old (nets_found_of letters.old))) }
+    ensures { IfOk result (λ b. net_going b (todo_of exprs.new) (nets_todo_of nets.new) (nets_found_of letters.new)
+        ≡ net_step sym (net_matching (todo_of exprs.old) (nets_todo_of nets.old) (nets_found_of letters.old))) }
 {
     match sym {
         NetSym::Leaf(sym) => letters.meet_expr(sym, exprs),
@@ -59,12 +59,12 @@ fn meet<'t>(
 /// Matches the symbol, a letter or a form, against the next network: whether they agree.
 fn meet_next<'t>(
     sym: NetSym,
-    exprs: &mut Todo<'t>,
-    nets: &mut NetTodo<'t>,
+    exprs: &mut Stack<&'t Expr>,
+    nets: &mut Stack<&'t Net<Expr>>,
     letters: &mut NetLetters<'t>,
 ) -> Result<bool, Memory>
-    ensures { IfOk result (λ b. net_going b exprs.new nets.new (nets_found_of letters.new)
-        ≡ next_met sym exprs.old nets.old (nets_found_of letters.old)) }
+    ensures { IfOk result (λ b. net_going b (todo_of exprs.new) (nets_todo_of nets.new) (nets_found_of letters.new)
+        ≡ next_met sym (todo_of exprs.old) (nets_todo_of nets.old) (nets_found_of letters.old)) }
 {
     match nets.pop() {
         None => Ok(false),
@@ -76,12 +76,12 @@ fn meet_next<'t>(
 fn meet_net<'t>(
     sym: NetSym,
     net: &'t Net<Expr>,
-    exprs: &mut Todo<'t>,
-    nets: &mut NetTodo<'t>,
+    exprs: &mut Stack<&'t Expr>,
+    nets: &mut Stack<&'t Net<Expr>>,
     letters: &mut NetLetters<'t>,
 ) -> Result<bool, Memory>
-    ensures { IfOk result (λ b. net_going b exprs.new nets.new (nets_found_of letters.new)
-        ≡ net_met sym (tree_of net.now) exprs.old nets.old (nets_found_of letters.old)) }
+    ensures { IfOk result (λ b. net_going b (todo_of exprs.new) (nets_todo_of nets.new) (nets_found_of letters.new)
+        ≡ net_met sym (tree_of net.now) (todo_of exprs.old) (nets_todo_of nets.old) (nets_found_of letters.old)) }
 {
     match (sym, net) {
         (NetSym::Letter(k), _) => Ok(letters.bind(k, net)),
@@ -91,17 +91,17 @@ fn meet_net<'t>(
         (NetSym::Delay, Net::Delay(q, c)) => letters.meet_timed(*q, c, exprs),
         (NetSym::After, Net::After(q, c)) => letters.meet_timed(*q, c, exprs),
         (NetSym::Repeatedly, Net::Repeatedly(q, c)) => letters.meet_timed(*q, c, exprs),
-        (NetSym::AccumBy, Net::AccumBy(g, z)) => exprs.put_pair(g, z),
+        (NetSym::AccumBy, Net::AccumBy(g, z)) => exprs.put_two(g, z),
         (NetSym::LoopPre, Net::LoopPre(c, f)) => meet_fed(c, f, exprs, nets),
         (NetSym::InitialOut, Net::InitialOut(c, f)) => meet_fed(c, f, exprs, nets),
         (NetSym::InitialIn, Net::InitialIn(c, f)) => meet_fed(c, f, exprs, nets),
-        (NetSym::First, Net::First(f)) => nets.put_one(f),
-        (NetSym::Seq, Net::Seq(f, g)) => nets.put_two(f, g),
-        (NetSym::Switch, Net::Switch(f, t)) => nets.put_two(f, t),
-        (NetSym::DSwitch, Net::DSwitch(f, t)) => nets.put_two(f, t),
-        (NetSym::RSwitch, Net::RSwitch(f, t)) => nets.put_two(f, t),
-        (NetSym::DrSwitch, Net::DrSwitch(f, t)) => nets.put_two(f, t),
-        (NetSym::KSwitch, Net::KSwitch(f, e, t)) => nets.put_three(f, e, t),
+        (NetSym::First, Net::First(f)) => nets.put(f.get()),
+        (NetSym::Seq, Net::Seq(f, g)) => nets.put_two(f.get(), g.get()),
+        (NetSym::Switch, Net::Switch(f, t)) => nets.put_two(f.get(), t.get()),
+        (NetSym::DSwitch, Net::DSwitch(f, t)) => nets.put_two(f.get(), t.get()),
+        (NetSym::RSwitch, Net::RSwitch(f, t)) => nets.put_two(f.get(), t.get()),
+        (NetSym::DrSwitch, Net::DrSwitch(f, t)) => nets.put_two(f.get(), t.get()),
+        (NetSym::KSwitch, Net::KSwitch(f, e, t)) => nets.put_three(f.get(), e.get(), t.get()),
         _ => Ok(false),
     }
 }
@@ -110,12 +110,12 @@ fn meet_net<'t>(
 fn meet_fed<'t>(
     c: &'t Expr,
     f: &'t NetChild<Expr>,
-    exprs: &mut Todo<'t>,
-    nets: &mut NetTodo<'t>,
+    exprs: &mut Stack<&'t Expr>,
+    nets: &mut Stack<&'t Net<Expr>>,
 ) -> Result<bool, Memory>
-    ensures { IfOk result (λ b. (b ≡ true) × (exprs.new ≡ expression_of c.now ∷ exprs.old)
-        × (nets.new ≡ tree f.now ∷ nets.old)) }
+    ensures { IfOk result (λ b. (b ≡ true) × (todo_of exprs.new ≡ expression_of c.now ∷ todo_of exprs.old)
+        × (nets_todo_of nets.new ≡ tree f.now ∷ nets_todo_of nets.old)) }
 {
     exprs.put(c)?;
-    nets.put_one(f)
+    nets.put(f.get())
 }

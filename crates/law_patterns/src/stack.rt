@@ -1,63 +1,81 @@
-// Expressions of which the last that was put on comes off first.
+// A stack: what was put on last comes off first.
 
-ghost use Rattle.std.specs.Prelude.{◌≡◌, ◌↔◌, IsTrue, IfOk, MatchOption, ◌∷◌, [], Some, None};
-ghost use Rattle.leaf_core.specs.Expression.{pair_expr};
-ghost use Rattle.leaf_core.specs.ExpressionView.{expression_of};
-ghost use Rattle.law_patterns.specs.Pattern.{only, around_two};
+ghost use Rattle.std.specs.Prelude.{◌≡◌, ◌↔◌, IsTrue, IfOk, MatchOption, ◌∷◌, [], Some, None, true};
+ghost use Rattle.law_patterns.specs.Pattern.{around_two, only};
 
-use leaf_core::{Expr, ExprChild};
 use sample_core::Memory;
 use std::alloc::Global;
 use std::marker::Model;
 
-/// A stack of expressions. Contracts see it as their list, the top first.
+/// A stack. Contracts see it as its list, the top first.
 #[derive(Drop)]
-pub(crate) struct Stack {
-    parts: Vec<ExprChild>,
+pub(crate) struct Stack<T> {
+    all: Vec<T>,
 }
 
-impl Model for Stack {
+impl<T> Model for Stack<T> {
     ghost use Rattle.std.specs.Prelude.{List, reverse};
     ghost use Rattle.std.specs.Coded.{coded_list};
-    ghost use Rattle.leaf_core.specs.Expression.{Expression};
-    ghost use Rattle.leaf_core.specs.ExpressionCode.{expression_code};
 
-    ghost Value = { List Expression };
+    ghost Value = { List T };
 
-    ghost coded = { coded_list expression_code };
+    ghost coded = { coded_list T.code };
 
-    ghost view = { λ s. reverse s.parts.items };
+    ghost view = { λ s. reverse s.all.items };
 }
 
-impl Stack {
+impl<T: Drop> Stack<T> {
     /// An empty stack.
-    pub(crate) fn new(alloc: Global) -> Stack
+    pub(crate) fn new(alloc: Global) -> Stack<T>
         ensures { result ≡ [] }
     {
         Stack {
-            parts: Vec::new(alloc),
+            all: Vec::new(alloc),
         }
     }
 
-    /// Puts the expression on top.
-    pub(crate) fn put(&mut self, alloc: Global, expr: Expr) -> Result<(), Memory>
-        ensures { IfOk result (λ _. self.new ≡ expression_of expr ∷ self.old) }
+    /// Whether there is nothing on it.
+    pub(crate) fn is_empty(&self) -> bool
+        ensures { IsTrue result ↔ (self.now ≡ []) }
     {
-        let part = ExprChild::new(alloc, expr)?;
-        self.parts.push(part)?;
-        Ok(())
+        self.all.is_empty()
+    }
+
+    /// Puts one on top, and answers true.
+    pub(crate) fn put(&mut self, a: T) -> Result<bool, Memory>
+        ensures { IfOk result (λ r. (r ≡ true) × (self.new ≡ a ∷ self.old)) }
+    {
+        self.all.push(a)?;
+        Ok(true)
+    }
+
+    /// Puts two on top, the first above, and answers true.
+    pub(crate) fn put_two(&mut self, a: T, b: T) -> Result<bool, Memory>
+        ensures { IfOk result (λ r. (r ≡ true) × (self.new ≡ a ∷ b ∷ self.old)) }
+    {
+        self.put(b)?;
+        self.put(a)
+    }
+
+    /// Puts three on top, the first above, and answers true.
+    pub(crate) fn put_three(&mut self, a: T, b: T, c: T) -> Result<bool, Memory>
+        ensures { IfOk result (λ r. (r ≡ true) × (self.new ≡ a ∷ b ∷ c ∷ self.old)) }
+    {
+        self.put(c)?;
+        self.put_two(a, b)
     }
 
     /// Takes the top off, if there is one.
-    pub(crate) fn pop(&mut self) -> Option<ExprChild>
-        ensures { MatchOption result ((self.old ≡ []) × (self.new ≡ [])) (λ p. self.old ≡ p ∷ self.new) }
+    pub(crate) fn pop(&mut self) -> Option<T>
+        ensures { MatchOption result ((self.old ≡ []) × (self.new ≡ [])) (λ a. self.old ≡ a ∷ self.new) }
     {
-        self.parts.pop()
+        self.all.pop()
     }
 
     /// Takes two off, if there are two; the first was on top.
-    pub(crate) fn pop_two(&mut self) -> Option<(ExprChild, ExprChild)>
-        ensures { MatchOption result (around_two pair_expr self.old ≡ None) (λ p. self.old ≡ p.0 ∷ p.1 ∷ self.new) }
+    pub(crate) fn pop_two(&mut self) -> Option<(T, T)>
+        ensures { MatchOption result (around_two (λ a _. a) self.old ≡ None)
+            (λ p. self.old ≡ p.0 ∷ p.1 ∷ self.new) }
     {
         let a = self.pop()?;
         match self.pop() {
@@ -69,40 +87,16 @@ impl Stack {
         }
     }
 
-    /// Takes the top off, if there is one, as an expression.
-    pub(crate) fn pop_expr(&mut self, alloc: Global) -> Result<Option<Expr>, Memory>
-        ensures { IfOk result (λ o. MatchOption o ((self.old ≡ []) × (self.new ≡ []))
-            (λ e. self.old ≡ expression_of e ∷ self.new)) }
+    /// What is on it, where that is one alone.
+    pub(crate) fn only(mut self) -> Option<T>
+        ensures { MatchOption result (only (Some self) ≡ None) (λ a. self ≡ a ∷ []) }
     {
-        match self.pop() {
-            None => Ok(None),
-            Some(top) => {
-                let copy = top.get().try_copy(alloc);
-                drop(top);
-                Ok(Some(copy?))
-            }
-        }
-    }
-
-    /// Whether there is nothing on it.
-    pub(crate) fn is_empty(&self) -> bool
-        ensures { IsTrue result ↔ (self.now ≡ []) }
-    {
-        self.parts.is_empty()
-    }
-
-    /// The expression on it, where it is the only one.
-    pub(crate) fn only(mut self, alloc: Global) -> Result<Option<Expr>, Memory>
-        ensures { IfOk result (λ o. MatchOption o (only (Some self) ≡ None) (λ e. only (Some self) ≡ Some (expression_of e))) }
-    {
-        let Some(top) = self.pop() else {
-            return Ok(None);
-        };
-        if self.parts.len() > 0 {
+        let top = self.pop()?;
+        if self.all.is_empty() {
+            Some(top)
+        } else {
             drop(top);
-            return Ok(None);
+            None
         }
-        let copy = top.get().try_copy(alloc)?;
-        Ok(Some(copy))
     }
 }
