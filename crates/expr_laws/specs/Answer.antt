@@ -1,6 +1,5 @@
 -- What a law answers at an expression.
 use Rattle.std.specs.Prelude.{ℕ, ◌≡◌, List, Option, Some, None, MatchOption}
-use Rattle.std.proofs.Common.{Bor}
 use Rattle.sample_core.specs.Datum.{Datum}
 use Rattle.sample_core.specs.TypeTree.{TypeTree}
 use Rattle.sample_core.specs.HasType.{HasType, TypedParams}
@@ -23,11 +22,6 @@ pub data ExpressionAnswer : Law → Direction → Expression → Option Expressi
       → ExpressionAnswer (L.E n) Forward e None r
   backward_answer : {n : ℕ} {e g : Expression} → ExpressionLaw n g e
       → ExpressionAnswer (L.E n) Backward e (Some g) g
-
--- the expression that is given, if one is
-abbrev pub given_of : Option (Bor Expr) → Option Expression
-given_of None = None
-given_of (Some e) = Some (expression_of e.now)
 
 -- an answer, or none if there is none
 abbrev pub IsExpressionAnswer : Law → Direction → Expression → Option Expression → Option Expr → Type 0

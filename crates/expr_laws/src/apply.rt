@@ -3,7 +3,8 @@
 ghost use Rattle.std.specs.Prelude.{◌≡◌, IfOk, MatchOption};
 ghost use Rattle.leaf_core.specs.ExpressionView.{expression_of};
 ghost use Rattle.expr_laws.specs.ExpressionLaw.{ExpressionLaw};
-ghost use Rattle.expr_laws.specs.Answer.{IsExpressionAnswer, IsRightSide, given_of};
+ghost use Rattle.law_patterns.specs.Matching.{held_expression};
+ghost use Rattle.expr_laws.specs.Answer.{IsExpressionAnswer, IsRightSide};
 
 use crate::compare::compared;
 use crate::constant::constant_behind;
@@ -29,7 +30,7 @@ pub fn apply_expr(
     given: Option<&Expr>,
 ) -> Result<Option<Expr>, Memory>
     ensures { IfOk result
-        (IsExpressionAnswer law direction (expression_of expr.now) (given_of given.entry)) }
+        (IsExpressionAnswer law direction (expression_of expr.now) (held_expression given.entry)) }
 {
     let Law::E(number) = law else {
         return Ok(None);

@@ -1,5 +1,5 @@
 -- Single steps of matching and building networks.
-use Rattle.std.proofs.Common.{◌≡◌, ℕ, zero, suc, ◌+◌, ◌-◌, ◌<◌, ◌≤◌, arith, Bool, true, false, IsTrue, ◌↔◌, List, [], ◌∷◌, Option, Some, None, length, get_or, drop, refl, sym, ap, ◌∙◌}
+use Rattle.std.proofs.Common.{◌≡◌, ℕ, zero, suc, ◌+◌, ◌-◌, ◌<◌, ◌≤◌, arith, Bool, IsTrue, ◌↔◌, List, [], ◌∷◌, Option, Some, None, length, get_or, drop, refl, sym, ap, ◌∙◌}
 use Rattle.std.proofs.lemmas.List.{drop_more}
 use Rattle.leaf_core.specs.Expression.{Expression}
 use Rattle.leaf_core.specs.ExpressionCode.{expression_code}
@@ -8,28 +8,14 @@ use Rattle.net_tree.specs.Network.{Network}
 use Rattle.net_tree.specs.NetworkCode.{network_code}
 use Rattle.law_patterns.specs.declared.net_sym.NetLetter.{NetLetter}
 use Rattle.law_patterns.specs.declared.net_sym.NetSym.{NetSym}
-use Rattle.law_patterns.specs.Building.{there}
-use Rattle.law_patterns.specs.Matching.{FoundLetters, going}
-use Rattle.law_patterns.specs.NetBuilding.{both_there}
-use Rattle.law_patterns.specs.NetPattern.{NetAssignment, Written, with_nets, net_put_before, net_put_before_some, net_written, only_net, net_filled}
-use Rattle.law_patterns.specs.NetMatching.{NetFound, NetMatching, net_failed, net_going, net_bound, beside, net_step, net_matched, net_ended}
+use Rattle.law_patterns.specs.NetPattern.{NetAssignment, Written, net_put_before, net_put_before_some, net_written, only_net, net_filled}
+use Rattle.law_patterns.specs.NetMatching.{NetFound, NetMatching, net_failed, net_going, net_bound, net_step, net_matched, net_ended}
 
 -- a letter that has a network already
 pub net_bound-again : (o : Option (Network Expression)) (m n : Network Expression) (k : NetLetter) (es : List Expression) (fs : List (Network Expression)) (s : NetFound) (r : Bool)
     → Some m ≡ o → IsTrue r ↔ (m ≡ n) → net_going r es fs s ≡ net_bound o k n es fs s
 net_bound-again o m n k es fs s r p h =
     ap (λ b. net_going b es fs s) (same_by_is (network_code expression_code) m n r h) ∙ ap (λ o. net_bound o k n es fs s) p
-
--- a match of expressions that goes on, or has failed, beside networks
-pub going-beside : (b : Bool) (es : List Expression) (fs : List (Network Expression)) (s : NetFound) (found : FoundLetters)
-    → net_going b es fs (record s { exprs = found }) ≡ beside fs s (going b es found)
-going-beside true es fs s found = refl
-going-beside false es fs s found = refl
-
--- expressions that are there, or not, beside networks
-pub there-beside : (b : Bool) (es : List Expression) (fs : List (Network Expression)) → both_there b es fs ≡ with_nets (there b es) fs
-there-beside true es fs = refl
-there-beside false es fs = refl
 
 -- a match that has failed stays so
 pub net_matched-failed : (ss : List NetSym) → net_matched ss net_failed ≡ net_failed

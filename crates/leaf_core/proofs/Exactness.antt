@@ -10,14 +10,13 @@ use Rattle.leaf_core.specs.ExpressionTyping.{ParamAt, param_here, param_after, E
 use Rattle.leaf_core.specs.TypeLimits.{TypeFits, type_fits, same_tree}
 use Rattle.leaf_core.specs.ExpressionLimits.{ExpressionFits, expression_fits, Within, AllWithin, TypedWithin, ExpressionTypedWithin}
 use Rattle.sample_core.specs.Answer.{◌>>=◌}
+use Rattle.sample_core.proofs.Numbers.{parts_of}
 use Rattle.leaf_core.specs.ExpressionCheck.{TypeAnswer, check_that, expect, expect_then, within_limits, first_type, second_type, carried_type, element_type, type_of_param, type_walk, elements_walk, type_answer}
+use Rattle.leaf_core.proofs.SameDatum.{false_is_not_true}
 use Rattle.leaf_core.specs.declared.typing.ExprFault.{ExprFault}
 use Rattle.leaf_core.specs.declared.typing.ExprFault.TheVariants.{Mismatch, TooDeep}
 
 -- tests
-false_is_not_true : {P : Type 0} → false ≡ true → P
-false_is_not_true e = absurd (cc)
-
 pub same_tree-refl : (A : TypeTree) → same_tree A A ≡ true
 same_tree-refl unit_ty = refl
 same_tree-refl bool_ty = refl
@@ -26,16 +25,12 @@ same_tree-refl (pair_ty A B) = ap (λ t. t && same_tree B B) (same_tree-refl A) 
 same_tree-refl (event_ty A) = same_tree-refl A
 same_tree-refl (list_ty A) = same_tree-refl A
 
-and_true : (s t : Bool) → (s && t) ≡ true → (s ≡ true) × (t ≡ true)
-and_true true t e = (refl, e)
-and_true false t e = false_is_not_true e
-
 pub same_tree-true : (A B : TypeTree) → same_tree A B ≡ true → A ≡ B
 same_tree-true unit_ty unit_ty e = refl
 same_tree-true bool_ty bool_ty e = refl
 same_tree-true int_ty int_ty e = refl
 same_tree-true (pair_ty A B) (pair_ty C D) e =
-    let h = and_true (same_tree A C) (same_tree B D) e in
+    let h = parts_of (same_tree A C) (same_tree B D) e in
     ap (λ t. pair_ty t B) (same_tree-true A C h.0) ∙ ap (λ t. pair_ty C t) (same_tree-true B D h.1)
 same_tree-true (event_ty A) (event_ty B) e = ap event_ty (same_tree-true A B e)
 same_tree-true (list_ty A) (list_ty B) e = ap list_ty (same_tree-true A B e)

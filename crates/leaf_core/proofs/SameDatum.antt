@@ -3,14 +3,11 @@ use Rattle.std.proofs.Common.{◌≡◌, Bool, true, false, ◌&&◌, refl, ap, 
 use Rattle.std.specs.Cmp.{booleans_Decides}
 use Rattle.std.proofs.lemmas.Bool.Decides.{Decides-int_eq, same_from_decides}
 use Rattle.sample_core.specs.Datum.{Datum, Datums, unit, bool, int, pair, no_event, event, list, end, more}
+use Rattle.sample_core.proofs.Numbers.{parts_of}
 use Rattle.leaf_core.specs.ExpressionValue.{same_datum, same_datums}
 
-false_is_not_true : {P : Type 0} → false ≡ true → P
+pub false_is_not_true : {P : Type 0} → false ≡ true → P
 false_is_not_true e = absurd (cc)
-
-and_true : (s t : Bool) → (s && t) ≡ true → (s ≡ true) × (t ≡ true)
-and_true true t e = (refl, e)
-and_true false t e = false_is_not_true e
 
 mutual
   pub same_datum-refl : (v : Datum) → same_datum v v ≡ true
@@ -32,7 +29,7 @@ mutual
   same_datum-true (bool a) (bool b) e = ap bool ((booleans_Decides a b).0 e)
   same_datum-true (int m) (int n) e = ap int ((Decides-int_eq m n).0 e)
   same_datum-true (pair a b) (pair c d) e =
-      let h = and_true (same_datum a c) (same_datum b d) e in
+      let h = parts_of (same_datum a c) (same_datum b d) e in
       ap (λ t. pair t b) (same_datum-true a c h.0) ∙ ap (λ t. pair c t) (same_datum-true b d h.1)
   same_datum-true no_event no_event e = refl
   same_datum-true (event a) (event b) e = ap event (same_datum-true a b e)
@@ -42,7 +39,7 @@ mutual
   pub same_datums-true : (vs ws : Datums) → same_datums vs ws ≡ true → vs ≡ ws
   same_datums-true end end e = refl
   same_datums-true (more a as1) (more b bs) e =
-      let h = and_true (same_datum a b) (same_datums as1 bs) e in
+      let h = parts_of (same_datum a b) (same_datums as1 bs) e in
       ap (λ t. more t as1) (same_datum-true a b h.0) ∙ ap (λ t. more b t) (same_datums-true as1 bs h.1)
   same_datums-true _ _ e = false_is_not_true e
 

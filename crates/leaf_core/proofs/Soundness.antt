@@ -9,13 +9,13 @@ use Rattle.leaf_core.specs.Expression.{Expression, Expressions}
 use Rattle.leaf_core.specs.ExpressionValue.{value_of, values_of, choose, on_event, nth_of, element_at, param_at}
 use Rattle.leaf_core.specs.ExpressionTyping.{ParamAt, param_here, param_after, ExpressionTyped, ExpressionsTyped, input_typed, param_typed, unit_typed, bool_typed, int_typed, pair_typed, fst_typed, snd_typed, then_typed, neg_typed, add_typed, sub_typed, mul_typed, less_typed, equal_typed, not_typed, and_typed, or_typed, if_typed, no_event_typed, event_typed, on_typed, list_typed, nth_typed, len_typed, no_more_typed, and_then_typed}
 
-typed_left : {A B : TypeTree} {v : Datum} → HasType v (pair_ty A B) → HasType (left v) A
+pub typed_left : {A B : TypeTree} {v : Datum} → HasType v (pair_ty A B) → HasType (left v) A
 typed_left (pair_has h k) = h
 
-typed_right : {A B : TypeTree} {v : Datum} → HasType v (pair_ty A B) → HasType (right v) B
+pub typed_right : {A B : TypeTree} {v : Datum} → HasType v (pair_ty A B) → HasType (right v) B
 typed_right (pair_has h k) = k
 
-typed_wrapped : (z : ℤ) → HasType (int (int_wrap w64 z)) int_ty
+pub typed_wrapped : (z : ℤ) → HasType (int (int_wrap w64 z)) int_ty
 typed_wrapped z = int_has (SFits-int_wrap w64 z)
 
 typed_chosen : {B : TypeTree} (b : Bool) {v w : Datum} → HasType v B → HasType w B → HasType (choose b v w) B

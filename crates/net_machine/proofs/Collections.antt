@@ -43,7 +43,11 @@ members-alike r T q (p ∷ ps) ms ns k =
     (members-alike r T p.1 ps (goes T ms q (r p.0)) (goes T ns q (r p.0))
     (chosen-alike T (r p.0) (moved ms q) (moved ns q) (related-moved GoOn GoOn q q (go_on-moved q) ms ns k)))
 
-entries-stored : (es : List Entry) → entries (stored es) ≡ es
+-- at most 64 are taken
+pub few-taken : {A : Type 0} (xs : List A) → length (take 64 xs) ≤ 64
+few-taken xs = let e : length (take 64 xs) ≡ min 64 (length xs) = length-take 64 xs in omega arith
+
+pub entries-stored : (es : List Entry) → entries (stored es) ≡ es
 entries-stored [] = refl
 entries-stored (e ∷ es) = ap (λ fs. e ∷ fs) (entries-stored es)
 
@@ -157,9 +161,6 @@ module _ (r : Datum → Datum) (fs : List Stepper) (t : Datum → Stepper) (T : 
       let e : length (next ls x) ≡ length (stepped ls x).0 = length-map (stepped ls x).0 old_one in
       let k : length (stepped ls x).0 ≤ 64 = few-stepped ls x l in
       omega arith
-
-  few-taken : {A : Type 0} (xs : List A) → length (take 64 xs) ≤ 64
-  few-taken xs = let e : length (take 64 xs) ≡ min 64 (length xs) = length-take 64 xs in omega arith
 
   run-on : (b : Bool) (s : Store) (ls : List Standing) → Holds b s ls → length ls ≤ 64 → (xs : TimedList)
       → run (rp_switch_step r fs t) b s xs ≡ by_members member_outputs r T (lifted ls) (pieces xs).0 (pieces xs).1

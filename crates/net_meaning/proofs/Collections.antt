@@ -4,6 +4,7 @@ use Rattle.std.proofs.lemmas.List.{drop-take}
 use Rattle.sample_core.specs.Datum.{Datum, Datums, left, right, elements, items_of}
 use Rattle.sample_core.specs.TypeTree.{TypeTree, int_ty, pair_ty, event_ty, list_ty}
 use Rattle.sample_core.specs.HasType.{HasType, HaveType, list_has, end_has, more_has}
+use Rattle.leaf_core.proofs.Soundness.{typed_right}
 use Rattle.net_meaning.specs.SignalFunction.{TimedList, SignalFunction, gather, pieces, retime, Member, new_members, first_members, chosen, moved, by_members, member_outputs, rp_switch_function, IsSignalFunction}
 use Rattle.net_meaning.specs.Typing.{TypedValues, TypedSamples}
 use Rattle.net_meaning.specs.Sameness.{SameAt, AllSameAt, no_twin, and_twin}
@@ -11,7 +12,7 @@ use Rattle.net_meaning.proofs.Zips.{length-gather, gather-take, gather-retime}
 use Rattle.net_meaning.proofs.Plain.{AllSignals, no_signal, and_signal}
 use Rattle.net_meaning.proofs.Switched.{take_into}
 use Rattle.net_meaning.proofs.Restarting.{uncut_or_cut}
-use Rattle.net_meaning.proofs.TypedLists.{typed_right, typed_append, typed_drop, samples_append, TypedRows, no_typed_row, and_typed_row, typed_gather, TypedPieces, no_piece, and_piece, typed_pieces}
+use Rattle.net_meaning.proofs.TypedLists.{typed_append, typed_drop, samples_append, TypedRows, no_typed_row, and_typed_row, typed_gather, TypedPieces, no_piece, and_piece, typed_pieces}
 use Rattle.net_meaning.proofs.MemberPieces.{members_from, members_from-uncut, members_keep}
 use Rattle.net_meaning.proofs.RelatedMembers.{rows_of, Each, no_item, and_item, any_values, AllRelated, no_member, and_member, related-take, related-selected, related-moved, Twin, AllGood, no_good, and_good, any_pieces, by_members-same}
 

@@ -4,10 +4,11 @@ use Rattle.sample_core.specs.Datum.{Datum, left, right}
 use Rattle.net_meaning.specs.SignalFunction.{TimedList, SignalFunction, values, with_values, pair_samples, each_value, pairs, seq_function, first_function, par_function, all_of, gather, feedback_values, loop_pre_function, first_event, step_of, switch_at, watch, resume}
 use Rattle.sample_core.specs.TypeTree.{TypeTree, pair_ty, event_ty, list_ty}
 use Rattle.sample_core.specs.HasType.{HasType}
+use Rattle.leaf_core.proofs.Soundness.{typed_left, typed_right}
 use Rattle.net_meaning.specs.Typing.{TypedValues, no_value, and_value, TypedSamples, and_sample}
 use Rattle.net_meaning.proofs.Events.{Outlook, never, once, outlook}
 use Rattle.net_meaning.proofs.Switched.{switch_at-none, switch_at-some}
-use Rattle.net_meaning.proofs.TypedLists.{typed_left, typed_right, TypedValues-map, typed_values, typed_with_values, typed_pair_samples, typed_pairs, typed_each_value, typed_append, samples_append, typed_take, typed_drop, samples_take, samples_drop, typed_first, TypedRows, no_typed_row, and_typed_row, typed_gather}
+use Rattle.net_meaning.proofs.TypedLists.{TypedValues-map, typed_values, typed_with_values, typed_pair_samples, typed_pairs, typed_each_value, typed_append, samples_append, typed_take, typed_drop, samples_take, samples_drop, typed_first, TypedRows, no_typed_row, and_typed_row, typed_gather}
 use Rattle.net_meaning.specs.Sameness.{SameAt, AllSameAt, no_twin, and_twin}
 
 -- one signal at typed lists

@@ -6,11 +6,12 @@ use Rattle.net_tree.specs.Network.{Timing}
 use Rattle.net_meaning.specs.SignalFunction.{TimedList, SignalFunction, each_value, lefts, rights, watch, until, lap, each_piece, switch_function, k_switch_function, p_switch_function, r_switch_function, pieces, resume, route, route_each, freeze_all, collect, IsSignalFunction}
 use Rattle.sample_core.specs.TypeTree.{TypeTree, int_ty, pair_ty, event_ty, list_ty}
 use Rattle.sample_core.specs.HasType.{HasType, int_has, pair_has}
+use Rattle.leaf_core.proofs.Soundness.{typed_left, typed_right}
 use Rattle.net_meaning.specs.Typing.{TypedValues, no_value, TypedSamples, no_sample, and_sample, Arrow, copies}
 use Rattle.net_meaning.proofs.Plain.{IsSignal-before}
 use Rattle.net_meaning.proofs.Resumed.{IsSignal-resume}
 use Rattle.net_meaning.proofs.Switches.{late, lately, switching-is}
-use Rattle.net_meaning.proofs.TypedLists.{typed_left, typed_right, typed_each_value, typed_append, typed_take, typed_drop, samples_append, samples_take, TypedPieces, no_piece, and_piece, typed_pieces}
+use Rattle.net_meaning.proofs.TypedLists.{typed_each_value, typed_append, typed_take, typed_drop, samples_append, samples_take, TypedPieces, no_piece, and_piece, typed_pieces}
 use Rattle.net_meaning.proofs.SameAt.{SameAt-after, SameAt-watching, SameAt-in_parallel, SameAt-resume, SameAt-switch_at}
 use Rattle.net_meaning.specs.Sameness.{SameAt, AllSameAt, no_twin, and_twin, AllOlds, no_olds, and_old}
 

@@ -1,25 +1,16 @@
 -- Typed values stay typed in parts, pairs and rearrangements.
-use Rattle.std.proofs.Common.{◌≡◌, ℕ, zero, suc, ◌+◌, List, [], ◌∷◌, ◌++◌, map, length, take, drop, sym, ap, arith, Bool, true, false, ℤ, pos, Option, Some, None, subst, w64, lit<, if◌then◌else◌, nat_le}
-use Rattle.std.specs.Int.{int_wrap}
-use Rattle.std.proofs.lemmas.Int.{SFits-int_wrap, fits_signed_from_abs}
+use Rattle.std.proofs.Common.{◌≡◌, ℕ, zero, suc, ◌+◌, List, [], ◌∷◌, ◌++◌, map, length, take, drop, sym, ap, arith, Bool, true, false, pos, Option, Some, None, subst, w64, lit<, if◌then◌else◌, nat_le}
+use Rattle.std.proofs.lemmas.Int.{fits_signed_from_abs}
 use Rattle.std.proofs.lemmas.Simd.{map-map}
-use Rattle.sample_core.specs.Datum.{Datum, unit, int, pair, event, left, right, int_of, list_of}
+use Rattle.sample_core.specs.Datum.{Datum, unit, pair, event, int_of, list_of}
 use Rattle.net_meaning.specs.SignalFunction.{TimedList, values, with_values, pair_samples, pairs, each_value, last_or, before_last, i_pre_value, latest_by, latest_event, fold_events, if_event, when, integral_value, area, first_event, later, heads, tails, gather, prefixes, put_sample, pieces, Pieces}
 use Rattle.sample_core.specs.TypeTree.{TypeTree, int_ty, pair_ty, event_ty, list_ty}
 use Rattle.sample_core.specs.HasType.{HasType, HaveType, int_has, pair_has, no_event_has, event_has, list_has, end_has, more_has}
+use Rattle.leaf_core.proofs.Soundness.{typed_wrapped}
 use Rattle.net_meaning.specs.Typing.{TypedValues, no_value, and_value, TypedSamples, no_sample, and_sample}
-
-pub typed_left : {A B : TypeTree} {v : Datum} → HasType v (pair_ty A B) → HasType (left v) A
-typed_left (pair_has h k) = h
-
-pub typed_right : {A B : TypeTree} {v : Datum} → HasType v (pair_ty A B) → HasType (right v) B
-typed_right (pair_has h k) = k
 
 pub typed_event : {A : TypeTree} (c : Datum) → HasType (event c) (event_ty A) → HasType c A
 typed_event c (event_has h) = h
-
-pub typed_wrapped : (z : ℤ) → HasType (int (int_wrap w64 z)) int_ty
-typed_wrapped z = int_has (SFits-int_wrap w64 z)
 
 pub TypedValues-map : {A B : TypeTree} (h : Datum → Datum) (vs : List Datum) → ((v : Datum) → HasType v A → HasType (h v) B) → TypedValues A vs
     → TypedValues B (map h vs)

@@ -1,9 +1,10 @@
 -- A type is kept at a position, as the code finds it, exactly where the tree with another there is typed within the limits.
-use Rattle.std.proofs.Common.{◌≡◌, ◌≤◌, ℕ, leb, leb-true, le-leb, arith, Bool, true, false, ◌&&◌, List, [], ◌∷◌, Option, Some, None, IfSome, option_map, Result, Ok, Err, refl, sym, ap, subst, ◌∙◌}
+use Rattle.std.proofs.Common.{◌≡◌, ◌≤◌, ℕ, leb, leb-true, le-leb, arith, true, false, List, [], ◌∷◌, Option, Some, None, IfSome, option_map, Result, Ok, Err, refl, sym, ap, subst, ◌∙◌}
 use Rattle.std.specs.Option.{option_and_then}
 use Rattle.std.specs.Result.{result_ok}
 use Rattle.std.proofs.lemmas.Option.{none-some, same_Some}
 use Rattle.sample_core.specs.TypeTree.{TypeTree}
+use Rattle.sample_core.proofs.Numbers.{parts_of}
 use Rattle.leaf_core.specs.Expression.{Expression, height_of, nodes_in}
 use Rattle.leaf_core.specs.TypeLimits.{TypeFits}
 use Rattle.leaf_core.specs.ExpressionTyping.{ExpressionTyped}
@@ -36,6 +37,7 @@ use Rattle.net_types.proofs.Sizes.{few_inside}
 use Rattle.net_types.proofs.Checks.{walk_exact}
 use Rattle.net_types.proofs.Holes.{output_found, Hole, hole, found_there}
 use Rattle.net_types.proofs.ChangedPlaces.{kept}
+use Rattle.net_types.proofs.WalkTests.{both}
 use Rattle.net_syntax.proofs.OnePlace.{populated, one_place}
 
 -- what a tree becomes is of its kind
@@ -51,13 +53,6 @@ same_kind (a_network f) d [] (a_leaf s) q = absurd (none-some d q)
 same_kind (a_network f) d (k ∷ p) s q = let t = split f k p s d q in (t.net, t.whole)
 
 -- what the tests tell
-both_true : (a b : Bool) → (a && b) ≡ true → (a ≡ true) × (b ≡ true)
-both_true true b e = (refl, e)
-both_true false b e = absurd (cc)
-
-both : {a b : Bool} → a ≡ true → b ≡ true → (a && b) ≡ true
-both {b = b} d e = ap (λ c. c && b) d ∙ e
-
 same_told : (o : Option TypeTree) (B : TypeTree) → same_type (Some B) o ≡ true → o ≡ Some B
 same_told None B e = absurd (cc)
 same_told (Some C) B e = ap Some (sym (same_tree-true B C e))
@@ -75,7 +70,7 @@ output_told R f B e = (walk_exact [] R.params R.olds R.input f B).0 (ok_of e)
 
 fits_told : (e : Expression) → expression_fits e ≡ true → ExpressionFits e
 fits_told e i =
-    let t = both_true (leb (height_of e) 256) (leb (nodes_in e) 100000) i in
+    let t = parts_of (leb (height_of e) 256) (leb (nodes_in e) 100000) i in
     record { shallow = leb-true (height_of e) 256 t.0; small = leb-true (nodes_in e) 100000 t.1 }
 
 fits_is : (e : Expression) → ExpressionFits e → expression_fits e ≡ true
@@ -94,7 +89,7 @@ pub record Alike (R : Standing) (tree : Tree Expression) (p : List ℕ) (s : Tre
 leaf_alike : (R : Standing) (e v s : Expression) (p : List ℕ) (B : TypeTree) → ExpressionTypedWithin e R.params R.input B → with_part_at e p s ≡ Some v
     → kept_in_leaf R e p (Some v) ≡ true → Alike R (a_leaf e) p (a_leaf s) × ExpressionTypedWithin v R.params R.input B
 leaf_alike R e v s p B d q i =
-    let tests = both_true (expression_fits v) (same_type (part_type_at R.params R.input e p) (part_type_at R.params R.input v p)) i in
+    let tests = parts_of (expression_fits v) (same_type (part_type_at R.params R.input e p) (part_type_at R.params R.input v p)) i in
     from_parts (fits_told v tests.0) tests.1 (part_before e p s v q)
   where
     part_before : (a : Expression) (r : List ℕ) (b u : Expression) → with_part_at a r b ≡ Some u → (c : Expression) × (part_at a r ≡ Some c)
@@ -179,7 +174,7 @@ leaf_type_kept R Q e v s there p B B' C d w q c g h k =
     (subst (λ z. ExpressionTyped s R.params z new.output) (one_input p new.gets now.1) new.typed) k in
     both (fits_is v w.whole_fits) (same_is (old.found ∙ ap Some a) (new.found ∙ ap Some b))
 
-one_tree : {X : Type 0} {o : Option X} {a b : X} → o ≡ Some a → o ≡ Some b → a ≡ b
+pub one_tree : {X : Type 0} {o : Option X} {a b : X} → o ≡ Some a → o ≡ Some b → a ≡ b
 one_tree {a = a} {b = b} e h = same_Some a b (sym e ∙ h)
 
 -- where it is kept, and the whole is typed within the limits, the code finds it kept
@@ -254,7 +249,7 @@ rewritten t p s A B v w h d q is_input is_output i is_weight is_height light low
       };
     }
 
-the_net : (a b : Network Expression) → a_network a ≡ a_network b → a ≡ b
+pub the_net : (a b : Network Expression) → a_network a ≡ a_network b → a ≡ b
 the_net a b e = ap (λ z. net_of z) e
   where
     net_of : Tree Expression → Network Expression

@@ -2,6 +2,7 @@
 use Rattle.std.proofs.Common.{◌≡◌, ◌∙◌, ℕ, zero, suc, ◌≤◌, Bool, true, false, cond, ◌&&◌, leb, List, [], ◌∷◌, Result, Ok, Err, ◌↔◌, refl, sym, ap, subst, le-leb, leb-true}
 use Rattle.net_tree.specs.Network.{Networks}
 use Rattle.sample_core.specs.TypeTree.{TypeTree, depth_of, nodes_of, int_ty, pair_ty, event_ty, list_ty}
+use Rattle.sample_core.proofs.Numbers.{parts_of}
 use Rattle.net_meaning.specs.Typing.{Arrow, OldAt, old_here, old_after, members, LeafTyping}
 use Rattle.leaf_core.specs.TypeLimits.{TypeFits, type_fits, same_tree}
 use Rattle.net_types.specs.declared.fault.TypeFault.{TypeFault}
@@ -49,22 +50,18 @@ pub either : {A : Type 0} (P : Result A TypeFault → Type 0) (b : Bool) {r s : 
 either P true h k = h
 either P false h k = k
 
-both_true : (a b : Bool) → (a && b) ≡ true → (a ≡ true) × (b ≡ true)
-both_true true b e = (refl, e)
-both_true false b e = absurd (cc)
-
-both : {a b : Bool} → a ≡ true → b ≡ true → (a && b) ≡ true
+pub both : {a b : Bool} → a ≡ true → b ≡ true → (a && b) ≡ true
 both {b = b} d e = ap (λ c. c && b) d ∙ e
 
 pub type_fits-TypeFits : (A : TypeTree) → type_fits A ≡ true → TypeFits A
-type_fits-TypeFits A e = let h : (leb (depth_of A) 32 ≡ true) × (leb (nodes_of A) 256 ≡ true) = both_true (leb (depth_of A) 32) (leb (nodes_of A) 256) e in
+type_fits-TypeFits A e = let h : (leb (depth_of A) 32 ≡ true) × (leb (nodes_of A) 256 ≡ true) = parts_of (leb (depth_of A) 32) (leb (nodes_of A) 256) e in
     record { shallow = leb-true (depth_of A) 32 h.0; small = leb-true (nodes_of A) 256 h.1 }
 
 pub TypeFits-type_fits : (A : TypeTree) → TypeFits A → type_fits A ≡ true
 TypeFits-type_fits A h = both (le-leb (depth_of A) 32 h.shallow) (le-leb (nodes_of A) 256 h.small)
 
 in_range : (low high n : ℕ) → (leb low n && leb n high) ≡ true → (low ≤ n) × (n ≤ high)
-in_range low high n e = let h : (leb low n ≡ true) × (leb n high ≡ true) = both_true (leb low n) (leb n high) e in (leb-true low n h.0, leb-true n high h.1)
+in_range low high n e = let h : (leb low n ≡ true) × (leb n high ≡ true) = parts_of (leb low n) (leb n high) e in (leb-true low n h.0, leb-true n high h.1)
 
 range_in : (low high n : ℕ) → low ≤ n → n ≤ high → (leb low n && leb n high) ≡ true
 range_in low high n h k = both (le-leb low n h) (le-leb n high k)

@@ -7,12 +7,12 @@ use Rattle.sample_core.specs.TypeTree.{TypeTree, int_ty, pair_ty, event_ty, list
 use Rattle.sample_core.specs.HasType.{HasType, HaveType, unit_has, int_has, pair_has, no_event_has, event_has, list_has, end_has, more_has, TypedParams, no_params, and_param}
 use Rattle.leaf_core.specs.ExpressionValue.{value_of}
 use Rattle.leaf_core.specs.KeyTree.{KeyTree}
-use Rattle.leaf_core.proofs.Soundness.{typed_value}
+use Rattle.leaf_core.proofs.Soundness.{typed_value, typed_left, typed_right, typed_wrapped}
 use Rattle.net_tree.specs.Network.{Timing, at_once, delayed, Network, Networks}
 use Rattle.net_meaning.specs.Typing as T
 use Rattle.net_meaning.specs.Typing.{Arrow, OldAt, old_here, old_after, copies, members, arrow, AnyType, Typed, AllTyped, TypedSamples, no_sample, and_sample, no_value, and_value}
 use Rattle.net_meaning.proofs.SameNets.{TypedParams-append}
-use Rattle.net_meaning.proofs.TypedLists.{typed_left, typed_right, typed_wrapped, samples_append, typed_latest_event, typed_fold_events, typed_if_event}
+use Rattle.net_meaning.proofs.TypedLists.{samples_append, typed_latest_event, typed_fold_events, typed_if_event}
 use Rattle.state_core.specs.CountedForms.{route_by}
 use Rattle.cell_core.specs.Cell.{Cell, count_down, due, after_cell, cell_step}
 use Rattle.state_core.specs.State.{State, States, Scope, Frozens, Frozen, append_frozens, params_of, frozens_of, frozen_at, push_param, push_olds, all_unstarted, all_paused, frozen_list, first_frozen, chosen_frozen, turned}
