@@ -28,7 +28,7 @@ pub use leaf_core::{
     Expr, ExprChild, ExprFault, LeafKey, Literal, Shape, eval, shape_of, type_of_expr,
 };
 pub use number_reader::{MOST_INDEX, natural_named, read_index, read_natural};
-pub use print::{print_expr, push_expr};
+pub use print::{print_expr, push_expr, push_last_expr, push_next_expr, push_open};
 pub use text_fault::ExprTextFault;
 pub use text_laws::{
     grammar_rows, number_laws, printing_laws, reading_laws, sugar_laws, whole_text_laws,

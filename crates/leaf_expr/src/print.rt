@@ -82,8 +82,8 @@ fn push_param(text: &mut String, k: u32) -> Result<(), Memory>
     push_word(text, ")")
 }
 
-/// The beginning of a form.
-fn push_open(text: &mut String, name: &str) -> Result<(), Memory>
+/// The beginning of a form: `(` and its name. `Memory` if allocation fails.
+pub fn push_open(text: &mut String, name: &str) -> Result<(), Memory>
     ensures { Adds result (string_bytes text.old) (string_bytes text.new) (40 ∷ name.now) }
 {
     push_word(text, "(")?;
@@ -109,9 +109,9 @@ fn push_no_event(text: &mut String, ty: &Ty) -> Result<(), Memory>
     push_word(text, ")")
 }
 
-/// An expression as the next part of a form.
+/// An expression as the next part of a form. `Memory` if allocation fails.
 #[cycle(push_expr)]
-fn push_next(text: &mut String, expr: &Expr) -> Result<(), Memory>
+pub fn push_next_expr(text: &mut String, expr: &Expr) -> Result<(), Memory>
     ensures { Adds result (string_bytes text.old) (string_bytes text.new)
         (32 ∷ sexpr_spelling (expression_sexpr (expression_of expr.now))) }
 {
@@ -119,13 +119,13 @@ fn push_next(text: &mut String, expr: &Expr) -> Result<(), Memory>
     push_expr(text, expr)
 }
 
-/// An expression as the last part of a form, and the form's end.
+/// An expression as the last part of a form, and the form's end. `Memory` if allocation fails.
 #[cycle(push_expr)]
-fn push_last(text: &mut String, a: &ExprChild) -> Result<(), Memory>
+pub fn push_last_expr(text: &mut String, expr: &Expr) -> Result<(), Memory>
     ensures { Adds result (string_bytes text.old) (string_bytes text.new)
-        (sexprs_spelling (more (expression_sexpr a.now) last) ++ (41 ∷ [])) }
+        (sexprs_spelling (more (expression_sexpr (expression_of expr.now)) last) ++ (41 ∷ [])) }
 {
-    push_next(text, a.get())?;
+    push_next_expr(text, expr)?;
     push_word(text, ")")
 }
 
@@ -136,7 +136,7 @@ fn push_one(text: &mut String, name: &str, a: &ExprChild) -> Result<(), Memory>
         (sexpr_spelling (one name.now (expression_sexpr a.now))) }
 {
     push_open(text, name)?;
-    push_last(text, a)
+    push_last_expr(text, a.get())
 }
 
 /// A form of two expressions.
@@ -146,8 +146,8 @@ fn push_two(text: &mut String, name: &str, a: &ExprChild, b: &ExprChild) -> Resu
         (sexpr_spelling (two name.now (expression_sexpr a.now) (expression_sexpr b.now))) }
 {
     push_open(text, name)?;
-    push_next(text, a.get())?;
-    push_last(text, b)
+    push_next_expr(text, a.get())?;
+    push_last_expr(text, b.get())
 }
 
 /// A form of three expressions.
@@ -165,9 +165,9 @@ fn push_three(
         (expression_sexpr c.now))) }
 {
     push_open(text, name)?;
-    push_next(text, a.get())?;
-    push_next(text, b.get())?;
-    push_last(text, c)
+    push_next_expr(text, a.get())?;
+    push_next_expr(text, b.get())?;
+    push_last_expr(text, c.get())
 }
 
 /// A list expression.
@@ -188,7 +188,7 @@ fn push_elements(text: &mut String, all: &Exprs) -> Result<(), Memory>
         (sexprs_spelling (expression_sexprs (expressions_of all.now)) ++ (41 ∷ [])) }
 {
     for e in all.as_slice() {
-        push_next(text, e)?;
+        push_next_expr(text, e)?;
     }
     push_word(text, ")")
 }

@@ -12,7 +12,7 @@ ghost use Rattle.net_text.specs.Printing.{network_sexpr, network_sexprs, file_sp
 
 use crate::new_forms::{is_new, version_word};
 use itoa::Buffer;
-use leaf_expr::{Expr, push_expr};
+use leaf_expr::{Expr, push_last_expr, push_next_expr, push_open};
 use net_tree::{Members, Net, NetChild};
 use sample_core::{Memory, Ty, push_type, push_word};
 use std::alloc::Global;
@@ -68,32 +68,6 @@ pub fn push_net(text: &mut String, net: &Net<Expr>) -> Result<(), Memory>
         Net::PSwitch(r, all, e, t) => push_p_switch(text, r, all, e, t),
         Net::Old(k) => push_old(text, *k),
     }
-}
-
-/// The beginning of a form.
-fn push_open(text: &mut String, name: &str) -> Result<(), Memory>
-    ensures { Adds result (string_bytes text.old) (string_bytes text.new) (40 ∷ name.now) }
-{
-    push_word(text, "(")?;
-    push_word(text, name)
-}
-
-/// An expression as the next part of a form.
-pub(crate) fn push_next_expr(text: &mut String, expr: &Expr) -> Result<(), Memory>
-    ensures { Adds result (string_bytes text.old) (string_bytes text.new)
-        (32 ∷ sexpr_spelling (expression_sexpr (expression_of expr.now))) }
-{
-    push_word(text, " ")?;
-    push_expr(text, expr)
-}
-
-/// An expression as the last part of a form, and the form's end.
-fn push_last_expr(text: &mut String, expr: &Expr) -> Result<(), Memory>
-    ensures { Adds result (string_bytes text.old) (string_bytes text.new)
-        (sexprs_spelling (more (expression_sexpr (expression_of expr.now)) last) ++ (41 ∷ [])) }
-{
-    push_next_expr(text, expr)?;
-    push_word(text, ")")
 }
 
 /// A form of one expression.

@@ -11,10 +11,10 @@ ghost use Rattle.net_text.specs.CertificatePrinting as printing;
 
 use crate::certificate_reader::{last_law, last_leaf_law};
 use crate::new_forms::{is_new, version_word};
-use crate::print::{push_net, push_next, push_next_expr};
+use crate::print::{push_net, push_next};
 use crate::text::Version;
 use itoa::Buffer;
-use leaf_expr::push_expr;
+use leaf_expr::{push_expr, push_next_expr};
 use net_tree::{Direction, Law, LawStep, Tree, push_position};
 use sample_core::{Memory, push_word};
 use std::alloc::Global;

@@ -23,11 +23,11 @@ decreases-push_two l = 5 * (nodes_in l.a.now + nodes_in l.b.now) + 4
 abbrev pub decreases-push_expr : goal.decreases-push_expr
 decreases-push_expr l = 5 * expr_nodes l.expr.now + 1
 
-abbrev pub decreases-push_next : goal.decreases-push_next
-decreases-push_next l = 5 * expr_nodes l.expr.now + 2
+abbrev pub decreases-push_next_expr : goal.decreases-push_next_expr
+decreases-push_next_expr l = 5 * expr_nodes l.expr.now + 2
 
-abbrev pub decreases-push_last : goal.decreases-push_last
-decreases-push_last l = 5 * nodes_in l.a.now + 3
+abbrev pub decreases-push_last_expr : goal.decreases-push_last_expr
+decreases-push_last_expr l = 5 * expr_nodes l.expr.now + 3
 
 abbrev pub decreases-push_one : goal.decreases-push_one
 decreases-push_one l = 5 * nodes_in l.a.now + 4
