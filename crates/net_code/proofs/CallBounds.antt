@@ -17,7 +17,7 @@ use Rattle.net_code.specs.CodeLaw.{value_in}
 use Rattle.net_code.specs.Calls.{Counter, Counted, no_calls, each_calls, routed_calls, member_calls, turns_calls, going_calls, body_calls, function_calls, run_calls, CallsLaw}
 use Rattle.net_code.proofs.BodyLaws.{steps_of}
 use Rattle.net_code.proofs.Links.{Begins, function_of}
-use Rattle.net_code.proofs.Emitted.{begins-trans, begins-body, adds, adds_all, AllBelow, below-more, latest_below, all_below, latest_body}
+use Rattle.net_code.proofs.Emitted.{begins-trans, before, adds, adds_all, AllBelow, below-more, latest_below, all_below, latest_body}
 use Rattle.net_code.proofs.CallLinks.{counter_of, same_counter, next_counter}
 
 -- at most so many
@@ -199,41 +199,80 @@ module _ (val : Expr → List Datum → Datum → Datum) (D : Code) where
   going-within H f t m n i j F g s x None = left-of-sum _ m n (i _ _ _)
   going-within H f t m n i j F g s x (Some c) = right-of-sum _ m n (j _ _ _)
 
-  -- what stands before a node's last function
-  before : (d : Code) (b : Body) → Begins (and_body d b) D → Begins d D
-  before d b i = begins-trans d (and_body d b) D (begins-body d b) i
+  -- the part of a node, whose function is the last one before it
+  one-part : (f : Network Expr) (n : ℕ) (ps : List Freezable) (c : Code) (b : Body) (w : ℕ) → Begins (and_body (emit f n ps c) b) D
+      → (Begins (emit f n ps c) D → AtMost (latest (emit f n ps c)) w)
+      → (g : Given) → Below (counter_of val (emit f n ps c) (latest (emit f n ps c)) g) w
+  one-part f n ps c b w i h =
+      let id : Begins (emit f n ps c) D = before D (emit f n ps c) b i in
+      at-most-earlier (emit f n ps c) (latest (emit f n ps c)) w id (latest_below f n ps c) (h id)
+
+  -- two parts of a node, the code of the second behind that of the first
+  two-parts : (f t : Network Expr) (n m : ℕ) (ps : List Freezable) (ws : List ℕ) (c : Code) (s : Body) (u v : ℕ)
+      → Weighs (length c) ps ws → Begins (and_body (emit t m ps (emit f n ps c)) s) D
+      → (Begins (emit f n ps c) D → AtMost (latest (emit f n ps c)) u)
+      → (Weighs (length (emit f n ps c)) ps ws → Begins (emit t m ps (emit f n ps c)) D → AtMost (latest (emit t m ps (emit f n ps c))) v)
+      → ((g : Given) → Below (counter_of val (emit t m ps (emit f n ps c)) (latest (emit f n ps c)) g) u)
+      × ((g : Given) → Below (counter_of val (emit t m ps (emit f n ps c)) (latest (emit t m ps (emit f n ps c))) g) v)
+  two-parts f t n m ps ws c s u v w i hf ht =
+      let d : Code = emit f n ps c in
+      let b : Code = emit t m ps d in
+      let ib : Begins b D = before D b s i in
+      let lc : length c < length d = (adds f n ps c).1 in
+      let lb : length d < length b = (adds t m ps d).1 in
+      let ld : latest d < length d = latest_below f n ps c in (
+        at-most-earlier b (latest d) u ib (omega arith) (hf (begins-trans d b D (adds t m ps d).0 ib)),
+        one-part t m ps d s v i (ht (weighs-more (length c) (length d) ps ws (omega arith) w)),
+      )
+
+  -- parts of a node that freezes them, the watcher, and what takes over
+  frozen-parts : (d : Code) (e t : Network Expr) (n : ℕ) (ps : List Freezable) (ws js us : List ℕ) (s : Body) (u v : ℕ)
+      → Weighs (length d) ps ws → AllBelow (length d) js
+      → Begins (and_body (emit t (suc n) (ps ++ map (freezable n (length ps)) js) (emit e n ps d)) s) D
+      → (Begins d D → CountersWithin js us)
+      → (Begins (emit e n ps d) D → AtMost (latest (emit e n ps d)) u)
+      → (Weighs (length (emit e n ps d)) (ps ++ map (freezable n (length ps)) js) (ws ++ us)
+      → Begins (emit t (suc n) (ps ++ map (freezable n (length ps)) js) (emit e n ps d)) D
+      → AtMost (latest (emit t (suc n) (ps ++ map (freezable n (length ps)) js) (emit e n ps d))) v)
+      → ((g : Given) → AllWithin (map (λ j. counter_of val (emit t (suc n) (ps ++ map (freezable n (length ps)) js) (emit e n ps d)) j g) js) us)
+      × ((g : Given) → Below (counter_of val (emit t (suc n) (ps ++ map (freezable n (length ps)) js) (emit e n ps d)) (latest (emit e n ps d)) g) u)
+      × ((g : Given) → Below (counter_of val (emit t (suc n) (ps ++ map (freezable n (length ps)) js) (emit e n ps d)) (latest (emit t (suc n) (ps ++ map (freezable n (length ps)) js) (emit e n ps d))) g) v)
+  frozen-parts d e t n ps ws js us s u v w md i hf he ht =
+      let qs : List Freezable = ps ++ map (freezable n (length ps)) js in
+      let k : Code = emit e n ps d in
+      let b : Code = emit t (suc n) qs k in
+      let ib : Begins b D = before D b s i in
+      let ik : Begins k D = begins-trans k b D (adds t (suc n) qs k).0 ib in
+      let lk : length d < length k = (adds e n ps d).1 in
+      let lb : length k < length b = (adds t (suc n) qs k).1 in
+      let mk : latest k < length k = latest_below e n ps d in
+      let cf : CountersWithin js us = hf (begins-trans d k D (adds e n ps d).0 ik) in
+      let wk : Weighs (length k) qs (ws ++ us) =
+      weighs-append (length k) n (length ps) ps ws js us (weighs-more (length d) (length k) ps ws (omega arith) w)
+      (below-more (length d) (length k) js (omega arith) md) cf in (
+        (λ g. counters-earlier b js us g ib (below-more (length d) (length b) js (omega arith) md) cf),
+        at-most-earlier b (latest k) u ib (omega arith) (he ik),
+        one-part t (suc n) qs k s v i (ht wk),
+      )
 
   mutual
     pub calls : (net : Network Expr) (n : ℕ) (ps : List Freezable) (ws : List ℕ) (c : Code) → Weighs (length c) ps ws → Begins (emit net n ps c) D
         → AtMost (latest (emit net n ps c)) (weight net ws)
     calls (arr e) n ps ws c w i = node-calls c _ 0 i (λ g s x. none _)
     calls (seq f h) n ps ws c w i =
-        let d : Code = emit f n ps c in
-        let b : Code = emit h n ps d in
-        let ib : Begins b D = before b _ i in
-        let id : Begins d D = begins-trans d b D (adds h n ps d).0 ib in
-        let lc : length c < length d = (adds f n ps c).1 in
-        let lb : length d < length b = (adds h n ps d).1 in
-        let ld : latest d < length d = latest_below f n ps c in
-        let hf : (g : Given) → Below (counter_of val b (latest d) g) (weight f ws) = at-most-earlier b (latest d) _ ib (omega arith) (calls f n ps ws c w id) in
-        let hh : (g : Given) → Below (counter_of val b (latest b) g) (weight h ws) =
-        at-most-earlier b (latest b) _ ib (latest_below h n ps d) (calls h n ps ws d (weighs-more (length c) (length d) ps ws (omega arith) w) ib) in
-        node-calls b _ _ i (λ g s x. within-sum _ _ _ _ (hf _ _ _) (hh _ _ _))
+        let hs = two-parts f h n n ps ws c _ (weight f ws) (weight h ws) w i (calls f n ps ws c w) (calls h n ps ws (emit f n ps c)) in
+        node-calls _ _ _ i (λ g s x. within-sum _ _ _ _ (hs.0 _ _ _) (hs.1 _ _ _))
     calls (first f) n ps ws c w i =
-        let d : Code = emit f n ps c in
-        let id : Begins d D = before d _ i in
-        let hf : (g : Given) → Below (counter_of val d (latest d) g) (weight f ws) = at-most-earlier d (latest d) _ id (latest_below f n ps c) (calls f n ps ws c w id) in
-        node-calls d _ _ i (λ g s x. zero-and _ _ (and-none _ _ (hf _ _ _)))
+        let hf = one-part f n ps c _ (weight f ws) i (calls f n ps ws c w) in
+        node-calls _ _ _ i (λ g s x. zero-and _ _ (and-none _ _ (hf _ _ _)))
     calls (par fs) n ps ws c w i =
         let r : Code × List ℕ = emit_all fs n ps c in
-        let ir : Begins r.0 D = before r.0 _ i in
+        let ir : Begins r.0 D = before D r.0 _ i in
         node-calls r.0 _ _ i (λ g s x. subst (λ k. k ≤ total (weights fs ws)) (sym (members_calls r.0 g r.1 _ (x.1 ∷ []) s x.0 [] []))
         (each-within _ _ _ _ (counters-earlier r.0 r.1 _ g ir (all_below fs n ps c) (all_calls fs n ps ws c w ir))))
     calls (loop_pre e f) n ps ws c w i =
-        let d : Code = emit f n ps c in
-        let id : Begins d D = before d _ i in
-        let hf : (g : Given) → Below (counter_of val d (latest d) g) (weight f ws) = at-most-earlier d (latest d) _ id (latest_below f n ps c) (calls f n ps ws c w id) in
-        node-calls d _ _ i (λ g s x. zero-and _ _ (zero-and _ _ (zero-and _ _ (and-none _ _ (hf _ _ _)))))
+        let hf = one-part f n ps c _ (weight f ws) i (calls f n ps ws c w) in
+        node-calls _ _ _ i (λ g s x. zero-and _ _ (zero-and _ _ (zero-and _ _ (and-none _ _ (hf _ _ _)))))
     calls (i_pre e) n ps ws c w i = node-calls c _ 0 i (λ g s x. none _)
     calls (delay q e) n ps ws c w i = node-calls c _ 0 i (λ g s x. none _)
     calls (hold e) n ps ws c w i = node-calls c _ 0 i (λ g s x. none _)
@@ -243,139 +282,70 @@ module _ (val : Expr → List Datum → Datum → Datum) (D : Code) where
     calls time n ps ws c w i = node-calls c _ 0 i (λ g s x. none _)
     calls integral n ps ws c w i = node-calls c _ 0 i (λ g s x. none _)
     calls (switch at_once f t) n ps ws c w i =
-        let d : Code = emit f n ps c in
-        let b : Code = emit t (suc n) ps d in
-        let ib : Begins b D = before b _ i in
-        let id : Begins d D = begins-trans d b D (adds t (suc n) ps d).0 ib in
-        let lc : length c < length d = (adds f n ps c).1 in
-        let lb : length d < length b = (adds t (suc n) ps d).1 in
-        let ld : latest d < length d = latest_below f n ps c in
-        let hf : (g : Given) → Below (counter_of val b (latest d) g) (weight f ws) = at-most-earlier b (latest d) _ ib (omega arith) (calls f n ps ws c w id) in
-        let ht : (g : Given) → Below (counter_of val b (latest b) g) (weight t ws) =
-        at-most-earlier b (latest b) _ ib (latest_below t (suc n) ps d) (calls t (suc n) ps ws d (weighs-more (length c) (length d) ps ws (omega arith) w) ib) in
-        node-calls b _ _ i (λ g s x. within-if _ _ _ _ (right-of-sum _ _ _ (ht _ _ _)) (within-sum _ _ _ _ (hf _ _ _) (zero-and _ _ (zero-and _ _ (within-if _ _ _ _ (none _) (ht _ _ _))))))
+        let hs = two-parts f t n (suc n) ps ws c _ (weight f ws) (weight t ws) w i (calls f n ps ws c w) (calls t (suc n) ps ws (emit f n ps c)) in
+        node-calls _ _ _ i (λ g s x. within-if _ _ _ _ (right-of-sum _ _ _ (hs.1 _ _ _)) (within-sum _ _ _ _ (hs.0 _ _ _) (zero-and _ _ (zero-and _ _ (within-if _ _ _ _ (none _) (hs.1 _ _ _))))))
     calls (switch delayed f t) n ps ws c w i =
-        let d : Code = emit f n ps c in
-        let b : Code = emit t (suc n) ps d in
-        let ib : Begins b D = before b _ i in
-        let id : Begins d D = begins-trans d b D (adds t (suc n) ps d).0 ib in
-        let lc : length c < length d = (adds f n ps c).1 in
-        let lb : length d < length b = (adds t (suc n) ps d).1 in
-        let ld : latest d < length d = latest_below f n ps c in
-        let hf : (g : Given) → Below (counter_of val b (latest d) g) (weight f ws) = at-most-earlier b (latest d) _ ib (omega arith) (calls f n ps ws c w id) in
-        let ht : (g : Given) → Below (counter_of val b (latest b) g) (weight t ws) =
-        at-most-earlier b (latest b) _ ib (latest_below t (suc n) ps d) (calls t (suc n) ps ws d (weighs-more (length c) (length d) ps ws (omega arith) w) ib) in
-        node-calls b _ _ i (λ g s x. within-if _ _ _ _ (right-of-sum _ _ _ (ht _ _ _)) (within-sum _ _ _ _ (hf _ _ _) (zero-and _ _ (zero-and _ _ (within-if _ _ _ _ (none _) (and-none _ _ (ht _ _ _)))))))
+        let hs = two-parts f t n (suc n) ps ws c _ (weight f ws) (weight t ws) w i (calls f n ps ws c w) (calls t (suc n) ps ws (emit f n ps c)) in
+        node-calls _ _ _ i (λ g s x. within-if _ _ _ _ (right-of-sum _ _ _ (hs.1 _ _ _)) (within-sum _ _ _ _ (hs.0 _ _ _) (zero-and _ _ (zero-and _ _ (within-if _ _ _ _ (none _) (and-none _ _ (hs.1 _ _ _)))))))
     calls (r_switch at_once f t) n ps ws c w i =
         let d : Code = emit f n ps c in
         let b : Code = emit t (suc n) ps d in
-        let ib : Begins b D = before b _ i in
-        let id : Begins d D = begins-trans d b D (adds t (suc n) ps d).0 ib in
-        let lc : length c < length d = (adds f n ps c).1 in
-        let lb : length d < length b = (adds t (suc n) ps d).1 in
-        let ld : latest d < length d = latest_below f n ps c in
-        let hf : (g : Given) → Below (counter_of val b (latest d) g) (weight f ws) = at-most-earlier b (latest d) _ ib (omega arith) (calls f n ps ws c w id) in
-        let ht : (g : Given) → Below (counter_of val b (latest b) g) (weight t ws) =
-        at-most-earlier b (latest b) _ ib (latest_below t (suc n) ps d) (calls t (suc n) ps ws d (weighs-more (length c) (length d) ps ws (omega arith) w) ib) in
+        let hs = two-parts f t n (suc n) ps ws c _ (weight f ws) (weight t ws) w i (calls f n ps ws c w) (calls t (suc n) ps ws d) in
         node-calls b _ _ i (λ g s x.
         let T : Store = taken_by (event_in (beside_in x.1)) (cleared x.0 s) in
         zero-and _ _ (zero-and _ _ (within-if (is_none (event_in (beside_in x.1))) _ _ _
-        (going-within (counter_of val b) (latest d) (latest b) _ _ hf ht (function_of val b) g (cleared x.0 s) (x.0, left x.1) (mode_of (cleared x.0 s)))
-        (right-of-sum _ _ _ (ht (given_value g (value_taken T)) (taker_part T) (start, left x.1))))))
+        (going-within (counter_of val b) (latest d) (latest b) _ _ hs.0 hs.1 (function_of val b) g (cleared x.0 s) (x.0, left x.1) (mode_of (cleared x.0 s)))
+        (right-of-sum _ _ _ (hs.1 (given_value g (value_taken T)) (taker_part T) (start, left x.1))))))
     calls (r_switch delayed f t) n ps ws c w i =
         let d : Code = emit f n ps c in
         let b : Code = emit t (suc n) ps d in
-        let ib : Begins b D = before b _ i in
-        let id : Begins d D = begins-trans d b D (adds t (suc n) ps d).0 ib in
-        let lc : length c < length d = (adds f n ps c).1 in
-        let lb : length d < length b = (adds t (suc n) ps d).1 in
-        let ld : latest d < length d = latest_below f n ps c in
-        let hf : (g : Given) → Below (counter_of val b (latest d) g) (weight f ws) = at-most-earlier b (latest d) _ ib (omega arith) (calls f n ps ws c w id) in
-        let ht : (g : Given) → Below (counter_of val b (latest b) g) (weight t ws) =
-        at-most-earlier b (latest b) _ ib (latest_below t (suc n) ps d) (calls t (suc n) ps ws d (weighs-more (length c) (length d) ps ws (omega arith) w) ib) in
+        let hs = two-parts f t n (suc n) ps ws c _ (weight f ws) (weight t ws) w i (calls f n ps ws c w) (calls t (suc n) ps ws d) in
         node-calls b _ _ i (λ g s x.
         let q : Store × Datum = going val (function_of val b) g (latest d) (latest b) (cleared x.0 s) (x.0, left x.1) (mode_of (cleared x.0 s)) in
         let T : Store = taken_by (event_in (beside_in x.1)) q.0 in
         within-twice _ _ _ (zero-and _ _ (zero-and _ _ (within-sum _ _ _ _
-        (going-within (counter_of val b) (latest d) (latest b) _ _ hf ht (function_of val b) g (cleared x.0 s) (x.0, left x.1) (mode_of (cleared x.0 s)))
+        (going-within (counter_of val b) (latest d) (latest b) _ _ hs.0 hs.1 (function_of val b) g (cleared x.0 s) (x.0, left x.1) (mode_of (cleared x.0 s)))
         (within-if (is_none (event_in (beside_in x.1))) _ _ _ (none _)
-        (and-none _ _ (ht (given_value g (value_taken T)) (taker_part T) (start, left x.1))))))))
+        (and-none _ _ (hs.1 (given_value g (value_taken T)) (taker_part T) (start, left x.1))))))))
     calls (k_switch f e t) n ps ws c w i =
         let d : Code = emit f n ps c in
-        let k : Code = emit e n ps d in
-        let js : List ℕ = latest d ∷ [] in
         let us : List ℕ = weight f ws ∷ [] in
-        let qs : List Freezable = ps ++ map (freezable n (length ps)) js in
-        let b : Code = emit t (suc n) qs k in
-        let ib : Begins b D = before b _ i in
-        let ik : Begins k D = begins-trans k b D (adds t (suc n) qs k).0 ib in
-        let id : Begins d D = begins-trans d k D (adds e n ps d).0 ik in
+        let qs : List Freezable = ps ++ map (freezable n (length ps)) (latest d ∷ []) in
         let lc : length c < length d = (adds f n ps c).1 in
-        let lk : length d < length k = (adds e n ps d).1 in
-        let lb : length k < length b = (adds t (suc n) qs k).1 in
-        let md : latest d < length d = latest_below f n ps c in
-        let mk : latest k < length k = latest_below e n ps d in
-        let cf : AtMost (latest d) (weight f ws) = calls f n ps ws c w id in
-        let wk : Weighs (length k) qs (ws ++ us) =
-        weighs-append (length k) n (length ps) ps ws js us (weighs-more (length c) (length k) ps ws (omega arith) w) (omega arith, tt) (cf, refl) in
-        let hf : (g : Given) → Below (counter_of val b (latest d) g) (weight f ws) = at-most-earlier b (latest d) _ ib (omega arith) cf in
-        let he : (g : Given) → Below (counter_of val b (latest k) g) (weight e ws) =
-        at-most-earlier b (latest k) _ ib (omega arith) (calls e n ps ws d (weighs-more (length c) (length d) ps ws (omega arith) w) ik) in
-        let ht : (g : Given) → Below (counter_of val b (latest b) g) (weight t (ws ++ us)) =
-        at-most-earlier b (latest b) _ ib (latest_below t (suc n) qs k) (calls t (suc n) qs (ws ++ us) k wk ib) in
-        node-calls b _ _ i (λ g s x. within-if _ _ _ _ (right-of-sum _ _ _ (ht _ _ _))
-        (within-three _ _ _ _ _ _ (hf _ _ _) (he _ _ _) (within-if _ _ _ _ (none _) (ht _ _ _))))
+        let wd : Weighs (length d) ps ws = weighs-more (length c) (length d) ps ws (omega arith) w in
+        let hs = frozen-parts d e t n ps ws (latest d ∷ []) us _ (weight e ws) (weight t (ws ++ us)) wd (latest_below f n ps c, tt) i
+        (λ id. (calls f n ps ws c w id, refl)) (calls e n ps ws d wd) (calls t (suc n) qs (ws ++ us) (emit e n ps d)) in
+        node-calls _ _ _ i (λ g s x. within-if _ _ _ _ (right-of-sum _ _ _ (hs.2 _ _ _))
+        (within-three _ _ _ _ _ _ ((hs.0 g).0 _ _) (hs.1 _ _ _) (within-if _ _ _ _ (none _) (hs.2 _ _ _))))
     calls (p_switch r fs e t) n ps ws c w i =
         let d : Code × List ℕ = emit_all fs n ps c in
-        let k : Code = emit e n ps d.0 in
-        let js : List ℕ = d.1 in
         let us : List ℕ = weights fs ws in
-        let qs : List Freezable = ps ++ map (freezable n (length ps)) js in
-        let b : Code = emit t (suc n) qs k in
-        let ib : Begins b D = before b _ i in
-        let ik : Begins k D = begins-trans k b D (adds t (suc n) qs k).0 ib in
-        let id : Begins d.0 D = begins-trans d.0 k D (adds e n ps d.0).0 ik in
-        let lc : length c ≤ length d.0 = (adds_all fs n ps c).1 in
-        let lk : length d.0 < length k = (adds e n ps d.0).1 in
-        let lb : length k < length b = (adds t (suc n) qs k).1 in
-        let md : AllBelow (length d.0) js = all_below fs n ps c in
-        let mk : latest k < length k = latest_below e n ps d.0 in
-        let cf : CountersWithin js us = all_calls fs n ps ws c w id in
-        let wk : Weighs (length k) qs (ws ++ us) =
-        weighs-append (length k) n (length ps) ps ws js us (weighs-more (length c) (length k) ps ws (omega arith) w)
-        (below-more (length d.0) (length k) js (omega arith) md) cf in
-        let he : (g : Given) → Below (counter_of val b (latest k) g) (weight e ws) =
-        at-most-earlier b (latest k) _ ib (omega arith) (calls e n ps ws d.0 (weighs-more (length c) (length d.0) ps ws lc w) ik) in
-        let ht : (g : Given) → Below (counter_of val b (latest b) g) (weight t (ws ++ us)) =
-        at-most-earlier b (latest b) _ ib (latest_below t (suc n) qs k) (calls t (suc n) qs (ws ++ us) k wk ib) in
-        let hf : (g : Given) → AllWithin (map (λ j. counter_of val b j g) js) us =
-        λ g. counters-earlier b js us g ib (below-more (length d.0) (length b) js (omega arith) md) cf in
+        let qs : List Freezable = ps ++ map (freezable n (length ps)) d.1 in
+        let b : Code = emit t (suc n) qs (emit e n ps d.0) in
+        let wd : Weighs (length d.0) ps ws = weighs-more (length c) (length d.0) ps ws (adds_all fs n ps c).1 w in
+        let hs = frozen-parts d.0 e t n ps ws d.1 us _ (weight e ws) (weight t (ws ++ us)) wd (all_below fs n ps c) i
+        (all_calls fs n ps ws c w) (calls e n ps ws d.0 wd) (calls t (suc n) qs (ws ++ us) (emit e n ps d.0)) in
         node-calls b _ _ i (λ g s x.
-        subst (λ a. a ≤ total us + weight e ws + weight t (ws ++ us)) (sym (members_calls b g js _ (x.1 ∷ []) s x.0 [] []))
-        (within-if _ _ _ _ (right-of-sum _ _ _ (ht _ _ _))
-        (within-three _ _ _ _ _ _ (routed-within (val r g.params) 0 (map (λ j. counter_of val b j g) js) us (one (front_part (frozen_now x.0 (cleared x.0 s)))) (x.0, x.1) (hf g)) (he _ _ _) (within-if _ _ _ _ (none _) (ht _ _ _)))))
-    calls (old k) n ps ws c w i = node-calls c _ _ i (old-calls c ps ws k k (before c _ i) w)
+        subst (λ a. a ≤ total us + weight e ws + weight t (ws ++ us)) (sym (members_calls b g d.1 _ (x.1 ∷ []) s x.0 [] []))
+        (within-if _ _ _ _ (right-of-sum _ _ _ (hs.2 _ _ _))
+        (within-three _ _ _ _ _ _ (routed-within (val r g.params) 0 (map (λ j. counter_of val b j g) d.1) us (one (front_part (frozen_now x.0 (cleared x.0 s)))) (x.0, x.1) (hs.0 g)) (hs.1 _ _ _) (within-if _ _ _ _ (none _) (hs.2 _ _ _)))))
+    calls (old k) n ps ws c w i = node-calls c _ _ i (old-calls c ps ws k k (before D c _ i) w)
     calls (initial_out e f) n ps ws c w i =
-        let d : Code = emit f n ps c in
-        let id : Begins d D = before d _ i in
-        let hf : (g : Given) → Below (counter_of val d (latest d) g) (weight f ws) = at-most-earlier d (latest d) _ id (latest_below f n ps c) (calls f n ps ws c w id) in
-        node-calls d _ _ i (λ g s x. zero-and _ _ (and-none _ _ (hf _ _ _)))
+        let hf = one-part f n ps c _ (weight f ws) i (calls f n ps ws c w) in
+        node-calls _ _ _ i (λ g s x. zero-and _ _ (and-none _ _ (hf _ _ _)))
     calls (initial_in e f) n ps ws c w i =
-        let d : Code = emit f n ps c in
-        let id : Begins d D = before d _ i in
-        let hf : (g : Given) → Below (counter_of val d (latest d) g) (weight f ws) = at-most-earlier d (latest d) _ id (latest_below f n ps c) (calls f n ps ws c w id) in
-        node-calls d _ _ i (λ g s x. zero-and _ _ (zero-and _ _ (hf _ _ _)))
+        let hf = one-part f n ps c _ (weight f ws) i (calls f n ps ws c w) in
+        node-calls _ _ _ i (λ g s x. zero-and _ _ (zero-and _ _ (hf _ _ _)))
     calls (rp_switch fs m t) n ps ws c w i =
         let d : Code × List ℕ = emit_all fs n ps c in
         let b : Code = emit t (suc n) ps d.0 in
         let us : List ℕ = weights fs ws in
         let most : ℕ = greatest (weight t ws ∷ us) in
-        let ib : Begins b D = before b _ i in
+        let ib : Begins b D = before D b _ i in
         let id : Begins d.0 D = begins-trans d.0 b D (adds t (suc n) ps d.0).0 ib in
         let lc : length c ≤ length d.0 = (adds_all fs n ps c).1 in
         let lb : length d.0 < length b = (adds t (suc n) ps d.0).1 in
-        let ht : (g : Given) → Below (counter_of val b (latest b) g) (weight t ws) =
-        at-most-earlier b (latest b) _ ib (latest_below t (suc n) ps d.0) (calls t (suc n) ps ws d.0 (weighs-more (length c) (length d.0) ps ws lc w) ib) in
+        let ht = one-part t (suc n) ps d.0 _ (weight t ws) i (calls t (suc n) ps ws d.0 (weighs-more (length c) (length d.0) ps ws lc w)) in
         let hf : (g : Given) → AllWithin (map (λ j. counter_of val b j g) d.1) us =
         λ g. counters-earlier b d.1 us g ib (below-more (length d.0) (length b) d.1 (omega arith) (all_below fs n ps c)) (all_calls fs n ps ws c w id) in
         let chosen_now : Given → Store → Timed → List Turn =

@@ -11,11 +11,11 @@ use Rattle.net_machine.specs.Stepper.{Stepper, Frozen, freeze, seq_step, first_s
 use Rattle.net_machine.specs.Machine.{Scope, push_param, push_olds, machine, machines}
 use Rattle.net_code.specs.declared.freezable.Freezable.{Freezable}
 use Rattle.net_code.specs.Running.{Body, Code, Kept, kept_at, split, Given, Linked, given_value, given_kept, given_first, body_step, latest}
-use Rattle.net_code.specs.Bodies.{seq_body, par_body}
+use Rattle.net_code.specs.Bodies.{par_body}
 use Rattle.net_code.specs.CodeOf.{freezable, and_body, body_of_old, emit, emit_all}
 use Rattle.net_code.proofs.BodyLaws.{steps_of, arr_done, seq_done, first_done, par_done, loop_done, cell_done, accum_done, time_done, integral_done, switch_done, r_switch_done, k_switch_done, p_switch_done, old_done, same_done, out_done, in_done, collection_done}
 use Rattle.net_code.proofs.Links.{Begins, function_of, same_function, next_function}
-use Rattle.net_code.proofs.Emitted.{begins-trans, begins-body, adds, adds_all, AllBelow, below-more, latest_below, all_below, latest_body}
+use Rattle.net_code.proofs.Emitted.{begins-trans, before, adds, adds_all, AllBelow, below-more, latest_below, all_below, latest_body}
 
 -- what may be frozen is among q functions, and within n parameters and m frozen networks
 pub data Fits (q n m : ℕ) : List Freezable → Type 0 where
@@ -179,13 +179,33 @@ module _ (val : Expr → List Datum → Datum → Datum) (D : Code) where
       ∙ ap (λ (o : Kept). resume_step (F p.function (given_first g p.params p.olds)) o.0 o.1) (sym h)
   old-is d (p ∷ ps) g (o ∷ gs) (suc k) i b (and_freezable q l m f) e h = old-is d ps g gs k i b f (omega arith) h
 
-  -- what stands before a node's last function
-  before : (d : Code) (b : Body) → Begins (and_body d b) D → Begins d D
-  before d b i = begins-trans d (and_body d b) D (begins-body d b) i
-
   -- a step by a value, over functions that are there
   abbrev by_value : (ℕ → Linked) → ℕ → Given → Datum → Stepper
   by_value H k g c = H k (given_value g c)
+
+  -- the part of a node, whose function is the last one before it
+  one-part : (f : Network Expr) (n : ℕ) (ps : List Freezable) (c : Code) (g : Given) (b : Body) (m : Stepper) → Begins (and_body (emit f n ps c) b) D
+      → (Begins (emit f n ps c) D → F (latest (emit f n ps c)) g ≡ m)
+      → function_of val (emit f n ps c) (latest (emit f n ps c)) g ≡ m
+  one-part f n ps c g b m i h =
+      let id : Begins (emit f n ps c) D = before D (emit f n ps c) b i in
+      ap (λ (h : Linked). h g) (earlier (emit f n ps c) (latest (emit f n ps c)) id (latest_below f n ps c)) ∙ h id
+
+  -- two parts of a node, the code of the second behind that of the first: the first, and what the second sees
+  two-parts : (f t : Network Expr) (n m : ℕ) (ps : List Freezable) (c : Code) (g : Given) (s : Body) (h : Stepper)
+      → Sees (length c) n ps g → Begins (and_body (emit t m ps (emit f n ps c)) s) D
+      → (Begins (emit f n ps c) D → F (latest (emit f n ps c)) g ≡ h)
+      → (function_of val (emit t m ps (emit f n ps c)) (latest (emit f n ps c)) g ≡ h) × Sees (length (emit f n ps c)) n ps g
+  two-parts f t n m ps c g s h w i hf =
+      let d : Code = emit f n ps c in
+      let b : Code = emit t m ps d in
+      let ib : Begins b D = before D b s i in
+      let lc : length c < length d = (adds f n ps c).1 in
+      let lb : length d < length b = (adds t m ps d).1 in
+      let ld : latest d < length d = latest_below f n ps c in (
+        ap (λ (h : Linked). h g) (earlier b (latest d) ib (omega arith)) ∙ hf (begins-trans d b D (adds t m ps d).0 ib),
+        sees-more (length c) (length d) n ps g (omega arith) w,
+      )
 
   mutual
     pub code_is : (net : Network Expr) (n : ℕ) (ps : List Freezable) (c : Code) (g : Given) → Sees (length c) n ps g → Begins (emit net n ps c) D
@@ -194,32 +214,21 @@ module _ (val : Expr → List Datum → Datum → Datum) (D : Code) where
     code_is (seq f h) n ps c g w i =
         let d : Code = emit f n ps c in
         let b : Code = emit h n ps d in
-        let body : Body = seq_body (latest d) (latest b) in
-        let ib : Begins b D = before b body i in
-        let id : Begins d D = begins-trans d b D (adds h n ps d).0 ib in
-        let lc : length c < length d = (adds f n ps c).1 in
-        let lb : length d < length b = (adds h n ps d).1 in
-        let ld : latest d < length d = latest_below f n ps c in
-        node b body g i ∙ seq_done val (function_of val b) g (latest d) (latest b)
-        ∙ ap₂ seq_step
-        (ap (λ (h : Linked). h g) (earlier b (latest d) ib (omega arith)) ∙ code_is f n ps c g w id)
-        (ap (λ (h : Linked). h g) (earlier b (latest b) ib (latest_below h n ps d))
-        ∙ code_is h n ps d g (sees-more (length c) (length d) n ps g (omega arith) w) ib)
+        let hs = two-parts f h n n ps c g _ (machine val f (scope_by ps g)) w i (code_is f n ps c g w) in
+        node b _ g i ∙ seq_done val (function_of val b) g (latest d) (latest b)
+        ∙ ap₂ seq_step hs.0 (one-part h n ps d g _ _ i (code_is h n ps d g hs.1))
     code_is (first f) n ps c g w i =
         let d : Code = emit f n ps c in
-        let id : Begins d D = before d _ i in
-        node d _ g i ∙ first_done val (function_of val d) g (latest d)
-        ∙ ap (first_step) (ap (λ (h : Linked). h g) (earlier d (latest d) id (latest_below f n ps c)) ∙ code_is f n ps c g w id)
+        node d _ g i ∙ first_done val (function_of val d) g (latest d) ∙ ap first_step (one-part f n ps c g _ _ i (code_is f n ps c g w))
     code_is (par fs) n ps c g w i =
         let r : Code × List ℕ = emit_all fs n ps c in
-        let ir : Begins r.0 D = before r.0 (par_body r.1) i in
+        let ir : Begins r.0 D = before D r.0 (par_body r.1) i in
         node r.0 (par_body r.1) g i ∙ par_done val (function_of val r.0) g r.1
         ∙ ap par_step (all-earlier r.0 r.1 g ir (all_below fs n ps c) ∙ codes_are fs n ps c g w ir)
     code_is (loop_pre e f) n ps c g w i =
         let d : Code = emit f n ps c in
-        let id : Begins d D = before d _ i in
         node d _ g i ∙ loop_done val (function_of val d) g e (latest d)
-        ∙ ap (loop_step (val e g.params unit)) (ap (λ (h : Linked). h g) (earlier d (latest d) id (latest_below f n ps c)) ∙ code_is f n ps c g w id)
+        ∙ ap (loop_step (val e g.params unit)) (one-part f n ps c g _ _ i (code_is f n ps c g w))
     code_is (i_pre e) n ps c g w i = node c _ g i ∙ cell_done val (function_of val c) g Form.IPre e
     code_is (delay q e) n ps c g w i = node c _ g i ∙ cell_done val (function_of val c) g (Form.Delay q) e
     code_is (hold e) n ps c g w i = node c _ g i ∙ cell_done val (function_of val c) g Form.Hold e
@@ -231,34 +240,18 @@ module _ (val : Expr → List Datum → Datum → Datum) (D : Code) where
     code_is (switch tm f t) n ps c g w i =
         let d : Code = emit f n ps c in
         let b : Code = emit t (suc n) ps d in
-        let ib : Begins b D = before b _ i in
-        let id : Begins d D = begins-trans d b D (adds t (suc n) ps d).0 ib in
-        let lc : length c < length d = (adds f n ps c).1 in
-        let lb : length d < length b = (adds t (suc n) ps d).1 in
-        let ld : latest d < length d = latest_below f n ps c in
-        let wd : Sees (length d) n ps g = sees-more (length c) (length d) n ps g (omega arith) w in
+        let hs = two-parts f t n (suc n) ps c g _ (machine val f (scope_by ps g)) w i (code_is f n ps c g w) in
         node b _ g i ∙ switch_done val (function_of val b) g tm (latest d) (latest b)
-        ∙ ap₂ (switch_step tm)
-        (ap (λ (h : Linked). h g) (earlier b (latest d) ib (omega arith)) ∙ code_is f n ps c g w id)
-        (fun_ext (λ v.
-        ap (λ (h : Linked). h (given_value g v)) (earlier b (latest b) ib (latest_below t (suc n) ps d))
-        ∙ code_is t (suc n) ps d (given_value g v) (sees-value (length d) n ps g v wd) ib
+        ∙ ap₂ (switch_step tm) hs.0 (fun_ext (λ v.
+        one-part t (suc n) ps d (given_value g v) _ _ i (code_is t (suc n) ps d (given_value g v) (sees-value (length d) n ps g v hs.1))
         ∙ ap (machine val t) (scope-value (length c) n ps g v w)))
     code_is (r_switch tm f t) n ps c g w i =
         let d : Code = emit f n ps c in
         let b : Code = emit t (suc n) ps d in
-        let ib : Begins b D = before b _ i in
-        let id : Begins d D = begins-trans d b D (adds t (suc n) ps d).0 ib in
-        let lc : length c < length d = (adds f n ps c).1 in
-        let lb : length d < length b = (adds t (suc n) ps d).1 in
-        let ld : latest d < length d = latest_below f n ps c in
-        let wd : Sees (length d) n ps g = sees-more (length c) (length d) n ps g (omega arith) w in
+        let hs = two-parts f t n (suc n) ps c g _ (machine val f (scope_by ps g)) w i (code_is f n ps c g w) in
         node b _ g i ∙ r_switch_done val (function_of val b) g tm (latest d) (latest b)
-        ∙ ap₂ (r_switch_step tm)
-        (ap (λ (h : Linked). h g) (earlier b (latest d) ib (omega arith)) ∙ code_is f n ps c g w id)
-        (fun_ext (λ v.
-        ap (λ (h : Linked). h (given_value g v)) (earlier b (latest b) ib (latest_below t (suc n) ps d))
-        ∙ code_is t (suc n) ps d (given_value g v) (sees-value (length d) n ps g v wd) ib
+        ∙ ap₂ (r_switch_step tm) hs.0 (fun_ext (λ v.
+        one-part t (suc n) ps d (given_value g v) _ _ i (code_is t (suc n) ps d (given_value g v) (sees-value (length d) n ps g v hs.1))
         ∙ ap (machine val t) (scope-value (length c) n ps g v w)))
     code_is (k_switch f e t) n ps c g w i =
         let d : Code = emit f n ps c in
@@ -267,7 +260,7 @@ module _ (val : Expr → List Datum → Datum → Datum) (D : Code) where
         let qs : List Freezable = ps ++ freezables n (length ps) js in
         let b : Code = emit t (suc n) qs k in
         let s : Scope = scope_by ps g in
-        let ib : Begins b D = before b _ i in
+        let ib : Begins b D = before D b _ i in
         let ik : Begins k D = begins-trans k b D (adds t (suc n) qs k).0 ib in
         let id : Begins d D = begins-trans d k D (adds e n ps d).0 ik in
         let lc : length c < length d = (adds f n ps c).1 in
@@ -301,7 +294,7 @@ module _ (val : Expr → List Datum → Datum → Datum) (D : Code) where
         let qs : List Freezable = ps ++ freezables n (length ps) js in
         let b : Code = emit t (suc n) qs k in
         let s : Scope = scope_by ps g in
-        let ib : Begins b D = before b _ i in
+        let ib : Begins b D = before D b _ i in
         let ik : Begins k D = begins-trans k b D (adds t (suc n) qs k).0 ib in
         let id : Begins d.0 D = begins-trans d.0 k D (adds e n ps d.0).0 ik in
         let lc : length c ≤ length d.0 = (adds_all fs n ps c).1 in
@@ -330,21 +323,19 @@ module _ (val : Expr → List Datum → Datum → Datum) (D : Code) where
         (ap (λ (h : Linked). h g) (earlier b (latest k) ib (omega arith)) ∙ code_is e n ps d.0 g wd ik)
         ∙ ap (λ (h : Datum → Store → Moment → Stepper). freezing_step (par_step (routed (val r g.params) 0 (machines val fs s))) (machine val e s) h) over_all
     code_is (old k) n ps c g w i =
-        node c _ g i ∙ old-is c ps g g.olds k k (before c _ i) w.fits w.all_olds refl
+        node c _ g i ∙ old-is c ps g g.olds k k (before D c _ i) w.fits w.all_olds refl
     code_is (initial_out e f) n ps c g w i =
         let d : Code = emit f n ps c in
-        let id : Begins d D = before d _ i in
         node d _ g i ∙ out_done val (function_of val d) g e (latest d)
-        ∙ ap (initial_out_step (val e g.params unit)) (ap (λ (h : Linked). h g) (earlier d (latest d) id (latest_below f n ps c)) ∙ code_is f n ps c g w id)
+        ∙ ap (initial_out_step (val e g.params unit)) (one-part f n ps c g _ _ i (code_is f n ps c g w))
     code_is (initial_in e f) n ps c g w i =
         let d : Code = emit f n ps c in
-        let id : Begins d D = before d _ i in
         node d _ g i ∙ in_done val (function_of val d) g e (latest d)
-        ∙ ap (initial_in_step (val e g.params unit)) (ap (λ (h : Linked). h g) (earlier d (latest d) id (latest_below f n ps c)) ∙ code_is f n ps c g w id)
+        ∙ ap (initial_in_step (val e g.params unit)) (one-part f n ps c g _ _ i (code_is f n ps c g w))
     code_is (rp_switch fs m t) n ps c g w i =
         let d : Code × List ℕ = emit_all fs n ps c in
         let b : Code = emit t (suc n) ps d.0 in
-        let ib : Begins b D = before b _ i in
+        let ib : Begins b D = before D b _ i in
         let id : Begins d.0 D = begins-trans d.0 b D (adds t (suc n) ps d.0).0 ib in
         let lc : length c ≤ length d.0 = (adds_all fs n ps c).1 in
         let lb : length d.0 < length b = (adds t (suc n) ps d.0).1 in
@@ -353,8 +344,7 @@ module _ (val : Expr → List Datum → Datum → Datum) (D : Code) where
         ∙ ap₂ (rp_switch_step (val m g.params))
         (all-earlier b d.1 g ib (below-more (length d.0) (length b) d.1 (omega arith) (all_below fs n ps c)) ∙ codes_are fs n ps c g w id)
         (fun_ext (λ v.
-        ap (λ (h : Linked). h (given_value g v)) (earlier b (latest b) ib (latest_below t (suc n) ps d.0))
-        ∙ code_is t (suc n) ps d.0 (given_value g v) (sees-value (length d.0) n ps g v wd) ib
+        one-part t (suc n) ps d.0 (given_value g v) _ _ i (code_is t (suc n) ps d.0 (given_value g v) (sees-value (length d.0) n ps g v wd))
         ∙ ap (machine val t) (scope-value (length c) n ps g v w)))
 
     pub codes_are : (fs : Networks Expr) (n : ℕ) (ps : List Freezable) (c : Code) (g : Given) → Sees (length c) n ps g → Begins (emit_all fs n ps c).0 D

@@ -13,6 +13,10 @@ begins-trans c d e i j = (i.0 ++ j.0, j.1 ∙ ap (λ ds. ds ++ j.0) i.1 ∙ appe
 pub begins-body : (c : Code) (b : Body) → Begins c (and_body c b)
 begins-body c b = (b ∷ [], refl)
 
+-- what stands before a node's last function
+pub before : (D d : Code) (b : Body) → Begins (and_body d b) D → Begins d D
+before D d b i = begins-trans d (and_body d b) D (begins-body d b) i
+
 -- longer code, which begins with the other
 abbrev pub Adds : Code → Code → Type 0
 Adds c d = Begins c d × (length c < length d)
