@@ -1,5 +1,5 @@
 -- Answers that are parts of the network.
-use Rattle.std.proofs.Common.{◌≡◌, ℕ, zero, suc, ◌<◌, ◌≤◌, Bool, true, false, cond, nat_le, List, [], ◌∷◌, length, get_or, Option, Some, None, option_map, Result, Ok, Err, IfOk, refl, sym, ap, ◌∙◌, arith}
+use Rattle.std.proofs.Common.{◌≡◌, ℕ, ◌<◌, ◌≤◌, Bool, true, false, cond, nat_le, List, length, get_or, Option, Some, None, option_map, Result, Ok, Err, IfOk, refl, sym, ap, ◌∙◌, arith}
 use Rattle.std.proofs.lemmas.Bool.{le-leb}
 use Rattle.leaf_core.specs.Expression.{Expression}
 use Rattle.leaf_core.specs.declared.expr.Expr.{Expr}
@@ -8,6 +8,7 @@ use Rattle.net_tree.specs.NetworkView.{network_of, members_of, tree_of, tree, tr
 use Rattle.net_tree.specs.declared.net.Net.{Net}
 use Rattle.net_tree.specs.declared.net.Net.TheVariants as V
 use Rattle.net_meaning.specs.Typing.{members}
+use Rattle.net_meaning.proofs.NetMembers.{members-trees, member-there, member-missing}
 use Rattle.net_tree.specs.Place.{member}
 use Rattle.law_rules.specs.Forward.{law20, law38, member_by}
 
@@ -24,20 +25,6 @@ pub frozen_again : (net f t : Net Expr) (f' e' t' : Network Expr) (olds : ℕ) (
 frozen_again net f t f' e' t' olds b p q r k h =
     ap (λ w. Some (tree w)) q ∙ ap (λ x. cond x (Some (tree f')) None) (sym k) ∙ h
     ∙ ap (λ w. law38 olds (k_switch (tree f') (tree e') (tree w))) r ∙ ap (λ n. law38 olds (tree_of n)) (sym p)
-
-members-trees : (all : List (Net Expr)) → members (trees (members_of all)) ≡ length all
-members-trees [] = refl
-members-trees (f ∷ fs) = ap suc (members-trees fs)
-
-member-there : (all : List (Net Expr)) (i : ℕ) (f : Net Expr) → i < length all → member (trees (members_of all)) i ≡ Some (tree_of (get_or all i f))
-member-there [] i f h = absurd (omega arith)
-member-there (g ∷ fs) zero f h = refl
-member-there (g ∷ fs) (suc i) f h = member-there fs i f (omega arith)
-
-member-missing : (all : List (Net Expr)) (i : ℕ) → length all ≤ i → member (trees (members_of all)) i ≡ None
-member-missing [] i h = refl
-member-missing (g ∷ fs) zero h = absurd (omega arith)
-member-missing (g ∷ fs) (suc i) h = member-missing fs i (omega arith)
 
 few : (n : ℕ) → n ≤ 64 → nat_le n 64 ≡ true
 few n h = le-leb n 64 h

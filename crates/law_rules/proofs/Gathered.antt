@@ -9,6 +9,7 @@ use Rattle.net_tree.specs.Network.{Network, Networks, arr, seq, par, networks_of
 use Rattle.net_tree.specs.NetworkView.{members_of, tree_of, trees}
 use Rattle.net_tree.specs.declared.net.Net.{Net}
 use Rattle.net_meaning.specs.Typing.{members}
+use Rattle.net_meaning.proofs.NetMembers.{members-trees}
 use Rattle.law_rules.specs.NetworkLaw.{each_after, each_arr, count, route_to, behind_routes}
 use Rattle.law_rules.specs.Forward.{one_to_64, law41, law42, routed_apart, routed_each, kept_apart}
 
@@ -19,14 +20,10 @@ trees-of (f ∷ fs) = ap (and_member (tree_of f)) (trees-of fs)
 pub gathered-members : (fs : Networks Expr) (all : List (Net Expr)) → fs ≡ members_of all → Some (par (trees fs)) ≡ Some (par (networks_of (map tree_of all)))
 gathered-members fs all e = ap (λ gs. Some (par (trees gs))) e ∙ ap (λ gs. Some (par gs)) (trees-of all)
 
-members-of : (fs : List (Net Expr)) → members (trees (members_of fs)) ≡ length fs
-members-of [] = refl
-members-of (f ∷ fs) = ap suc (members-of fs)
-
 -- where there are too few or too many
 pub not_gathered : (h : Network Expression) (fs : Networks Expr) (all : List (Net Expr)) → members_of all ≡ fs → false ≡ one_to_64 (length all) → None ≡ law41 (seq h (par (trees fs)))
 not_gathered h fs all e b =
-    ap (λ x. cond x (Some (par (each_after h (trees (members_of all))))) None) (b ∙ ap one_to_64 (sym (members-of all))) ∙ ap (λ gs. law41 (seq h (par (trees gs)))) e
+    ap (λ x. cond x (Some (par (each_after h (trees (members_of all))))) None) (b ∙ ap one_to_64 (sym (members-trees all))) ∙ ap (λ gs. law41 (seq h (par (trees gs)))) e
 
 after-each : (h : Network Expression) (fs : List (Net Expr)) → networks_of (map (λ f. seq h (tree_of f)) fs) ≡ each_after h (trees (members_of fs))
 after-each h [] = refl
@@ -36,7 +33,7 @@ pub gathered-behind : (h : Network Expression) (fs : Networks Expr) (all : List 
     → Some (par (networks_of done)) ≡ law41 (seq h (par (trees fs)))
 gathered-behind h fs all done e b d =
     ap (λ gs. Some (par (networks_of gs))) d ∙ ap (λ gs. Some (par gs)) (after-each h all)
-    ∙ ap (λ x. cond x (Some (par (each_after h (trees (members_of all))))) None) (b ∙ ap one_to_64 (sym (members-of all))) ∙ ap (λ gs. law41 (seq h (par (trees gs)))) e
+    ∙ ap (λ x. cond x (Some (par (each_after h (trees (members_of all))))) None) (b ∙ ap one_to_64 (sym (members-trees all))) ∙ ap (λ gs. law41 (seq h (par (trees gs)))) e
 
 count-of : (es : List Expression) → count (expressions_of es) ≡ length es
 count-of [] = refl
@@ -63,7 +60,7 @@ gathered-apart T es all done e b d =
 
 pub not_routed : (r : Expression) (fs : Networks Expr) (all : List (Net Expr)) → members_of all ≡ fs → false ≡ one_to_64 (length all) → None ≡ routed_apart r (trees fs)
 not_routed r fs all e b =
-    ap (λ x. cond x (Some (par (behind_routes r 0 (trees (members_of all))))) None) (b ∙ ap one_to_64 (sym (members-of all))) ∙ ap (λ gs. routed_apart r (trees gs)) e
+    ap (λ x. cond x (Some (par (behind_routes r 0 (trees (members_of all))))) None) (b ∙ ap one_to_64 (sym (members-trees all))) ∙ ap (λ gs. routed_apart r (trees gs)) e
 
 route-each : (r : Expression) (i : ℕ) (fs : List (Net Expr)) → networks_of (routed_each r i (map tree_of fs)) ≡ behind_routes r i (trees (members_of fs))
 route-each r i [] = refl
@@ -73,13 +70,13 @@ pub gathered-routed : (r s : Expression) (fs : Networks Expr) (all : List (Net E
     → Some (par (networks_of done)) ≡ routed_apart r (trees fs)
 gathered-routed r s fs all done e b q d =
     ap (λ gs. Some (par (networks_of gs))) d ∙ ap (λ t. Some (par (networks_of (routed_each t 0 (map tree_of all))))) q ∙ ap (λ gs. Some (par gs)) (route-each r 0 all)
-    ∙ ap (λ x. cond x (Some (par (behind_routes r 0 (trees (members_of all))))) None) (b ∙ ap one_to_64 (sym (members-of all))) ∙ ap (λ gs. routed_apart r (trees gs)) e
+    ∙ ap (λ x. cond x (Some (par (behind_routes r 0 (trees (members_of all))))) None) (b ∙ ap one_to_64 (sym (members-trees all))) ∙ ap (λ gs. routed_apart r (trees gs)) e
 
 pub not_kept : (e : Expression) (fs : Networks Expr) (all : List (Net Expr)) → members_of all ≡ fs → false ≡ one_to_64 (length all) → None ≡ kept_apart (trees fs) (Some e)
 not_kept e fs all q b =
-    ap (λ x. cond x (Some (seq (arr e) (par (trees (members_of all))))) None) (b ∙ ap one_to_64 (sym (members-of all))) ∙ ap (λ gs. kept_apart (trees gs) (Some e)) q
+    ap (λ x. cond x (Some (seq (arr e) (par (trees (members_of all))))) None) (b ∙ ap one_to_64 (sym (members-trees all))) ∙ ap (λ gs. kept_apart (trees gs) (Some e)) q
 
 pub gathered-kept : (e : Expression) (fs : Networks Expr) (all : List (Net Expr)) → members_of all ≡ fs → true ≡ one_to_64 (length all) → Some (seq (arr e) (par (trees fs))) ≡ kept_apart (trees fs) (Some e)
 gathered-kept e fs all q b =
     ap (λ gs. Some (seq (arr e) (par (trees gs)))) (sym q)
-    ∙ ap (λ x. cond x (Some (seq (arr e) (par (trees (members_of all))))) None) (b ∙ ap one_to_64 (sym (members-of all))) ∙ ap (λ gs. kept_apart (trees gs) (Some e)) q
+    ∙ ap (λ x. cond x (Some (seq (arr e) (par (trees (members_of all))))) None) (b ∙ ap one_to_64 (sym (members-trees all))) ∙ ap (λ gs. kept_apart (trees gs) (Some e)) q

@@ -162,7 +162,7 @@ module _ (c d : Datum) (f : SignalFunction) (sf : IsSignalFunction f) where
       ∙ ap (λ zs. map left (map left (f (pair_samples ws (feedback_values d f zs n))))) all
       ∙ ap (λ k. map left (map left (f (pair_samples ws (feedback_values d f ws k))))) (sym lw))
 
--- L47
+-- of ((a, b), c): ((a, c), b)
 abbrev pub crossed : Datum → Datum
 crossed v = pair (pair (left (left v)) (right v)) (right (left v))
 
@@ -176,16 +176,17 @@ rights-crossed [] vs e = refl
 rights-crossed (x ∷ xs) [] e = absurd (omega arith)
 rights-crossed (x ∷ xs) (v ∷ vs) e = let e' : length vs ≡ length xs = omega arith in ap (λ ys. right x.1 ∷ ys) (rights-crossed xs vs e')
 
-lefts-crossed_pairs : (us ws : List Datum) → map left (map crossed (pairs us ws)) ≡ pairs (map left us) ws
+pub lefts-crossed_pairs : (us ws : List Datum) → map left (map crossed (pairs us ws)) ≡ pairs (map left us) ws
 lefts-crossed_pairs [] ws = refl
 lefts-crossed_pairs (u ∷ us) [] = refl
 lefts-crossed_pairs (u ∷ us) (w ∷ ws) = ap (λ ys. pair (left u) w ∷ ys) (lefts-crossed_pairs us ws)
 
-rights-crossed_pairs : (us ws : List Datum) → length us ≡ length ws → map right (map crossed (pairs us ws)) ≡ map right us
+pub rights-crossed_pairs : (us ws : List Datum) → length us ≡ length ws → map right (map crossed (pairs us ws)) ≡ map right us
 rights-crossed_pairs [] ws e = refl
 rights-crossed_pairs (u ∷ us) [] e = absurd (omega arith)
 rights-crossed_pairs (u ∷ us) (w ∷ ws) e = let e' : length us ≡ length ws = omega arith in ap (λ ys. right u ∷ ys) (rights-crossed_pairs us ws e')
 
+-- L47
 module _ (c : Datum) (f : SignalFunction) (sf : IsSignalFunction f) where
   -- f with the right part carried round it
   abbrev carried : SignalFunction

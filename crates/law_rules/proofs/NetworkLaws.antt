@@ -1,5 +1,5 @@
 -- Each law's two sides have one meaning: most in every context, the rest where both are typed.
-use Rattle.std.proofs.Common.{Some, [], ap, ap₂, pos, refl, suc, sym, length, ℕ, ◌∙◌, ◌∷◌, ◌≡◌, ◌≤◌, subst}
+use Rattle.std.proofs.Common.{Some, [], ap, ap₂, pos, refl, suc, sym, ℕ, ◌∙◌, ◌∷◌, ◌≡◌, ◌≤◌, subst}
 use Rattle.law_rules.specs.NetworkLaw.{SeesSteps, accumulated_next, after_sees, assoc, behind_routes, each_after, each_arr, event_by, held_next, left_by, repeatedly_sees, right_by, swap, cross, time_sees, unassoc}
 use Rattle.leaf_core.specs.Expression.{Expression, Expressions, event_expr, fst, input, int_expr, list_expr, no_event_expr, nth, pair_expr, then_expr, unit_expr}
 use Rattle.leaf_core.specs.ExpressionValue.{value_of}
@@ -19,12 +19,13 @@ use Rattle.law_rules.proofs.SomeLaws.{seq_function_assoc, sequence-feedback}
 use Rattle.law_rules.proofs.SwitchLaws.{choosing-quiet, on_left-switching, pointwise-before, restarting-quiet, switching-quiet, switching_all-quiet, switching_on-quiet}
 use Rattle.net_meaning.proofs.Meanings.{IsSignal-meaning}
 use Rattle.net_meaning.proofs.Plain.{AllSignals, IsSignal-on_left}
+use Rattle.net_meaning.proofs.SameForms.{count_meanings}
 
 -- one meaning in every context
 abbrev pub AlikeNets : Network Expression → Network Expression → Type 0
 AlikeNets f g = (E : Context) → AllSignals E.olds → (xs : TimedList) → meaning value_of f E xs ≡ meaning value_of g E xs
 
-signal : (f : Network Expression) (E : Context) → AllSignals E.olds → IsSignalFunction (meaning value_of f E)
+pub signal : (f : Network Expression) (E : Context) → AllSignals E.olds → IsSignalFunction (meaning value_of f E)
 signal f E s = IsSignal-meaning value_of f E s
 
 -- equal functions at an argument
@@ -152,14 +153,10 @@ pub law_44 : (c f : Expression) → AlikeNets (initial_in c (arr f)) (initial_ou
 law_44 c f E s [] = refl
 law_44 c f E s (x ∷ xs) = refl
 
-length-meanings : (fs : Networks Expression) (E : Context) → length (meanings value_of fs E) ≡ members fs
-length-meanings no_members E = refl
-length-meanings (and_member f fs) E = ap suc (length-meanings fs E)
-
 pub law_46 : (C : TypeTree) (e m : Expression) (fs : Networks Expression) (t : Network Expression) → members fs ≤ 64
     → AlikeNets (seq (arr (pair_expr e (no_event_expr C))) (rp_switch fs m t)) (seq (arr e) (par fs))
 law_46 C e m fs t few E s xs =
-    at xs (choosing-quiet (value_of e E.params) (value_of m E.params) (meanings value_of fs E) (into t E) (subst (λ n. n ≤ 64) (sym (length-meanings fs E)) few))
+    at xs (choosing-quiet (value_of e E.params) (value_of m E.params) (meanings value_of fs E) (into t E) (subst (λ n. n ≤ 64) (sym (count_meanings fs E)) few))
 
 pub law_47 : (c : Expression) (f : Network Expression) → AlikeNets (first (loop_pre c f)) (loop_pre c (seq (arr cross) (seq (first f) (arr cross))))
 law_47 c f E s xs = LoopLaws.on_left-feedback (value_of c E.params unit) (meaning value_of f E) (signal f E s) xs

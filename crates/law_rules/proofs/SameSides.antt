@@ -25,7 +25,7 @@ use Rattle.law_rules.proofs.Scopes.{value-stays}
 use Rattle.law_rules.proofs.SomeLaws.{switching_on-old}
 use Rattle.law_rules.proofs.CellLaws.{previous_of-pair}
 use Rattle.law_rules.proofs.SwitchLaws.{pointwise, sequence-switching, switching-pointwise, restarting-pointwise}
-use Rattle.law_rules.proofs.NetworkLaws.{AlikeNets, at, into, law_1, law_2, law_3, law_4, law_5, law_6, law_7, law_8, law_9, law_10, law_11, law_13, law_14, law_15, law_16, law_17, law_18, law_19, law_20, law_21, law_22, law_23, law_24, law_25, law_26, laws_31_32, laws_33_34, law_35, law_37, law_39, law_40, law_41, law_42, law_43, law_44, law_46, law_47, law_48, law_49, law_50, law_51}
+use Rattle.law_rules.proofs.NetworkLaws.{AlikeNets, at, into, law_1, law_2, law_3, law_4, law_5, law_6, law_7, law_8, law_9, law_10, law_11, law_13, law_14, law_15, law_16, law_17, law_18, law_19, law_20, law_21, law_22, law_23, law_24, law_25, law_26, laws_31_32, laws_33_34, law_35, law_37, law_39, law_40, law_41, law_42, law_43, law_44, law_46, law_47, law_48, law_49, law_50, law_51, signal}
 
 -- the two networks mean the same in each scope that these types describe
 abbrev SameIn : List TypeTree → List Arrow → TypeTree → Network Expression → Network Expression → Type 0
@@ -42,9 +42,6 @@ Steady h E = (c : Datum) → value_of h (E.params ++ c ∷ []) ≡ value_of h E.
 
 steady : (h : Expression) (Ps : List TypeTree) (A B : TypeTree) → ExpressionTyped h Ps A B → (ps : List Datum) (os : List SignalFunction) → TypedParams Ps ps → Steady h (context ps os)
 steady h Ps A B d ps os k = λ c. value-stays ps (c ∷ []) h Ps A B d k
-
-signal : (f : Network Expression) (E : Context) → AllSignals E.olds → IsSignalFunction (meaning value_of f E)
-signal f E s = IsSignal-meaning value_of f E s
 
 continues : (t : Network Expression) (E : Context) → AllSignals E.olds → (c : Datum) → IsSignalFunction (into t E c)
 continues t E s c = IsSignal-meaning value_of t (with_param E c) s

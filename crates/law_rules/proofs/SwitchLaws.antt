@@ -12,23 +12,15 @@ use Rattle.net_meaning.proofs.Restarting.{IsSignal-restarting}
 use Rattle.net_meaning.proofs.RelatedMembers.{rows_of}
 use Rattle.net_meaning.proofs.Switched.{switch_at-none}
 use Rattle.net_meaning.proofs.Switches.{IsSignal-switching}
+use Rattle.law_rules.proofs.ArrowLaws.{map-same, values-with_values, with_values-applied}
+use Rattle.law_rules.proofs.LoopLaws.{crossed, lefts-crossed_pairs, rights-crossed_pairs}
 
 -- `arr`
 abbrev pub pointwise : (Datum → Datum) → SignalFunction
 pointwise h xs = map h (values xs)
 
-with_values-map : (h : Datum → Datum) (xs : TimedList) → with_values xs (map h (values xs)) ≡ each_value h xs
-with_values-map h [] = refl
-with_values-map h (x ∷ xs) = ap (λ ys. (x.0, h x.1) ∷ ys) (with_values-map h xs)
-
-values-with_values : (xs : TimedList) (ys : List Datum) → length ys ≡ length xs → values (with_values xs ys) ≡ ys
-values-with_values [] [] e = refl
-values-with_values [] (y ∷ ys) e = absurd (omega arith)
-values-with_values (x ∷ xs) [] e = absurd (omega arith)
-values-with_values (x ∷ xs) (y ∷ ys) e = let e' : length ys ≡ length xs = omega arith in ap (λ vs. y ∷ vs) (values-with_values xs ys e')
-
 pub pointwise-before : (h : Datum → Datum) (f : SignalFunction) → seq_function (pointwise h) f ≡ (λ xs. f (each_value h xs))
-pointwise-before h f = fun_ext λ xs. ap f (with_values-map h xs)
+pointwise-before h f = fun_ext λ xs. ap f (with_values-applied h xs)
 
 pub pointwise-after : (h : Datum → Datum) (f : SignalFunction) → IsSignalFunction f → seq_function f (pointwise h) ≡ (λ xs. map h (f xs))
 pointwise-after h f sf = fun_ext λ xs. ap (map h) (values-with_values xs (f xs) (sf.sized xs))
@@ -95,10 +87,6 @@ pub no_events : {A : Type 0} (xs : List A) → first_event (map (λ x. no_event)
 no_events [] = refl
 no_events (x ∷ xs) = ap later (no_events xs)
 
-map-same : (vs : List Datum) → map (λ v. v) vs ≡ vs
-map-same [] = refl
-map-same (v ∷ vs) = ap (λ ws. v ∷ ws) (map-same vs)
-
 abbrev pub quiet : Datum → Datum
 quiet v = pair v no_event
 
@@ -116,20 +104,6 @@ module _ (tm : Timing) (f : SignalFunction) (t : Datum → SignalFunction) where
       ∙ (fun_ext λ xs.
       let ls : List Datum = map left (map quiet (f xs)) in
       ap (λ o. cut_at o ls (λ n c. take (until tm n) ls ++ drop (until tm 0) (t c (drop n xs)))) (rights-quiet xs) ∙ lefts-quiet xs)
-
--- of ((output, event), other): ((output, other), event)
-abbrev pub shuffle : Datum → Datum
-shuffle v = pair (pair (left (left v)) (right v)) (right (left v))
-
-rights-shuffled : (vs rs : List Datum) → length vs ≡ length rs → map right (map shuffle (pairs vs rs)) ≡ map right vs
-rights-shuffled [] rs e = refl
-rights-shuffled (v ∷ vs) [] e = absurd (omega arith)
-rights-shuffled (v ∷ vs) (r ∷ rs) e = let e' : length vs ≡ length rs = omega arith in ap (λ ws. right v ∷ ws) (rights-shuffled vs rs e')
-
-lefts-shuffled : (vs rs : List Datum) → map left (map shuffle (pairs vs rs)) ≡ pairs (map left vs) rs
-lefts-shuffled [] rs = refl
-lefts-shuffled (v ∷ vs) [] = refl
-lefts-shuffled (v ∷ vs) (r ∷ rs) = ap (λ ws. pair (left v) r ∷ ws) (lefts-shuffled vs rs)
 
 pairs-joined : (n : ℕ) (vs ws rs : List Datum) → length vs ≡ length rs → pairs (take n vs ++ ws) rs ≡ take n (pairs vs rs) ++ pairs ws (drop n rs)
 pairs-joined zero vs ws rs e = refl
@@ -168,7 +142,7 @@ module _ (tm : Timing) (f : SignalFunction) (t : Datum → SignalFunction) (sf :
   over-first : (n : ℕ) (c : Datum) (xs : TimedList) → pairs (t c (drop n (each_value left xs))) (drop n (map right (values xs))) ≡ first_function (t c) (drop n xs)
   over-first n c xs = ap₂ (λ ys rs. pairs (t c ys) rs) (drop-map (λ x. (x.0, left x.1)) n xs) (others-drop n xs)
 
-  first-switching : first_function (switch_function tm f t) ≡ switch_function tm (λ xs. map shuffle (first_function f xs)) (λ c. first_function (t c))
+  first-switching : first_function (switch_function tm f t) ≡ switch_function tm (λ xs. map crossed (first_function f xs)) (λ c. first_function (t c))
   first-switching = fun_ext λ xs.
       let ys : TimedList = each_value left xs in
       let rs : List Datum = map right (values xs) in
@@ -180,12 +154,12 @@ module _ (tm : Timing) (f : SignalFunction) (t : Datum → SignalFunction) (sf :
       ∙ ap (λ us. take (until tm n) (pairs (lefts f ys) rs) ++ us)
       (ap (pairs (drop o over)) (drop-until tm n rs) ∙ sym (drop-pairs tm over (drop n rs)) ∙ ap (drop o) (over-first n c xs)))
       ∙ sym (ap₂ (λ es ls. cut_at (first_event es) ls (λ n c. take (until tm n) ls ++ drop o (first_function (t c) (drop n xs))))
-      (rights-shuffled (f ys) rs (same-length xs)) (lefts-shuffled (f ys) rs))
+      (rights-crossed_pairs (f ys) rs (same-length xs)) (lefts-crossed_pairs (f ys) rs))
 
   -- L33, L34
-  pub on_left-switching : first_function (switch_function tm f t) ≡ switch_function tm (seq_function (first_function f) (pointwise shuffle)) (λ c. first_function (t c))
+  pub on_left-switching : first_function (switch_function tm f t) ≡ switch_function tm (seq_function (first_function f) (pointwise crossed)) (λ c. first_function (t c))
   on_left-switching = first-switching
-      ∙ ap (λ g. switch_function tm g (λ c. first_function (t c))) (sym (pointwise-after shuffle (first_function f) (IsSignal-on_left f sf)))
+      ∙ ap (λ g. switch_function tm g (λ c. first_function (t c))) (sym (pointwise-after crossed (first_function f) (IsSignal-on_left f sf)))
 
 -- L35
 pub pieces-quiet : (e : Datum → Datum) (xs : TimedList) → pieces (each_value (λ v. pair (e v) no_event) xs) ≡ (each_value e xs, [])

@@ -1,6 +1,5 @@
 -- What a law answers at a network.
 use Rattle.std.specs.Prelude.{◌≡◌, ℕ, List, length, Option, Some, None, MatchOption}
-use Rattle.std.proofs.Common.{Bor}
 use Rattle.sample_core.specs.TypeTree.{TypeTree}
 use Rattle.leaf_core.specs.Expression.{Expression}
 use Rattle.leaf_core.specs.ExpressionValue.{value_of}
@@ -26,11 +25,6 @@ pub data NetworkAnswer : Law → Direction → Network Expression → Option (Ne
       → NetworkAnswer (L.L n) Forward net None olds r
   backward_answer : {n olds : ℕ} {net g : Network Expression} → NetworkLaw n olds g net
       → NetworkAnswer (L.L n) Backward net (Some g) olds g
-
--- the network that is given, if one is
-abbrev pub given_net : Option (Bor (Net Expr)) → Option (Network Expression)
-given_net None = None
-given_net (Some net) = Some (tree_of net.now)
 
 -- an answer, or none if there is none
 abbrev pub IsNetworkAnswer : Law → Direction → Network Expression → Option (Network Expression) → ℕ

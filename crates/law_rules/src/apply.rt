@@ -3,7 +3,8 @@
 ghost use Rattle.std.specs.Prelude.{◌≡◌, IfOk, MatchOption};
 ghost use Rattle.net_tree.specs.NetworkView.{tree_of};
 ghost use Rattle.law_rules.specs.NetworkLaw.{NetworkLaw};
-ghost use Rattle.law_rules.specs.Answer.{IsNetworkAnswer, IsNetworkRightSide, given_net};
+ghost use Rattle.law_patterns.specs.NetMatching.{held_network};
+ghost use Rattle.law_rules.specs.Answer.{IsNetworkAnswer, IsNetworkRightSide};
 
 use crate::collections::{before_members, elements_apart, members_apart, unchanging};
 use crate::parts::{one_member, resumed, without_input};
@@ -27,7 +28,7 @@ pub fn apply_law(
     olds: u32,
 ) -> Result<Option<Net<Expr>>, Memory>
     ensures { IfOk result
-        (IsNetworkAnswer law direction (tree_of net.now) (given_net given.entry) olds) }
+        (IsNetworkAnswer law direction (tree_of net.now) (held_network given.entry) olds) }
 {
     let Law::L(number) = law else {
         return Ok(None);
