@@ -7,10 +7,11 @@ use Rattle.net_tree.specs.Network.{Timing, Network, Networks, arr, seq, first, p
 use Rattle.net_meaning.specs.Meaning.{Context, old_at, meaning, meanings}
 use Rattle.sample_core.specs.TypeTree.{TypeTree, unit_ty, int_ty, pair_ty, event_ty, list_ty}
 use Rattle.sample_core.specs.HasType.{HasType, unit_has, pair_has, no_event_has, event_has, TypedParams, no_params, and_param}
+use Rattle.leaf_core.proofs.Soundness.{typed_wrapped}
 use Rattle.net_meaning.specs.Typing.{TypedValues, no_value, and_value, TypedSamples, no_sample, and_sample, Arrow, OldAt, old_here, old_after, copies, members, LeafTyping, Typed, AllTyped, arr_typed, seq_typed, first_typed, par_typed, loop_typed, i_pre_typed, delay_typed, hold_typed, accum_typed, after_typed, repeatedly_typed, time_typed, integral_typed, switch_typed, r_switch_typed, k_switch_typed, p_switch_typed, old_typed, initial_out_typed, initial_in_typed, rp_switch_typed, no_members_typed, and_member_typed}
 use Rattle.net_meaning.proofs.Plain.{AllSignals, no_signal, and_signal}
 use Rattle.net_meaning.proofs.Meanings.{IsSignal-meaning}
-use Rattle.net_meaning.proofs.TypedLists.{TypedValues-map, typed_values, typed_last, typed_by_past, typed_previous_of, typed_latest_by, typed_latest_event, typed_fold_events, typed_if_event, typed_when, typed_wrapped, typed_integral_value}
+use Rattle.net_meaning.proofs.TypedLists.{TypedValues-map, typed_values, typed_last, typed_by_past, typed_previous_of, typed_latest_by, typed_latest_event, typed_fold_events, typed_if_event, typed_when, typed_integral_value}
 use Rattle.net_meaning.proofs.SameAt.{SameAt-one, SameAt-sequence, SameAt-on_left, SameAt-in_parallel, SameAt-feedback}
 use Rattle.net_meaning.proofs.SameSwitches.{SameAt-switching, SameAt-restarting, SameAt-switching_on, SameAt-switching_all, AllOlds-append}
 use Rattle.net_meaning.proofs.Openings.{SameAt-initial_out, SameAt-initial_in}
