@@ -7,7 +7,7 @@ use expr_improve::{
 use leaf_core::{Expr, ExprChild, same_expr};
 use net_improve::{
     Built, Move, NoMove, Sketch, SwitchMove, assoc, behind, identity, length, map_before_hold,
-    none_told, seq, unassoc,
+    none_told, seq, switch_law, unassoc,
 };
 use net_tree::{Net, NetChild};
 use sample_core::Memory;
@@ -59,7 +59,7 @@ impl ArrForm {
             ArrForm::FirstInput => first_output(w),
             ArrForm::SplitCell => w.forward(12, &[]),
             ArrForm::SplitFirst => split_first(w),
-            ArrForm::PassCell => pass_cell(w),
+            ArrForm::PassCell => w.pass_cell(&[]),
             ArrForm::PassHold => pass_hold(w),
             ArrForm::Nested => nested(w),
             ArrForm::Late => late(w),
@@ -87,22 +87,9 @@ fn split_first(w: &mut Sketch) -> Result<(), NoMove> {
 }
 
 fn switch_round(w: &mut Sketch) -> Result<Built, NoMove> {
-    let number = match w.first_at(&[])? {
-        Net::Switch(..) => 33,
-        Net::DSwitch(..) => 34,
-        _ => return Err(NoMove::Unfit),
-    };
+    let number = switch_law(w.first_at(&[])?, 33, 34)?;
     w.forward(number, &[])?;
     Ok(Built::Both)
-}
-
-fn pass_cell(w: &mut Sketch) -> Result<(), NoMove> {
-    let number = match w.net_at(&[0])? {
-        Net::IPre(_) => 11,
-        _ => 26,
-    };
-    w.forward(number, &[])?;
-    w.clear(&[1, 0])
 }
 
 fn pass_hold(w: &mut Sketch) -> Result<(), NoMove> {

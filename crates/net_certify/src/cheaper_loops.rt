@@ -5,8 +5,7 @@ use expr_improve::{Means, joined};
 use leaf_core::Expr;
 use net_compare::MOST_CHILDREN;
 use net_improve::{
-    Clearing, NoMove, Sketch, behind, copied, front, head, is_flat, length, net_cost, rest,
-    stage_way,
+    Clearing, NoMove, Sketch, behind, front, head, is_flat, length, net_cost, rest, stage_way,
 };
 use net_syntax::child;
 use net_tree::{LawStep, Net, TreeRef};
@@ -35,7 +34,7 @@ const MOST_CHAINS: u32 = 10_000;
 pub fn loops_made_one(means: &Means, net: &Net<Expr>) -> Result<Vec<Vec<LawStep>>, Memory> {
     let alloc = means.alloc;
     let mut joining = Joining {
-        sketch: Sketch::new(means, copied(alloc, net)?, 0, Clearing::ByCost)?,
+        sketch: Sketch::of(means, net, 0, Clearing::ByCost)?,
         todo: Vec::new(alloc),
         moves: Vec::new(alloc),
     };

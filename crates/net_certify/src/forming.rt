@@ -5,8 +5,7 @@ use crate::table::{MoveEntry, SOURCE, TABLE, entry_fits};
 use expr_improve::{Means, joined};
 use leaf_core::Expr;
 use net_improve::{
-    Built, Clearing, MOST_DEPTH, NoMove, Sketch, behind, copied, front, head, length, rest,
-    stage_way,
+    Built, Clearing, MOST_DEPTH, NoMove, Sketch, behind, front, head, length, rest, stage_way,
 };
 use net_tree::{LawStep, Net, NetChild, TreeRef, same_net};
 use sample_core::Memory;
@@ -91,8 +90,7 @@ fn first_tasks(alloc: Global) -> Result<Vec<Task>, Memory> {
 impl Former {
     /// The network, of which all is still to be done.
     fn new(means: &Means, net: &Net<Expr>, olds: u32) -> Result<Former, Memory> {
-        let whole = copied(means.alloc, net)?;
-        let sketch = Sketch::new(means, whole, olds, Clearing::Always)?;
+        let sketch = Sketch::of(means, net, olds, Clearing::Always)?;
         let tasks = first_tasks(means.alloc)?;
         Ok(Former {
             sketch,

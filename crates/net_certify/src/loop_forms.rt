@@ -6,7 +6,7 @@ use expr_improve::{
 };
 use leaf_core::{Expr, ExprChild, part, same_expr};
 use net_improve::{Built, LoopMove, NoMove, Sketch, identity, seq};
-use net_tree::{Direction, Law, LawStep, Net, Position, Tree};
+use net_tree::Net;
 use sample_core::Memory;
 use std::alloc::Global;
 
@@ -133,14 +133,8 @@ fn through(means: &Means, e: &Expr, f: ExprChild) -> Result<ExprChild, NoMove> {
 fn whole(w: &mut Sketch) -> Result<Built, NoMove> {
     let given = seq(w.alloc, identity(w.alloc)?, w.net.try_copy()?)?;
     w.backward(1, &[], given)?;
-    let position = Position::of_node(w.alloc, &[0, 0])?;
     let parts = both_parts(w.alloc)?;
-    w.take(LawStep {
-        law: Law::E(9),
-        direction: Direction::Backward,
-        position,
-        given: Some(Tree::Expr(parts)),
-    })?;
+    w.backward_in(9, &[0, 0], parts)?;
     front_in(w)
 }
 

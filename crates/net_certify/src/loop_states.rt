@@ -7,7 +7,7 @@ use expr_improve::{
 use leaf_core::{Expr, ExprChild, Literal, part, tag};
 use net_compare::number_inside;
 use net_improve::{NoMove, Sketch};
-use net_tree::{Direction, Law, LawStep, Net, Position, Tree};
+use net_tree::Net;
 use std::alloc::Global;
 use std::cmp::Ordering;
 
@@ -35,16 +35,22 @@ struct State {
 /// Brings the states of the loop at the path in the order in which what is output asks for them, and
 /// leaves out those that it never asks for, where no such one asks for another.
 pub(crate) fn arrange(w: &mut Sketch, path: &[u32]) -> Result<(), NoMove> {
-    let Net::LoopPre(start, body) = w.net_at(path)? else {
-        return Err(NoMove::Unfit);
-    };
-    let Net::Arr(e) = body.get() else {
-        return Err(NoMove::Unfit);
-    };
+    let (start, e) = arr_loop(w, path)?;
     let found = arranged(&w.means, start, e)?;
     match found {
         Some(found) => slide(w, path, found),
         None => Ok(()),
+    }
+}
+
+/// What the loop at the path, which is round one `arr`, starts with, and the expression of the `arr`.
+pub(crate) fn arr_loop<'w>(w: &'w Sketch, path: &[u32]) -> Result<(&'w Expr, &'w Expr), NoMove> {
+    let Net::LoopPre(start, body) = w.net_at(path)? else {
+        return Err(NoMove::Unfit);
+    };
+    match body.get() {
+        Net::Arr(e) => Ok((start, e)),
+        _ => Err(NoMove::Unfit),
     }
 }
 
@@ -90,13 +96,7 @@ fn change_right(w: &mut Sketch, path: &[u32]) -> Result<(), NoMove> {
 /// Makes `(then f (then g h))` at the path `(then (then f g) h)`, by E3 backward.
 pub(crate) fn nest_left(w: &mut Sketch, path: &[u32]) -> Result<(), NoMove> {
     let given = nested_left(w.alloc, w.expr_at(path)?)?;
-    let position = Position::of_node(w.alloc, path)?;
-    w.take(LawStep {
-        law: Law::E(3),
-        direction: Direction::Backward,
-        position,
-        given: Some(Tree::Expr(given)),
-    })
+    w.backward_in(3, path, given)
 }
 
 /// `(then (then f g) h)` of `(then f (then g h))`.
@@ -329,8 +329,7 @@ fn signs_of(
     states: &[State],
 ) -> Result<Vec<ExprChild>, NoMove> {
     let alloc = means.alloc;
-    let begun = pair_of(alloc, first_input(alloc)?, as_part(alloc, start)?)?;
-    let whole = normal(means, then_of(alloc, &begun, e)?)?;
+    let whole = body_with(means, e, as_part(alloc, start)?)?;
     let next = normal(means, second_of(alloc, whole)?)?;
     let mut signs = Vec::new(alloc);
     for state in states {
@@ -403,8 +402,13 @@ fn marked(means: &Means, start: &Expr, e: &Expr, states: &[State]) -> Result<Exp
         marks.push(ExprChild::new(alloc, Expr::Param(mark(k)))?)?;
     }
     let state = with_states(alloc, start, &mut marks, MOST_NESTED)?;
-    let whole = pair_of(alloc, first_input(alloc)?, state)?;
-    normal(means, then_of(alloc, &whole, e)?)
+    body_with(means, e, state)
+}
+
+/// The body e of a loop where this is the state.
+fn body_with(means: &Means, e: &Expr, state: ExprChild) -> Result<ExprChild, NoMove> {
+    let whole = pair_of(means.alloc, first_input(means.alloc)?, state)?;
+    normal(means, then_of(means.alloc, &whole, e)?)
 }
 
 /// The pairs of the constant, with the last of these in place of what is no pair, and so on.

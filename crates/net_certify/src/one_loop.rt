@@ -8,7 +8,7 @@ use expr_improve::{
 };
 use leaf_core::{Expr, ExprChild, type_of_expr};
 use net_compare::MOST_CHILDREN;
-use net_improve::{Clearing, NoMove, Sketch, behind, head, length, rest, stage_way};
+use net_improve::{Clearing, NoMove, Sketch, behind, head, length, loop_pre, rest, stage_way};
 use net_tree::{Net, NetChild, TreeRef, same_net};
 use sample_core::{Memory, Ty};
 use std::alloc::Global;
@@ -231,7 +231,7 @@ fn accumulating(alloc: Global, carried: Ty, g: &Expr, z: &Expr) -> Result<NetChi
     let made = then_of(alloc, &as_part(alloc, g)?, out.get())?;
     let comes = then_of(alloc, &both, made.get())?;
     let body = NetChild::new(alloc, Net::Arr(Expr::On(first_input(alloc)?, stays, comes)))?;
-    NetChild::new(alloc, Net::LoopPre(z.try_copy(alloc)?, body))
+    loop_pre(alloc, z, body)
 }
 
 /// Takes the `first` at the path into what is in it.

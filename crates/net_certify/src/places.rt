@@ -8,10 +8,8 @@ use crate::shaping::{gather_all, shaped};
 use expr_improve::{Means, joined};
 use leaf_core::Expr;
 use net_compare::{MOST_CHILDREN, inner_at, same_node, same_tree};
-use net_improve::{Clearing, MOST_DEPTH, NoMove, Sketch, Spot, copied};
-use net_tree::{
-    LAST_EXPRESSION_LAW, LAST_NETWORK_LAW, LawStep, Net, NetChild, Position, TreeRef, same_net,
-};
+use net_improve::{Clearing, MOST_DEPTH, NoMove, Sketch, Spot, copied, step_at};
+use net_tree::{LAST_EXPRESSION_LAW, LAST_NETWORK_LAW, LawStep, Net, NetChild, TreeRef, same_net};
 use sample_core::Memory;
 
 /// Two ways that meet.
@@ -34,8 +32,8 @@ pub fn ways_between(
     with_loops: bool,
 ) -> Result<Option<Ways>, Memory> {
     let mut pair = Pair {
-        first: sketch_of(means, first)?,
-        second: sketch_of(means, second)?,
+        first: Sketch::of(means, first, 0, Clearing::Always)?,
+        second: Sketch::of(means, second, 0, Clearing::Always)?,
         with_loops,
     };
     match pair.join(&[], MOST_DEPTH, MOST_EFFORT) {
@@ -51,11 +49,6 @@ const MOST_EFFORT: u32 = 4;
 
 /// How many nodes are visited, about, where two trees are compared or a law is tried.
 const LOOK: u64 = 30;
-
-/// The network, with no step yet.
-fn sketch_of(means: &Means, net: &Net<Expr>) -> Result<Sketch, Memory> {
-    Sketch::new(means, copied(means.alloc, net)?, 0, Clearing::Always)
-}
 
 /// Two networks on the way to one.
 #[derive(Drop)]
@@ -365,18 +358,7 @@ fn take_below(sketch: &mut Sketch, path: &[u32], is_net: bool, trail: Trail) -> 
         } else {
             joined(sketch.alloc, path, inside(step.position.path()))?
         };
-        let LawStep {
-            law,
-            direction,
-            given,
-            ..
-        } = step;
-        sketch.take(LawStep {
-            law,
-            direction,
-            position: Position::new(below),
-            given,
-        })?;
+        sketch.take(step_at(below, step))?;
     }
     Ok(())
 }

@@ -1,9 +1,9 @@
 // States of a loop round one `arr` that stay as they are and that nothing else asks for.
 
-use crate::loop_states::{Unheard, slide, unheard_states};
+use crate::loop_states::{Unheard, arr_loop, slide, unheard_states};
 use expr_improve::{Means, Rewriting, as_part, as_then, joined, then_of};
 use leaf_core::Expr;
-use net_improve::{NoMove, Sketch, assoc, unassoc};
+use net_improve::{NoMove, Sketch, assoc, loop_pre, unassoc};
 use net_tree::{Net, NetChild};
 use sample_core::Memory;
 use std::alloc::Global;
@@ -11,33 +11,21 @@ use std::alloc::Global;
 /// Drops such states of the loop at the path, and returns whether there were any; with all of them it
 /// drops the loop.
 pub(crate) fn drop_unheard(w: &mut Sketch, path: &[u32]) -> Result<bool, NoMove> {
-    let Net::LoopPre(start, body) = w.net_at(path)? else {
-        return Err(NoMove::Unfit);
-    };
-    let Net::Arr(e) = body.get() else {
-        return Err(NoMove::Unfit);
-    };
-    match unheard_states(&w.means, start, e)? {
+    let (start, e) = arr_loop(w, path)?;
+    let way = match unheard_states(&w.means, start, e)? {
         Unheard::Nothing => return Ok(false),
-        Unheard::All => drop_loop(w, path)?,
+        Unheard::All => path.to_vec(w.alloc)?,
         Unheard::Right(found) => {
             if let Some(found) = found {
                 slide(w, path, found)?;
             }
             part_loop(w, path)?;
-            let inner = joined(w.alloc, path, &[1])?;
-            drop_loop(w, &inner)?;
+            joined(w.alloc, path, &[1])?
         }
-    }
+    };
+    w.drop_loop(&way)?;
+    w.clear(&joined(w.alloc, &way, &[0])?)?;
     Ok(true)
-}
-
-/// Makes the loop at the path, round an `arr` that leaves the state as it is and doesn't hear it, what
-/// the `arr` does to the input.
-fn drop_loop(w: &mut Sketch, path: &[u32]) -> Result<(), NoMove> {
-    w.left_at(&joined(w.alloc, path, &[1])?)?;
-    w.forward(17, path)?;
-    w.clear(&joined(w.alloc, path, &[0])?)
 }
 
 /// Makes the loop at the path, round an `arr` that leaves the right part of the state as it is, a loop
@@ -80,8 +68,6 @@ fn loop_in_loop(alloc: Global, net: &Net<Expr>) -> Result<NetChild<Expr>, NoMove
     let Net::Seq(f, _) = behind.get() else {
         return Err(NoMove::Unfit);
     };
-    let inner = Net::LoopPre(d.get().try_copy(alloc)?, f.try_copy()?);
-    let inner = NetChild::new(alloc, inner)?;
-    let outer = Net::LoopPre(c.get().try_copy(alloc)?, inner);
-    Ok(NetChild::new(alloc, outer)?)
+    let inner = loop_pre(alloc, d.get(), f.try_copy()?)?;
+    Ok(loop_pre(alloc, c.get(), inner)?)
 }

@@ -89,10 +89,6 @@ pub(crate) fn first(alloc: Global, f: NetChild<Expr>) -> Result<NetChild<Expr>, 
 }
 
 /// `(loopPre c f)`.
-pub(crate) fn loop_pre(
-    alloc: Global,
-    c: &Expr,
-    f: NetChild<Expr>,
-) -> Result<NetChild<Expr>, Memory> {
+pub fn loop_pre(alloc: Global, c: &Expr, f: NetChild<Expr>) -> Result<NetChild<Expr>, Memory> {
     NetChild::new(alloc, Net::LoopPre(c.try_copy(alloc)?, f))
 }

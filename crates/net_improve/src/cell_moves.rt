@@ -137,7 +137,7 @@ fn pass_one(w: &mut Sketch, stages: usize, more: bool) -> Result<(), NoMove> {
         w.regroup(&way)?;
         way.push(0)?;
     }
-    pass_cell(w, &way)?;
+    w.pass_cell(&way)?;
     if more {
         way.pop();
         w.forward(3, &way)?;
@@ -145,15 +145,17 @@ fn pass_one(w: &mut Sketch, stages: usize, more: bool) -> Result<(), NoMove> {
     Ok(())
 }
 
-/// Takes the `arr` past the cell, both of which stand at the path.
-fn pass_cell(w: &mut Sketch, path: &[u32]) -> Result<(), NoMove> {
-    let number = match head(w.net_at(path)?) {
-        Net::IPre(_) => 11,
-        Net::Delay(..) => 26,
-        _ => return Err(NoMove::Unfit),
-    };
-    w.forward(number, path)?;
-    w.clear(&joined(w.alloc, path, &[1, 0])?)
+impl Sketch {
+    /// Takes the `arr` past the cell, both of which stand at the path.
+    pub fn pass_cell(&mut self, path: &[u32]) -> Result<(), NoMove> {
+        let number = match head(self.net_at(path)?) {
+            Net::IPre(_) => 11,
+            Net::Delay(..) => 26,
+            _ => return Err(NoMove::Unfit),
+        };
+        self.forward(number, path)?;
+        self.clear(&joined(self.alloc, path, &[1, 0])?)
+    }
 }
 
 fn hold_map(w: &mut Sketch) -> Result<(), NoMove> {

@@ -74,8 +74,8 @@ impl FirstMove {
     /// Makes a move that builds nothing.
     fn made(self, w: &mut Sketch) -> Result<(), NoMove> {
         match self {
-            FirstMove::BehindArr => behind_arr(w),
-            FirstMove::BeforeArr => before_arr(w),
+            FirstMove::BehindArr => one_arr(w, &[1]),
+            FirstMove::BeforeArr => one_arr(w, &[0]),
             FirstMove::Heard => heard(w),
             FirstMove::Unheard => unheard(w),
             FirstMove::RightFront => right_front(w),
@@ -92,14 +92,9 @@ fn alone(w: &mut Sketch) -> Result<(), NoMove> {
     w.clear(&[0])
 }
 
-fn behind_arr(w: &mut Sketch) -> Result<(), NoMove> {
-    w.forward(5, &[1])?;
-    w.forward(4, &[])?;
-    w.clear(&[0])
-}
-
-fn before_arr(w: &mut Sketch) -> Result<(), NoMove> {
-    w.forward(5, &[0])?;
+/// Makes one `arr` of two stages, of which the one at the path is a `first` of an `arr`.
+fn one_arr(w: &mut Sketch, path: &[u32]) -> Result<(), NoMove> {
+    w.forward(5, path)?;
     w.forward(4, &[])?;
     w.clear(&[0])
 }
@@ -129,9 +124,7 @@ fn unheard(w: &mut Sketch) -> Result<(), NoMove> {
     w.first_arr(&[0, 1])?;
     w.join_firsts(&[0])?;
     w.forward(25, &[0, 0])?;
-    w.forward(5, &[0])?;
-    w.forward(4, &[])?;
-    w.clear(&[0])
+    one_arr(w, &[0])
 }
 
 /// The expression, where it uses the right part alone, as itself behind what makes the left part

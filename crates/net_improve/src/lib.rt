@@ -29,7 +29,7 @@ mod switch_moves;
 mod types;
 
 pub use arr_moves::ArrMove;
-pub use build::{assoc, copied, identity, map_before_hold, seq, unassoc};
+pub use build::{assoc, copied, identity, loop_pre, map_before_hold, seq, unassoc};
 pub use cell_moves::CellMove;
 pub use chain::{Stages, behind, front, head, is_flat, length, rest, stage_way, stages_of};
 pub use cost::{MOST_DEPTH, net_cost};
@@ -37,6 +37,6 @@ pub use first_moves::FirstMove;
 pub use loop_moves::LoopMove;
 pub use moves::{Built, Move};
 pub use proposing::{improving_moves, made_again};
-pub use sketch::{Clearing, NoMove, Sketch, Spot};
-pub use switch_moves::SwitchMove;
+pub use sketch::{Clearing, NoMove, Sketch, Spot, step_at};
+pub use switch_moves::{SwitchMove, switch_law};
 pub use types::none_told;

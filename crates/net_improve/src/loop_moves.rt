@@ -83,15 +83,21 @@ fn unfirst(w: &mut Sketch) -> Result<(), NoMove> {
     };
     match body.get() {
         Net::First(_) => w.forward(17, &[]),
-        Net::Arr(_) => {
-            w.left_at(&[1])?;
-            w.forward(17, &[])
-        }
+        Net::Arr(_) => w.drop_loop(&[]),
         Net::Seq(f, _) => match f.get() {
             Net::First(_) => first_out(w),
             _ => last_out(w),
         },
         _ => Err(NoMove::Unfit),
+    }
+}
+
+impl Sketch {
+    /// Makes the loop at the path, round an `arr` that leaves the state as it is and doesn't hear it,
+    /// what the `arr` does to the input.
+    pub fn drop_loop(&mut self, path: &[u32]) -> Result<(), NoMove> {
+        self.left_at(&joined(self.alloc, path, &[1])?)?;
+        self.forward(17, path)
     }
 }
 

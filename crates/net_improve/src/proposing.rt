@@ -1,6 +1,5 @@
 // What the search finds, for who takes the steps.
 
-use crate::build::copied;
 use crate::cost::MOST_DEPTH;
 use crate::search::{MOST_TRIES, improve_net};
 use crate::sketch::{Clearing, NoMove, Sketch};
@@ -12,8 +11,7 @@ use sample_core::Memory;
 /// Moves that make the network cost less, each as its steps. They are only proposed: types aren't
 /// looked at, and a move is made of what those before it leave. `Memory` if allocation fails.
 pub fn improving_moves(means: &Means, net: &Net<Expr>) -> Result<Vec<Vec<LawStep>>, Memory> {
-    let alloc = means.alloc;
-    let mut sketch = Sketch::new(means, copied(alloc, net)?, 0, Clearing::ByCost)?;
+    let mut sketch = Sketch::of(means, net, 0, Clearing::ByCost)?;
     let mut tries = MOST_TRIES;
     match improve_net(&mut sketch, false, MOST_DEPTH, &mut tries) {
         Ok(()) | Err(NoMove::Unfit) => {
@@ -63,8 +61,7 @@ pub fn made_again(
     net: &Net<Expr>,
     moved: Vec<LawStep>,
 ) -> Result<Option<Vec<LawStep>>, Memory> {
-    let net = copied(means.alloc, net)?;
-    let mut sketch = Sketch::new(means, net, 0, Clearing::ByCost)?;
+    let mut sketch = Sketch::of(means, net, 0, Clearing::ByCost)?;
     match sketch.make_again(moved) {
         Ok(()) => {
             let Sketch { steps, .. } = sketch;

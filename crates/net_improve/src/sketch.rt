@@ -83,6 +83,16 @@ impl Sketch {
         })
     }
 
+    /// A copy of the network, with no step yet. `Memory` if allocation fails.
+    pub fn of(
+        means: &Means,
+        net: &Net<Expr>,
+        olds: u32,
+        clearing: Clearing,
+    ) -> Result<Sketch, Memory> {
+        Sketch::new(means, copied(means.alloc, net)?, olds, clearing)
+    }
+
     /// What stands at the path.
     pub fn at(&self, path: &[u32]) -> Result<Spot<'_>, NoMove> {
         let mut spot = Spot {
@@ -103,8 +113,7 @@ impl Sketch {
         let spot = self.at(path)?;
         match spot.tree {
             TreeRef::Net(net) => {
-                let net = copied(self.alloc, net)?;
-                let mut inner = Sketch::new(&self.means, net, spot.olds, self.clearing)?;
+                let mut inner = Sketch::of(&self.means, net, spot.olds, self.clearing)?;
                 inner.room = self.room.saturating_sub(depth_of(path));
                 Ok(inner)
             }
@@ -206,20 +215,19 @@ impl Sketch {
 
     /// Takes a law of networks forward at the path.
     pub fn forward(&mut self, number: u8, path: &[u32]) -> Result<(), NoMove> {
-        let position = Position::of_node(self.alloc, path)?;
-        self.take(LawStep {
-            law: Law::L(number),
-            direction: Direction::Forward,
-            position,
-            given: None,
-        })
+        self.take_forward(Law::L(number), path)
     }
 
     /// Takes a law of expressions forward at the path.
     pub fn forward_in(&mut self, number: u8, path: &[u32]) -> Result<(), NoMove> {
+        self.take_forward(Law::E(number), path)
+    }
+
+    /// Takes the law forward at the path.
+    fn take_forward(&mut self, law: Law, path: &[u32]) -> Result<(), NoMove> {
         let position = Position::of_node(self.alloc, path)?;
         self.take(LawStep {
-            law: Law::E(number),
+            law,
             direction: Direction::Forward,
             position,
             given: None,
@@ -236,6 +244,17 @@ impl Sketch {
         let step = step_to(self.alloc, number, path, given.get());
         drop(given);
         self.take(step?)
+    }
+
+    /// Takes a law of expressions backward at the path, to the expression that is given.
+    pub fn backward_in(&mut self, number: u8, path: &[u32], given: Expr) -> Result<(), NoMove> {
+        let position = Position::of_node(self.alloc, path)?;
+        self.take(LawStep {
+            law: Law::E(number),
+            direction: Direction::Backward,
+            position,
+            given: Some(Tree::Expr(given)),
+        })
     }
 
     /// Puts the tree at the path, to which these steps lead there.
@@ -364,22 +383,27 @@ fn step_to(alloc: Global, number: u8, path: &[u32], given: &Net<Expr>) -> Result
 
 /// The step with its position below the path.
 fn below_path(alloc: Global, path: &[u32], step: LawStep) -> Result<LawStep, Memory> {
+    match joined(alloc, path, step.position.path()) {
+        Ok(numbers) => Ok(step_at(numbers, step)),
+        Err(refused) => {
+            drop(step);
+            Err(refused)
+        }
+    }
+}
+
+/// The step with this path as its position.
+pub fn step_at(path: Vec<u32>, step: LawStep) -> LawStep {
     let LawStep {
         law,
         direction,
-        position,
         given,
+        ..
     } = step;
-    match joined(alloc, path, position.path()) {
-        Ok(numbers) => Ok(LawStep {
-            law,
-            direction,
-            position: Position::new(numbers),
-            given,
-        }),
-        Err(refused) => {
-            drop(given);
-            Err(refused)
-        }
+    LawStep {
+        law,
+        direction,
+        position: Position::new(path),
+        given,
     }
 }

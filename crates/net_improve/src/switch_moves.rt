@@ -70,7 +70,7 @@ impl SwitchMove {
 }
 
 /// The law of a `switch`, or that of a `dSwitch`.
-fn of_two(net: &Net<Expr>, switch: u8, d_switch: u8) -> Result<u8, NoMove> {
+pub fn switch_law(net: &Net<Expr>, switch: u8, d_switch: u8) -> Result<u8, NoMove> {
     match net {
         Net::Switch(..) => Ok(switch),
         Net::DSwitch(..) => Ok(d_switch),
@@ -79,7 +79,7 @@ fn of_two(net: &Net<Expr>, switch: u8, d_switch: u8) -> Result<u8, NoMove> {
 }
 
 fn switch_in(w: &mut Sketch) -> Result<Built, NoMove> {
-    let number = of_two(w.net_at(&[1])?, 27, 28)?;
+    let number = switch_law(w.net_at(&[1])?, 27, 28)?;
     w.forward(number, &[])?;
     Ok(Built::Both)
 }
@@ -88,7 +88,7 @@ fn switch_out(w: &mut Sketch) -> Result<Built, NoMove> {
     let number = match w.net_at(&[0])? {
         Net::RSwitch(..) => 36,
         Net::DrSwitch(..) => 45,
-        other => of_two(other, 29, 30)?,
+        other => switch_law(other, 29, 30)?,
     };
     w.forward(number, &[])?;
     Ok(Built::Both)
@@ -97,7 +97,7 @@ fn switch_out(w: &mut Sketch) -> Result<Built, NoMove> {
 fn between(w: &mut Sketch) -> Result<Built, NoMove> {
     w.arr_at(&[0])?;
     w.arr_at(&[1, 1])?;
-    let number = of_two(w.first_at(&[1, 0])?, 33, 34)?;
+    let number = switch_law(w.first_at(&[1, 0])?, 33, 34)?;
     w.forward(number, &[1, 0])?;
     w.regroup(&[])?;
     w.forward(number.saturating_sub(6), &[0])?;
@@ -107,18 +107,18 @@ fn between(w: &mut Sketch) -> Result<Built, NoMove> {
 
 fn beside(w: &mut Sketch) -> Result<Built, NoMove> {
     if let Net::Arr(_) = w.net_at(&[0])? {
-        let number = of_two(w.first_at(&[1])?, 33, 34)?;
+        let number = switch_law(w.first_at(&[1])?, 33, 34)?;
         w.forward(number, &[1])?;
         return switch_in(w);
     }
     w.arr_at(&[1])?;
-    let number = of_two(w.first_at(&[0])?, 33, 34)?;
+    let number = switch_law(w.first_at(&[0])?, 33, 34)?;
     w.forward(number, &[0])?;
     switch_out(w)
 }
 
 fn never(w: &mut Sketch) -> Result<Built, NoMove> {
-    let number = of_two(w.net_at(&[])?, 31, 32)?;
+    let number = switch_law(w.net_at(&[])?, 31, 32)?;
     let count = length(w.net_at(&[0])?);
     let way = behind(w.alloc, &[0], count.saturating_sub(1))?;
     part_never(w, &way)?;

@@ -4,7 +4,7 @@ use crate::counting::nodes_in;
 use crate::reading_back::same_tree;
 use expr_improve::Means;
 use leaf_core::Expr;
-use net_improve::{Clearing, NoMove, Sketch, copied};
+use net_improve::{Clearing, NoMove, Sketch};
 use net_tree::{LawStep, Net, NetChild, Position, Tree, same_net};
 use sample_core::Memory;
 use std::alloc::Global;
@@ -72,11 +72,6 @@ pub(crate) fn copied_step(alloc: Global, step: &LawStep) -> Result<LawStep, Memo
     })
 }
 
-/// The start, with no step yet.
-fn sketch_of(means: &Means, start: &Net<Expr>) -> Result<Sketch, Memory> {
-    Sketch::new(means, copied(means.alloc, start)?, 0, Clearing::Always)
-}
-
 /// A step that was taken.
 #[derive(Drop)]
 struct Taken<'s> {
@@ -103,7 +98,7 @@ fn taken_steps<'s>(
     start: &Net<Expr>,
     steps: &'s [LawStep],
 ) -> Result<Vec<Taken<'s>>, NoMove> {
-    let mut sketch = sketch_of(means, start)?;
+    let mut sketch = Sketch::of(means, start, 0, Clearing::Always)?;
     let mut all = Vec::new(means.alloc);
     for step in steps {
         let path = step.position.path();
@@ -192,7 +187,7 @@ struct Passed {
 
 /// The networks on the way, from the start to the end.
 fn networks_on(means: &Means, start: &Net<Expr>, steps: &[LawStep]) -> Result<Vec<Passed>, NoMove> {
-    let mut sketch = sketch_of(means, start)?;
+    let mut sketch = Sketch::of(means, start, 0, Clearing::Always)?;
     let mut networks = Vec::new(means.alloc);
     networks.push(network_here(means, &sketch)?)?;
     for step in steps {

@@ -408,34 +408,24 @@ fn at_looped_forms(
     let back = looped(alloc, target, nodes)?;
     match (there, back) {
         (Some(there), Some(back)) => on_from(alloc, &there, &back, nodes),
-        (Some(there), None) => on_from_first(alloc, &there, tried, nodes),
-        (None, Some(back)) => on_from_second(alloc, tried, &back, nodes),
+        (Some(there), None) => on_from_one(alloc, &there, true, tried, nodes),
+        (None, Some(back)) => on_from_one(alloc, &back, false, tried, nodes),
         (None, None) => Ok((Vec::new(alloc), Vec::new(alloc))),
     }
 }
 
-/// The same from this form of the first network and the normal form of the second that was kept.
-fn on_from_first(
+/// The same from this form of the first network, or else of the second, and the normal form of the
+/// other that was kept.
+fn on_from_one(
     alloc: Global,
-    there: &Formed,
+    form: &Formed,
+    is_first: bool,
     tried: &Tried,
     nodes: &mut u64,
 ) -> Result<(Vec<LawStep>, Vec<LawStep>), Memory> {
     match &tried.forms {
-        Some((_, back)) => on_from(alloc, there, back, nodes),
-        None => Ok((Vec::new(alloc), Vec::new(alloc))),
-    }
-}
-
-/// The same from the normal form of the first network that was kept and this form of the second.
-fn on_from_second(
-    alloc: Global,
-    tried: &Tried,
-    back: &Formed,
-    nodes: &mut u64,
-) -> Result<(Vec<LawStep>, Vec<LawStep>), Memory> {
-    match &tried.forms {
-        Some((there, _)) => on_from(alloc, there, back, nodes),
+        Some((_, back)) if is_first => on_from(alloc, form, back, nodes),
+        Some((there, _)) => on_from(alloc, there, form, nodes),
         None => Ok((Vec::new(alloc), Vec::new(alloc))),
     }
 }
