@@ -1,10 +1,45 @@
 // `then` is carried inwards always, and nothing else is cleared up.
 
-use crate::log::{Log, with_part};
-use crate::tree::{as_part, beside_second, first_input, is_constant, then_of, then_twice};
-use crate::weight::own_parts;
-use leaf_core::{Expr, ExprChild, part};
+use crate::log::Log;
+use crate::tree::{as_part, is_constant, then_of, then_twice};
+use leaf_core::{Expr, ExprChild};
 use sample_core::Memory;
+
+/// The expression e with f before each of its parts that have its own input, carried by the function.
+macro_rules! parts_behind {
+    ($carry:ident, $log:ident, $f:ident, $e:ident, $depth:ident) => {{
+        let mut new = $crate::tree::as_part($log.alloc, $e)?;
+        for k in 0..$crate::weight::own_parts($e) {
+            if let Some(inner) = leaf_core::part($e, k) {
+                $log.enter(k);
+                let inner = $carry($log, $f, inner, $depth)?;
+                $log.leave();
+                new = $crate::log::with_part($log, new, k, inner)?;
+            }
+        }
+        Ok(new)
+    }};
+}
+
+/// The `on` with f before its body, at the outer input, and the event beside it, carried by the function.
+macro_rules! body_behind {
+    ($carry:ident, $log:ident, $f:ident, $on:ident, $body:ident, $depth:ident) => {{
+        $log.enter(2);
+        let first = $crate::tree::first_input($log.alloc)?;
+        $log.enter(0);
+        $log.enter(0);
+        let outer = $carry($log, &first, $f.get(), $depth)?;
+        $log.leave();
+        $log.leave();
+        let seen = $crate::tree::beside_second($log.alloc, outer)?;
+        let body = $carry($log, &seen, $body.get(), $depth)?;
+        $log.leave();
+        $crate::log::with_part($log, $on, 2, body)
+    }};
+}
+
+pub(crate) use body_behind;
+pub(crate) use parts_behind;
 
 /// What `(then f e)` is when f is carried to where e uses its input, by the laws E1 to E8 alone.
 #[cycle(carry)]
@@ -75,28 +110,7 @@ fn carried_on(
 ) -> Result<ExprChild, Memory> {
     log.forward(5);
     let new = carried_parts(log, f, e, depth)?;
-    log.enter(2);
-    let body = carried_body(log, f, body, depth)?;
-    log.leave();
-    with_part(log, new, 2, body)
-}
-
-/// The body of `on` behind f, at the outer input, and the event beside it.
-#[cycle(carry)]
-fn carried_body(
-    log: &mut Log,
-    f: &ExprChild,
-    body: &ExprChild,
-    depth: u32,
-) -> Result<ExprChild, Memory> {
-    let first = first_input(log.alloc)?;
-    log.enter(0);
-    log.enter(0);
-    let outer = carried(log, &first, f.get(), depth)?;
-    log.leave();
-    log.leave();
-    let seen = beside_second(log.alloc, outer)?;
-    carried(log, &seen, body.get(), depth)
+    body_behind!(carried, log, f, new, body, depth)
 }
 
 /// Carries f of `(then f e)`, where e is an operator, into its parts.
@@ -115,16 +129,7 @@ fn carried_operator(
 /// The expression e with f before each of its parts that have its own input.
 #[cycle(carry)]
 fn carried_parts(log: &mut Log, f: &ExprChild, e: &Expr, depth: u32) -> Result<ExprChild, Memory> {
-    let mut new = as_part(log.alloc, e)?;
-    for k in 0..own_parts(e) {
-        if let Some(inner) = part(e, k) {
-            log.enter(k);
-            let inner = carried(log, f, inner, depth)?;
-            log.leave();
-            new = with_part(log, new, k, inner)?;
-        }
-    }
-    Ok(new)
+    parts_behind!(carried, log, f, e, depth)
 }
 
 /// What `fst` or `snd` of a pair is; another expression as it is.

@@ -43,5 +43,5 @@ pub use tree::{
     second_input, second_of, then_of,
 };
 pub use view::seen_through;
-pub use weight::{arr_cost, is_path, made_of};
+pub use weight::{arr_cost, is_path, made_of, part_count, total};
 pub use work::Means;

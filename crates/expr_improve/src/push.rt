@@ -1,12 +1,12 @@
 // `then` is carried inwards as far as it pays, or always.
 
-use crate::carry::{regroup, stands};
+use crate::carry::{body_behind, parts_behind, regroup, stands};
 use crate::choose::cheaper;
 use crate::clear::{cleared, is_certain};
-use crate::log::{Aim, Log, with_part};
-use crate::tree::{as_part, beside_second, first_input, is_constant, then_of};
-use crate::weight::{extent_of, own_parts};
-use leaf_core::{Expr, ExprChild, part};
+use crate::log::{Aim, Log};
+use crate::tree::{is_constant, then_of};
+use crate::weight::extent_of;
+use leaf_core::{Expr, ExprChild};
 use sample_core::Memory;
 
 /// How deep `then` is carried inwards.
@@ -125,29 +125,8 @@ fn through_on(
 ) -> Result<ExprChild, Memory> {
     log.forward(5);
     let new = pushed_parts(log, f, e, depth)?;
-    log.enter(2);
-    let body = pushed_body(log, f, body, depth)?;
-    log.leave();
-    let new = with_part(log, new, 2, body)?;
+    let new = body_behind!(pushed, log, f, new, body, depth)?;
     settled(log, new, depth)
-}
-
-/// The body of `on` behind f, at the outer input, and the event beside it.
-#[cycle(push)]
-fn pushed_body(
-    log: &mut Log,
-    f: &ExprChild,
-    body: &ExprChild,
-    depth: u32,
-) -> Result<ExprChild, Memory> {
-    let first = first_input(log.alloc)?;
-    log.enter(0);
-    log.enter(0);
-    let outer = pushed(log, &first, f.get(), depth)?;
-    log.leave();
-    log.leave();
-    let seen = beside_second(log.alloc, outer)?;
-    pushed(log, &seen, body.get(), depth)
 }
 
 /// What becomes of `(then f e)`, where e is an operator.
@@ -166,16 +145,7 @@ fn through_operator(
 /// The expression e with f before each of its parts that have its own input.
 #[cycle(push)]
 fn pushed_parts(log: &mut Log, f: &ExprChild, e: &Expr, depth: u32) -> Result<ExprChild, Memory> {
-    let mut new = as_part(log.alloc, e)?;
-    for k in 0..own_parts(e) {
-        if let Some(inner) = part(e, k) {
-            log.enter(k);
-            let inner = pushed(log, f, inner, depth)?;
-            log.leave();
-            new = with_part(log, new, k, inner)?;
-        }
-    }
-    Ok(new)
+    parts_behind!(pushed, log, f, e, depth)
 }
 
 /// What the laws of its form make of the expression, whose parts are as good as they get.

@@ -96,7 +96,7 @@ fn takes_apart(expr: &Expr, depth: u32) -> bool {
 }
 
 /// How many parts the expression has.
-pub(crate) fn part_count(expr: &Expr) -> u32 {
+pub fn part_count(expr: &Expr) -> u32 {
     match inside(expr) {
         Contents::One(_) => 1,
         Contents::Two(..) => 2,
@@ -176,7 +176,7 @@ fn extent_within(expr: &Expr, depth: u32) -> Extent {
 }
 
 /// The sum of costs, at most the largest number.
-fn total(costs: &[u64]) -> u64 {
+pub fn total(costs: &[u64]) -> u64 {
     let mut sum = 0u64;
     for cost in costs {
         sum = sum.saturating_add(*cost);

@@ -15,6 +15,3 @@ decreases-carried_operator l = 8 * l.depth + 12
 
 abbrev pub decreases-carried_parts : goal.decreases-carried_parts
 decreases-carried_parts l = 8 * l.depth + 9
-
-abbrev pub decreases-carried_body : goal.decreases-carried_body
-decreases-carried_body l = 8 * l.depth + 9

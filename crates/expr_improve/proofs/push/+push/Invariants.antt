@@ -25,8 +25,5 @@ decreases-through_operator l = 8 * l.depth + 12
 abbrev pub decreases-pushed_parts : goal.decreases-pushed_parts
 decreases-pushed_parts l = 8 * l.depth + 9
 
-abbrev pub decreases-pushed_body : goal.decreases-pushed_body
-decreases-pushed_body l = 8 * l.depth + 9
-
 abbrev pub decreases-settled : goal.decreases-settled
 decreases-settled l = 8 * l.depth + 9
