@@ -2,7 +2,7 @@
 
 use expr_improve::{
     Means, Rewriting, as_part, as_then, first_input, first_of, input, joined, normal_expr,
-    of_second, on_right, pair_of, second_of, seen_through, then_of,
+    of_second, on_right, pair_of, part_count, second_of, seen_through, then_of,
 };
 use leaf_core::{Expr, ExprChild, Literal, part, tag};
 use net_compare::number_inside;
@@ -386,7 +386,7 @@ fn push_pairs<'e>(
     a: &'e Expr,
     b: &'e Expr,
 ) -> Result<(), NoMove> {
-    for k in (0..parts_in(a)).rev() {
+    for k in (0..part_count(a)).rev() {
         if let (Some(c), Some(d)) = (part(a, k), part(b, k)) {
             todo.push((c, d))?;
         }
@@ -463,22 +463,12 @@ fn add_marks(alloc: Global, order: &mut Vec<usize>, e: &Expr) -> Result<(), NoMo
 
 /// Adds the parts of the expression, the last one first.
 fn push_parts<'e>(todo: &mut Vec<&'e Expr>, e: &'e Expr) -> Result<(), NoMove> {
-    for k in (0..parts_in(e)).rev() {
+    for k in (0..part_count(e)).rev() {
         if let Some(inner) = part(e, k) {
             todo.push(inner)?;
         }
     }
     Ok(())
-}
-
-/// How many parts the expression has.
-fn parts_in(e: &Expr) -> u32 {
-    for k in 0..MOST_LOOKS {
-        if part(e, k).is_none() {
-            return k;
-        }
-    }
-    MOST_LOOKS
 }
 
 /// The body e of a loop, behind what leaves these of its states, in this order; nothing where that

@@ -1,7 +1,7 @@
 // What networks cost: about how many instructions a sample takes.
 
 use crate::chain::{head, last};
-use expr_improve::{arr_cost, made_of};
+use expr_improve::{arr_cost, made_of, total};
 use leaf_core::Expr;
 use net_tree::{Members, Net, NetChild};
 
@@ -21,30 +21,30 @@ fn cost_to(net: &Net<Expr>, depth: u32) -> u64 {
     }
     let depth = depth - 1;
     match net {
-        Net::Arr(e) => sum(&[45, arr_cost(e)]),
+        Net::Arr(e) => total(&[45, arr_cost(e)]),
         Net::Seq(f, g) => {
             let between = cost_between(f.get(), head(g.get()));
             cost_of_two(f, g, 1, depth).saturating_add(between)
         }
-        Net::First(f) => sum(&[200, cost_to(f.get(), depth)]),
-        Net::InitialOut(_, f) | Net::InitialIn(_, f) => sum(&[90, cost_to(f.get(), depth)]),
-        Net::Par(fs) => sum(&[200, cost_of_members(fs, 30, depth)]),
+        Net::First(f) => total(&[200, cost_to(f.get(), depth)]),
+        Net::InitialOut(_, f) | Net::InitialIn(_, f) => total(&[90, cost_to(f.get(), depth)]),
+        Net::Par(fs) => total(&[200, cost_of_members(fs, 30, depth)]),
         Net::LoopPre(_, f) => {
             let kept = cost_kept(last(f.get()), None, true);
-            sum(&[275, cost_to(f.get(), depth), kept])
+            total(&[275, cost_to(f.get(), depth), kept])
         }
-        Net::Switch(f, t) | Net::DSwitch(f, t) => sum(&[150, cost_of_two(f, t, 1, depth) / 2]),
-        Net::RSwitch(f, t) | Net::DrSwitch(f, t) => sum(&[150, cost_of_two(f, t, 3, depth) / 4]),
+        Net::Switch(f, t) | Net::DSwitch(f, t) => total(&[150, cost_of_two(f, t, 1, depth) / 2]),
+        Net::RSwitch(f, t) | Net::DrSwitch(f, t) => total(&[150, cost_of_two(f, t, 3, depth) / 4]),
         Net::KSwitch(f, e, t) => {
-            let all = sum(&[cost_to(f.get(), depth), cost_of_two(e, t, 1, depth)]);
-            sum(&[200, all / 2])
+            let all = total(&[cost_to(f.get(), depth), cost_of_two(e, t, 1, depth)]);
+            total(&[200, all / 2])
         }
         Net::PSwitch(r, fs, e, t) => {
             let members = cost_of_members(fs, arr_cost(r), depth);
-            sum(&[300, sum(&[members, cost_of_two(e, t, 1, depth)]) / 2])
+            total(&[300, total(&[members, cost_of_two(e, t, 1, depth)]) / 2])
         }
         Net::RpSwitch(fs, _, t) => {
-            sum(&[300, cost_of_members(fs, 30, depth), cost_to(t.get(), depth)])
+            total(&[300, cost_of_members(fs, 30, depth), cost_to(t.get(), depth)])
         }
         _ => cost_of_cell(net),
     }
@@ -54,7 +54,7 @@ fn cost_to(net: &Net<Expr>, depth: u32) -> u64 {
 fn cost_of_cell(net: &Net<Expr>) -> u64 {
     match net {
         Net::Delay(..) => 300,
-        Net::AccumBy(g, _) => sum(&[90, arr_cost(g) / 3]),
+        Net::AccumBy(g, _) => total(&[90, arr_cost(g) / 3]),
         Net::Old(_) => 60,
         _ => 90,
     }
@@ -65,7 +65,7 @@ fn cost_of_cell(net: &Net<Expr>) -> u64 {
 fn cost_of_two(f: &NetChild<Expr>, g: &NetChild<Expr>, times: u64, depth: u32) -> u64 {
     let first = cost_to(f.get(), depth);
     let second = cost_to(g.get(), depth);
-    sum(&[first, second.saturating_mul(times)])
+    total(&[first, second.saturating_mul(times)])
 }
 
 /// What the members cost, each this much more than it costs alone.
@@ -73,16 +73,7 @@ fn cost_of_two(f: &NetChild<Expr>, g: &NetChild<Expr>, times: u64, depth: u32) -
 fn cost_of_members(fs: &Members<Expr>, each: u64, depth: u32) -> u64 {
     let mut all: u64 = 0;
     for f in fs.as_slice() {
-        all = sum(&[all, each, cost_to(f, depth)]);
-    }
-    all
-}
-
-/// The sum, or the greatest number where it is more.
-fn sum(costs: &[u64]) -> u64 {
-    let mut all: u64 = 0;
-    for cost in costs {
-        all = all.saturating_add(*cost);
+        all = total(&[all, each, cost_to(f, depth)]);
     }
     all
 }
@@ -90,8 +81,8 @@ fn sum(costs: &[u64]) -> u64 {
 /// What it costs to hand on from a network to the one behind it.
 fn cost_between(f: &Net<Expr>, next: &Net<Expr>) -> u64 {
     match f {
-        Net::Seq(..) => sum(&[90, cost_kept(last(f), Some(next), false)]),
-        _ => sum(&[45, cost_kept(f, Some(next), false)]),
+        Net::Seq(..) => total(&[90, cost_kept(last(f), Some(next), false)]),
+        _ => total(&[45, cost_kept(f, Some(next), false)]),
     }
 }
 
@@ -120,5 +111,5 @@ pub(crate) fn is_cell(net: &Net<Expr>) -> bool {
 
 /// What a chain costs where this stands behind it, or where it is the body of a loop.
 pub(crate) fn cost_before(chain: &Net<Expr>, next: Option<&Net<Expr>>, in_loop: bool) -> u64 {
-    sum(&[net_cost(chain), cost_kept(last(chain), next, in_loop)])
+    total(&[net_cost(chain), cost_kept(last(chain), next, in_loop)])
 }
