@@ -1,12 +1,12 @@
 // The laws as a table.
 
-ghost use Rattle.std.specs.Prelude.{◌≡◌};
+ghost use Rattle.std.specs.Prelude.{◌≡◌, [], get_or, map};
 ghost use Rattle.expr_laws.specs.Table.{left_at, right_at, rule_at};
 
 use Rule::{Compare, Compute, Constant, Nothing, Pick, Sides, Spread, Turn};
 use law_patterns::{
     ADD, EVENT, F, FALSE, FST, G, H, I, IF, LawLine, MUL, NEG, NONE, NOT, ON, PAIR, SND, SUB, Sym,
-    THEN, TRUE, X, line_at,
+    THEN, TRUE, X,
 };
 use net_tree::LAST_EXPRESSION_LAW;
 
@@ -74,5 +74,17 @@ pub fn law_rule(number: u8) -> LawLine<Rule, Sym>
     ensures left { result.1.now ≡ left_at number }
     ensures right { result.2.now ≡ right_at number }
 {
-    line_at(&LAWS, number, (Nothing, &[], &[]))
+    line_at(&LAWS, number)
+}
+
+/// The law of a number, in a table from 0; no law outside.
+fn line_at(laws: &'static [LawLine<Rule, Sym>], number: u8) -> LawLine<Rule, Sym>
+    ensures rule { result.0 ≡ get_or (map (λ law. law.0) laws.now) number Rule.Nothing }
+    ensures left { result.1.now ≡ get_or (map (λ law. law.1.now) laws.now) number [] }
+    ensures right { result.2.now ≡ get_or (map (λ law. law.2.now) laws.now) number [] }
+{
+    match laws.get(usize::from(number)) {
+        Some(law) => *law,
+        None => (Nothing, &[], &[]),
+    }
 }

@@ -30,4 +30,4 @@ pub use sym::{
     ADD, EVENT, F, FALSE, FST, G, H, I, IF, Letter, MUL, NEG, NONE, NOT, ON, PAIR, SND, SUB, Sym,
     THEN, TRUE, UNIT, X,
 };
-pub use table::{LawLine, line_at};
+pub use table::LawLine;

@@ -1,6 +1,6 @@
 // The laws as a table.
 
-ghost use Rattle.std.specs.Prelude.{◌≡◌};
+ghost use Rattle.std.specs.Prelude.{◌≡◌, [], get_or, map};
 ghost use Rattle.law_rules.specs.Table.{left_at, right_at, rule_at};
 
 use NetSym::{
@@ -11,7 +11,7 @@ use Rule::{
     BeforeMembers, ElementsApart, MembersApart, Nothing, OneMember, Resumed, Sides, Unchanging,
     WithoutInput,
 };
-use law_patterns::{LawLine, Letter, NetLetter, NetSym, Sym, line_at};
+use law_patterns::{LawLine, Letter, NetLetter, NetSym, Sym};
 use net_tree::LAST_NETWORK_LAW;
 
 /// What a law is.
@@ -318,5 +318,17 @@ pub(crate) fn law_rule(number: u8) -> LawLine<Rule, NetSym>
     ensures left { result.1.now ≡ left_at number }
     ensures right { result.2.now ≡ right_at number }
 {
-    line_at(&LAWS, number, (Nothing, &[], &[]))
+    line_at(&LAWS, number)
+}
+
+/// The law of a number, in a table from 0; no law outside.
+fn line_at(laws: &'static [LawLine<Rule, NetSym>], number: u8) -> LawLine<Rule, NetSym>
+    ensures rule { result.0 ≡ get_or (map (λ law. law.0) laws.now) number Rule.Nothing }
+    ensures left { result.1.now ≡ get_or (map (λ law. law.1.now) laws.now) number [] }
+    ensures right { result.2.now ≡ get_or (map (λ law. law.2.now) laws.now) number [] }
+{
+    match laws.get(usize::from(number)) {
+        Some(law) => *law,
+        None => (Nothing, &[], &[]),
+    }
 }
