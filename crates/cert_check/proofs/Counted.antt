@@ -1,14 +1,15 @@
 -- What is in scope where a part stands, counted.
-use Rattle.std.proofs.Common.{◌≡◌, ℕ, zero, suc, ◌+◌, ◌<◌, List, [], ◌∷◌, length, Some, option_map, refl, sym, ap, ◌∙◌, subst, arith, length-append}
+use Rattle.std.proofs.Common.{◌≡◌, ℕ, zero, suc, ◌+◌, List, [], ◌∷◌, length, Some, option_map, refl, sym, ap, ◌∙◌, subst, arith, length-append}
 use Rattle.sample_core.specs.TypeTree.{TypeTree}
 use Rattle.leaf_core.specs.Expression.{Expression}
-use Rattle.net_tree.specs.Network.{Network, Networks, no_members, and_member}
+use Rattle.net_tree.specs.Network.{Network}
 use Rattle.net_meaning.specs.Typing.{Arrow, arrow, copies, members}
 use Rattle.net_tree.specs.Place as P
-use Rattle.net_tree.specs.Place.{Tree, a_leaf, p_switch_child, member_child}
+use Rattle.net_tree.specs.Place.{Tree, a_leaf}
 use Rattle.net_syntax.specs.Placed.{Bound, bound_in, bound_behind, bound_started, placed, placed_at}
 use Rattle.net_syntax.specs.Standing.{Standing, ChildStands, continuation_in_switch, continuation_in_r_switch, continuation_in_k_switch, member_in_p_switch, event_in_p_switch, continuation_in_p_switch, member_in_rp_switch, choice_in_rp_switch, continuation_in_rp_switch, StandsAt, at_network, inside_network, inside_expression}
 use Rattle.net_syntax.proofs.Children.{event_is, continuation_is}
+use Rattle.net_syntax.proofs.SamePlaces.{member_below}
 
 -- R has as much more in scope than the types Ps and Os as b says
 record Counts (Ps : List TypeTree) (Os : List Arrow) (b : Bound) (R : Standing) : Type 0 where
@@ -18,11 +19,6 @@ record Counts (Ps : List TypeTree) (Os : List Arrow) (b : Bound) (R : Standing) 
 length-copies : (n : ℕ) (o : Arrow) → length (copies n o) ≡ n
 length-copies zero o = refl
 length-copies (suc n) o = ap suc (length-copies n o)
-
-member_below : (fs : Networks Expression) (k : ℕ) → k < members fs → p_switch_child fs k ≡ member_child
-member_below no_members k l = absurd (omega arith)
-member_below (and_member f fs) zero l = refl
-member_below (and_member f fs) (suc k) l = let l' : k < members fs = omega arith in member_below fs k l'
 
 child_counts : (Ps : List TypeTree) (Os : List Arrow) (A : TypeTree) (net : Network Expression) (k : ℕ) (R : Standing) → ChildStands Ps Os A net k R
     → Counts Ps Os (bound_in net k) R

@@ -12,12 +12,8 @@ use Rattle.net_syntax.specs.Rewriting.{Rewrites}
 use Rattle.net_tree.specs.LawStep.{Step}
 use Rattle.net_tree.specs.declared.law_step.Law.{Law}
 use Rattle.net_tree.specs.declared.law_step.Direction.{Direction}
-use Rattle.expr_laws.proofs.Numbers.{one_right_side}
-use Rattle.law_rules.proofs.Numbers.{one-right_side}
-use Rattle.expr_laws.specs.Answer as E
-use Rattle.expr_laws.specs.Answer.{ExpressionAnswer}
-use Rattle.law_rules.specs.Answer as N
-use Rattle.law_rules.specs.Answer.{NetworkAnswer}
+use Rattle.expr_laws.proofs.Answered.{one_answer as one_expression}
+use Rattle.law_rules.proofs.Answered.{one_answer as one_network}
 use Rattle.cert_check.specs.TreeAnswer.{TreeAnswer}
 use Rattle.cert_check.specs.Derives.{Answered, Next, Steps, no_step, step_then, Derives}
 use Rattle.cert_check.specs.declared.answer.Accepted.{Accepted}
@@ -27,23 +23,14 @@ use Rattle.cert_check.specs.CheckAnswer.{NowhereIn, Unmatched, Untyped, FirstFai
 use Rattle.cert_check.specs.Laws.{OneNextLaw, OneCheckAnswerLaw}
 use Rattle.cert_check.specs.declared.derivation.TheConstants.{MOST_STEPS}
 
-one_expression : (law : Law) (direction : Direction) (e : Expression) (given : Option Expression) (r s : Expression)
-    → ExpressionAnswer law direction e given r → ExpressionAnswer law direction e given s → r ≡ s
-one_expression law direction e given r s (E.forward_answer {n = n} is_law) (E.forward_answer is_law') = one_right_side n e r s is_law is_law'
-one_expression law direction e given r s (E.backward_answer is_law) (E.backward_answer is_law') = refl
-
-one_network : (olds : ℕ) (law : Law) (direction : Direction) (f : Network Expression) (given : Option (Network Expression)) (r s : Network Expression)
-    → NetworkAnswer law direction f given olds r → NetworkAnswer law direction f given olds s → r ≡ s
-one_network olds law direction f given r s (N.forward_answer {n = n} is_law) (N.forward_answer is_law') = one-right_side n olds f r s is_law is_law'
-one_network olds law direction f given r s (N.backward_answer is_law) (N.backward_answer is_law') = refl
-
-answer_unique : (olds : ℕ) (law : Law) (direction : Direction) (tree : Tree Expression) (given : Option (Tree Expression)) (r s : Tree Expression)
+-- a law has one answer at a tree
+pub answer_unique : (olds : ℕ) (law : Law) (direction : Direction) (tree : Tree Expression) (given : Option (Tree Expression)) (r s : Tree Expression)
     → TreeAnswer olds law direction tree given r → TreeAnswer olds law direction tree given s → r ≡ s
 answer_unique olds law direction (a_leaf e) None (a_leaf r) (a_leaf s) x y = ap a_leaf (one_expression law direction e None r s x y)
 answer_unique olds law direction (a_leaf e) (Some (a_leaf g)) (a_leaf r) (a_leaf s) x y = ap a_leaf (one_expression law direction e (Some g) r s x y)
-answer_unique olds law direction (a_network f) None (a_network r) (a_network s) x y = ap a_network (one_network olds law direction f None r s x y)
+answer_unique olds law direction (a_network f) None (a_network r) (a_network s) x y = ap a_network (one_network law direction f None olds r s x y)
 answer_unique olds law direction (a_network f) (Some (a_network g)) (a_network r) (a_network s) x y =
-    ap a_network (one_network olds law direction f (Some g) r s x y)
+    ap a_network (one_network law direction f (Some g) olds r s x y)
 answer_unique olds law direction (a_leaf e) None (a_network r) s x y = absurd x
 answer_unique olds law direction (a_leaf e) None (a_leaf r) (a_network s) x y = absurd y
 answer_unique olds law direction (a_leaf e) (Some (a_leaf g)) (a_network r) s x y = absurd x
