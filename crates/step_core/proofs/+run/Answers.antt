@@ -74,7 +74,7 @@ flow::flow-flow_cell-requires g t c = elim c.in-IPre.is [
 
 pub flow::flow_first-returns-in_ok-done-in-Ok : goal.flow::flow_first-returns-in_ok-done-in-Ok
 flow::flow_first-returns-in_ok-done-in-Ok g t c =
-    first_flows _ _ _ _ _ _ _ _ _ _ _ _ _ c.first.ensures c.second.ensures c.in_ok-done-in-Ok.ensures c.in-Ok.ensures c.node.ensures
+    first_flows _ _ _ _ _ _ _ _ _ _ _ _ _ c.left.ensures c.right.ensures c.in_ok-done-in-Ok.ensures c.in-Ok.ensures c.node.ensures
 
 pub flow::flow_loop-flow-done-requires : goal.flow::flow_loop-flow-done-requires
 flow::flow_loop-flow-done-requires g t c κs within =
@@ -157,7 +157,7 @@ flow::flow_restart-returns-in_ok-one-in-Some g t c =
 
 pub flow::flow_restart-returns-in_ok-run_place-in-None : goal.flow::flow_restart-returns-in_ok-run_place-in-None
 flow::flow_restart-returns-in_ok-run_place-in-None g t c =
-    restart_goes _ _ _ _ _ _ _ _ _ _ _ _ _ c.first.ensures (sym c.restart_of.ensures ∙ ap restart_found c.in-None.is) c.in_ok-run_place-in-None.ensures
+    restart_goes _ _ _ _ _ _ _ _ _ _ _ _ _ c.left.ensures (sym c.restart_of.ensures ∙ ap restart_found c.in-None.is) c.in_ok-run_place-in-None.ensures
     c.node-in-None.ensures
 
 pub run::run_place-run_at_next-requires : goal.run::run_place-run_at_next-requires
@@ -186,12 +186,12 @@ run::run_in-returns-in_ok-visits-in_default-net g t c =
 
 pub run::run_switch-returns-in_ok-done-in-Ok-None : goal.run::run_switch-returns-in_ok-done-in-Ok-None
 run::run_switch-returns-in_ok-done-in-Ok-None g t c =
-    let fires = fires_by _ _ (push_param (scope_of c.args.on.now.env.now)) _ _ c.second.ensures c.in-Ok-None.field-0-is c.in-Ok-None.ensures in
-    switch_stays _ _ _ _ _ _ _ _ _ _ _ _ _ _ _ _ _ c.requires c.end.ensures c.in-Ok.ensures fires c.first.ensures c.in_ok-done-in-Ok-None.ensures c.node-in-Ok-None.ensures
+    let fires = fires_by _ _ (push_param (scope_of c.args.on.now.env.now)) _ _ c.right.ensures c.in-Ok-None.field-0-is c.in-Ok-None.ensures in
+    switch_stays _ _ _ _ _ _ _ _ _ _ _ _ _ _ _ _ _ c.requires c.end.ensures c.in-Ok.ensures fires c.left.ensures c.in_ok-done-in-Ok-None.ensures c.node-in-Ok-None.ensures
 
 pub run::run_switch-returns-in_ok-two-in-Ok-Some : goal.run::run_switch-returns-in_ok-two-in-Ok-Some
 run::run_switch-returns-in_ok-two-in-Ok-Some g t c =
-    let fires = fires_by _ _ (push_param (scope_of c.args.on.now.env.now)) _ _ c.second.ensures c.in-Ok-Some.field-0-is c.in-Ok-Some.ensures in
+    let fires = fires_by _ _ (push_param (scope_of c.args.on.now.env.now)) _ _ c.right.ensures c.in-Ok-Some.field-0-is c.in-Ok-Some.ensures in
     switch_ends _ _ _ _ _ _ _ _ _ _ _ _ _ _ _ _ _ _ _ _ c.requires.2 c.in-Ok.ensures fires.1 fires.2 c.started.ensures.scope c.started.ensures.past
     (subst (λ r. RunsWhere (g.R.Rows.keys r) (standing (rows_in c.args.over.net.now) (scope_of c.started.result.env.now)
     (past_in c.started.result.before c.started.result.dt)) (datum_of c.args.x.now) (running_of c.run_in-two.new.running) (datum_of c.run_in-two.new.out) c.in_ok-two-in-Ok-Some.field-0)
@@ -366,7 +366,7 @@ flow::flow_late_restart-start_under-two-requires g t c κs within = (
 
 pub flow::flow_late_restart-returns-in_ok-run_place-in-None : goal.flow::flow_late_restart-returns-in_ok-run_place-in-None
 flow::flow_late_restart-returns-in_ok-run_place-in-None g t c =
-    restart_goes _ _ _ _ _ _ _ _ _ _ _ _ _ c.first.ensures (sym c.restart_of.ensures ∙ ap restart_found c.in-None.is) c.in_ok-run_place-in-None.ensures
+    restart_goes _ _ _ _ _ _ _ _ _ _ _ _ _ c.left.ensures (sym c.restart_of.ensures ∙ ap restart_found c.in-None.is) c.in_ok-run_place-in-None.ensures
     c.node-in-None.ensures
 
 pub flow::flow_late_restart-returns-in_ok-push-in-Ok-two : goal.flow::flow_late_restart-returns-in_ok-push-in-Ok-two
@@ -444,7 +444,7 @@ collection::run_turned-returns-in_ok-all-in-Some g t c =
 
 pub collection::run_turned-returns-in-Some-before : goal.collection::run_turned-returns-in-Some-before
 collection::run_turned-returns-in-Some-before g t c =
-    if_ok c.step_each.result _ _ (λ n h. turned_none _ _ _ _ _ _ _ _ _ _ _ _ n (sym c.restart_of.ensures ∙ ap restart_found c.in-None.is) c.first.ensures
+    if_ok c.step_each.result _ _ (λ n h. turned_none _ _ _ _ _ _ _ _ _ _ _ _ n (sym c.restart_of.ensures ∙ ap restart_found c.in-None.is) c.left.ensures
     (before_listed _ _ _ _ c.args.on.now.dt _ (ap (λ b. past_in b c.args.on.now.dt) c.in-Some-before.is) c.as_slice-in-Some-before.ensures) h) c.step_each.ensures
 
 pub collection::resume_each-run_at_next-requires : goal.collection::resume_each-run_at_next-requires

@@ -6,5 +6,5 @@ use Rattle.step_core.proofs.choice.chosen_by.Goals as goal
 
 pub returns-in-Ok : goal.returns-in-Ok
 returns-in-Ok g c =
-    chosen_listed _ _ _ (rows_in c.args.starts.now) (scope_of c.args.on.now.env.now) (datum_of c.args.which.now) _ _ _ c.first.ensures c.second.ensures
+    chosen_listed _ _ _ (rows_in c.args.starts.now) (scope_of c.args.on.now.env.now) (datum_of c.args.which.now) _ _ _ c.left.ensures c.right.ensures
     c.elements.ensures c.in_ok-chosen.ensures c.in-Ok.ensures
