@@ -10,8 +10,12 @@ use Rattle.net_tree.specs.NetworkView.{members_of, tree_of, trees}
 use Rattle.net_tree.specs.Place.{member, member_child, continuation_child, p_switch_child}
 use Rattle.net_syntax.specs.Placed.{bound, bound_behind, bound_in}
 use Rattle.net_meaning.specs.Typing.{members}
-use Rattle.net_meaning.proofs.NetMembers.{member-there, member-missing}
+use Rattle.net_meaning.proofs.NetMembers.{members-trees, member-there, member-missing}
 use Rattle.net_tree.specs.declared.net.Net.{Net}
+
+-- by a name that an attribute can cite
+pub counted : (all : List (Net Expr)) → members (trees (members_of all)) ≡ length all
+counted = members-trees
 
 pub member_found : (all : List (Net Expr)) (fs : Networks Expr) (k : ℕ) (r : Option (Bor (Net Expr))) → members_of all ≡ fs
     → IfSome r (λ x. x.now ≡ get_or all k x.now) → MatchOption r (length all ≤ k) (λ x. (k < length all) × HoldsAt (λ y. x.now ≡ y) all k)
