@@ -1,16 +1,14 @@
 -- What differs first below a position differs first there.
-use Rattle.std.proofs.Common.{◌≡◌, ◌↔◌, IsTrue, Bool, true, false, ℕ, ◌+◌, below_more, List, [], ◌∷◌, ◌++◌, Some, sym, ap, ◌∙◌, subst}
+use Rattle.std.proofs.Common.{◌≡◌, ◌↔◌, IsTrue, Bool, true, false, ℕ, ◌+◌, List, [], ◌∷◌, ◌++◌, Some, sym, ap, ◌∙◌, subst}
 use Rattle.std.proofs.lemmas.List.{append_assoc, append-nil}
 use Rattle.leaf_core.specs.Expression.{Expression}
 use Rattle.net_tree.specs.Place.{Tree}
-use Rattle.net_compare.specs.Difference.{DifferFirst, SameBefore, SameNode, differ_below, differ_here, tree_child}
+use Rattle.net_syntax.specs.Placed.{tree_child}
+use Rattle.net_compare.specs.Difference.{DifferFirst, SameBefore, SameNode, differ_below, differ_here}
 
 -- what differs first in the two trees that stand at a position of two others differs first in these
 abbrev pub Carries : Tree Expression → Tree Expression → List ℕ → Tree Expression → Tree Expression → Type 0
 Carries a b path c d = (p : List ℕ) (first second : Tree Expression) → DifferFirst c d p first second → DifferFirst a b (path ++ p) first second
-
-pub carries_here : (a b : Tree Expression) → Carries a b [] a b
-carries_here a b p first second x = x
 
 pub carries_below : (a b c d e f : Tree Expression) (path more : List ℕ) (k : ℕ) → more ≡ path ++ k ∷ [] → Carries a b path c d → SameNode c d → SameBefore k c d
     → tree_child c k ≡ Some e → tree_child d k ≡ Some f → Carries a b more e f
@@ -23,10 +21,6 @@ pub carried : (a b c d first second : Tree Expression) (path p : List ℕ) → C
 carried a b c d first second path p carries differ e i j =
     subst (λ ks. DifferFirst a b ks first second) (append-nil path ∙ sym e)
     (subst (λ t. DifferFirst a b (path ++ []) t second) (sym i) (subst (λ t. DifferFirst a b (path ++ []) c t) (sym j) (carries [] c d (differ_here differ))))
-
--- one child more is the same
-pub same_more : (a b : Tree Expression) (k : ℕ) → SameBefore k a b → tree_child a k ≡ tree_child b k → SameBefore (k + 1) a b
-same_more a b k before here = below_more (λ j. tree_child a j ≡ tree_child b j) k before here
 
 -- what stands at a number in both, where it is the same
 pub same_child : (a b x y : Tree Expression) (k : ℕ) → Some x ≡ tree_child a k → Some y ≡ tree_child b k → x ≡ y → tree_child a k ≡ tree_child b k

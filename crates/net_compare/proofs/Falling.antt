@@ -8,7 +8,7 @@ use Rattle.leaf_core.specs.Parts.{element, part, part_inside}
 use Rattle.leaf_core.proofs.InsideLaws.{nodes_inside}
 use Rattle.net_tree.specs.Network.{Network, Networks, arr, seq, first, par, loop_pre, i_pre, delay, hold, accum_by, after, repeatedly, time, integral, switch, r_switch, k_switch, p_switch, old, initial_out, initial_in, rp_switch, no_members, and_member}
 use Rattle.net_tree.specs.Place.{Tree, a_network, a_leaf, child, member, child_network, collection_child, PSwitchChild, p_switch_child, member_child, event_child, continuation_child, no_child}
-use Rattle.net_compare.specs.Difference.{tree_child}
+use Rattle.net_syntax.specs.Placed.{tree_child}
 
 abbrev mutual
   -- how many networks and expressions a network is made of

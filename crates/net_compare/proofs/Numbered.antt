@@ -11,7 +11,8 @@ use Rattle.net_tree.specs.FormParts.{FormParts, form_number, parts_of}
 use Rattle.net_tree.specs.Place.{Tree, a_network, a_leaf, member, child_inside, child_network, collection_child, PSwitchChild, p_switch_child, member_child, event_child, continuation_child, no_child}
 use Rattle.net_meaning.specs.Typing.{members}
 use Rattle.net_syntax.specs.ChildParts.{child_count}
-use Rattle.net_compare.specs.Difference.{SameBefore, SameNode, elements, number_in, number_inside, tree_child}
+use Rattle.net_syntax.specs.Placed.{tree_child}
+use Rattle.net_compare.specs.Difference.{SameBefore, SameNode, elements, number_in, number_inside}
 
 -- of n entries the one at number k is there just where k is below n
 abbrev Counted : {A : Type 0} → ℕ → ℕ → Option A → Type 0

@@ -1,21 +1,16 @@
 -- Where two trees differ first.
-use Rattle.std.specs.Prelude.{◌≡◌, ℕ, suc, ◌<◌, ℤ, List, [], ◌∷◌, Option, Some, None, option_map}
+use Rattle.std.specs.Prelude.{◌≡◌, ℕ, suc, ◌<◌, ℤ, List, [], ◌∷◌, Option, Some, None}
 use Rattle.sample_core.specs.TypeTree.{TypeTree}
 use Rattle.leaf_core.specs.Expression.{Expression, Expressions, no_more, and_then}
 use Rattle.leaf_core.specs.HashWrites.{tag_of}
 use Rattle.leaf_core.specs.Inside as I
 use Rattle.leaf_core.specs.Inside.{Inside, inside_of}
-use Rattle.leaf_core.specs.Parts.{part}
 use Rattle.net_tree.specs.FormParts as F
 use Rattle.net_tree.specs.FormParts.{FormParts, form_number, parts_of}
 use Rattle.net_tree.specs.Network.{Network}
-use Rattle.net_tree.specs.Place.{Tree, a_network, a_leaf, child}
+use Rattle.net_tree.specs.Place.{Tree, a_network, a_leaf}
 use Rattle.net_meaning.specs.Typing.{members}
-
--- child k of a tree
-abbrev pub tree_child : Tree Expression → ℕ → Option (Tree Expression)
-tree_child (a_network f) k = child f k
-tree_child (a_leaf e) k = option_map a_leaf (part e k)
+use Rattle.net_syntax.specs.Placed.{tree_child}
 
 -- the number in a network's node: of a frozen network, of a delay or a timer, or how many members
 abbrev pub number_in : FormParts Expression → ℕ

@@ -7,7 +7,8 @@ ghost use Rattle.leaf_core.specs.Inside.{inside_of};
 ghost use Rattle.net_tree.specs.FormParts.{parts_of};
 ghost use Rattle.net_tree.specs.NetworkView.{tree_of};
 ghost use Rattle.net_tree.specs.LawStep.{seen};
-ghost use Rattle.net_compare.specs.Difference.{SameLeafNode, SameNetNode, SameNode, literal_inside, number_in, number_inside, tree_child, type_inside};
+ghost use Rattle.net_syntax.specs.Placed.{tree_child};
+ghost use Rattle.net_compare.specs.Difference.{SameLeafNode, SameNetNode, SameNode, literal_inside, number_in, number_inside, type_inside};
 
 use leaf_core::{Expr, Literal, part, same_expr, tag};
 use net_syntax::child;

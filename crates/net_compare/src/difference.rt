@@ -4,7 +4,8 @@ ghost use Rattle.std.specs.Prelude.{◌≡◌, ◌^◌, IfNone, IfOk, IfSome, So
 ghost use Rattle.net_tree.specs.LawStep.{part_of, seen};
 ghost use Rattle.net_tree.specs.NetworkView.{tree_of};
 ghost use Rattle.net_tree.specs.Place.{a_network};
-ghost use Rattle.net_compare.specs.Difference.{DifferFirst, SameBefore, SameNode, tree_child};
+ghost use Rattle.net_syntax.specs.Placed.{tree_child};
+ghost use Rattle.net_compare.specs.Difference.{DifferFirst, SameBefore, SameNode};
 
 use crate::alike::{inner_at, same_node, same_tree};
 use leaf_core::Expr;
