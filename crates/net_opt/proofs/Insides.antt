@@ -13,11 +13,6 @@ use Rattle.net_tree.specs.FormParts as F
 use Rattle.net_tree.proofs.FormLaws.{size_inside}
 use Rattle.net_syntax.proofs.Children.{members_few}
 
--- child k of a network, part k of an expression
-abbrev pub inside : Tree Expression → ℕ → Option (Tree Expression)
-inside (a_network f) k = child f k
-inside (a_leaf e) k = option_map a_leaf (part e k)
-
 -- a child at this number of a network of this size is smaller, and the number is low
 abbrev pub ChildFits : ℕ → ℕ → Tree Expression → Type 0
 ChildFits size k (a_network g) = (network_size g < size) × (k ≤ suc size)

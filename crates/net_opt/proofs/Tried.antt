@@ -15,28 +15,18 @@ use Rattle.net_tree.specs.declared.law_step.Law.{Law}
 use Rattle.net_tree.specs.declared.law_step.Law.TheVariants as L
 use Rattle.net_tree.specs.declared.law_step.Direction.TheVariants.{Forward}
 use Rattle.expr_laws.specs.Answer as E
-use Rattle.expr_laws.proofs.Numbers.{one_right_side}
 use Rattle.law_rules.specs.Answer as N
-use Rattle.law_rules.proofs.Numbers.{one-right_side}
 use Rattle.cert_check.specs.TreeAnswer.{TreeAnswer}
 use Rattle.std.specs.List.{All}
 use Rattle.std.proofs.lemmas.List.Elements.{All-nil, All-push}
 use Rattle.cert_check.proofs.Taken.{steps_more}
 use Rattle.cert_check.specs.Derives.{Answered, Next, Steps, no_step}
+use Rattle.cert_check.proofs.OneAnswer.{answer_unique}
 use Rattle.net_opt.specs.Order.{Before}
 use Rattle.net_opt.specs.Optimising.{IsTried, MayTake, NoneLeft, network_laws, expression_laws, forward_step, NoStepBy, FirstTriedLaw, IsFirst, FirstSteps, none_first, first_then}
 use Rattle.net_opt.specs.Nesting.{IsTooHigh}
 use Rattle.net_opt.specs.Search.{numbers_at, law_at, NoMatchBy, OnlyTooHighBy, NotPut, Passed, PassedAt, FirstAt, FirstWithin, Takes, FoundStep, Puts}
 use Rattle.net_opt.proofs.TooHigh.{too_high}
-
--- what a law answers forward at a tree is one tree
-one_answer : (olds : ℕ) (law : Law) (u r s : Tree Expression) → TreeAnswer olds law Forward u None r → TreeAnswer olds law Forward u None s → r ≡ s
-one_answer olds law (a_network f) (a_network r) (a_network s) (N.forward_answer {n = n} x) (N.forward_answer y) = ap a_network (one-right_side n olds f r s x y)
-one_answer olds law (a_network f) (a_network r) (a_leaf s) x y = absurd y
-one_answer olds law (a_network f) (a_leaf r) s x y = absurd x
-one_answer olds law (a_leaf e) (a_leaf r) (a_leaf s) (E.forward_answer {n = n} x) (E.forward_answer y) = ap a_leaf (one_right_side n e r s x y)
-one_answer olds law (a_leaf e) (a_leaf r) (a_network s) x y = absurd y
-one_answer olds law (a_leaf e) (a_network r) s x y = absurd x
 
 -- what is answered at a place
 answer_there : (t : TypedNetwork) (p : List ℕ) (c : Placed) (law : Law) (new : Tree Expression) → placed_at 0 0 (a_network t.net) p ≡ Some c
@@ -46,7 +36,7 @@ answer_there t p c law new there a =
 
 answered_once : (t : TypedNetwork) (p : List ℕ) (c : Placed) (law : Law) (new other : Tree Expression) → placed_at 0 0 (a_network t.net) p ≡ Some c
     → TreeAnswer c.olds law Forward c.tree None new → Answered t (forward_step law p) other → other ≡ new
-answered_once t p c law new other there is a = one_answer c.olds law c.tree other new (answer_there t p c law other there a) is
+answered_once t p c law new other there is a = answer_unique c.olds law Forward c.tree None other new (answer_there t p c law other there a) is
 
 -- no step by a law whose right side can't stand there
 pub refused_at : (t : TypedNetwork) (p : List ℕ) (c : Placed) (law : Law) (new : Tree Expression) → placed_at 0 0 (a_network t.net) p ≡ Some c

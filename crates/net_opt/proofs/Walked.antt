@@ -9,7 +9,7 @@ use Rattle.leaf_core.specs.Expression.{Expression, nodes_in}
 use Rattle.leaf_core.specs.Parts.{part, part_at}
 use Rattle.net_tree.specs.Network.{Network, network_size}
 use Rattle.net_tree.specs.Place.{◌>>=◌, Tree, a_network, a_leaf, child}
-use Rattle.net_syntax.specs.Placed.{FewBound, Placed, placed, placed_at, bound_in}
+use Rattle.net_syntax.specs.Placed.{FewBound, Placed, placed, placed_at, bound_in, tree_child}
 use Rattle.net_syntax.specs.Standing.{Standing, standing}
 use Rattle.net_syntax.specs.ChildParts.{seen_place}
 use Rattle.net_syntax.specs.declared.place.Place.{Place}
@@ -26,7 +26,7 @@ use Rattle.net_tree.specs.declared.measure.TheConstants.{MOST_SIZE}
 use Rattle.net_opt.specs.Order.{LeftOf, lower, deeper, Before, on_the_way, before_at, before_below, onward}
 use Rattle.net_opt.specs.Search.{Passed, PassedAt, PassedWithin, Settled, FirstAt, FirstWithin, Takes, FoundStep}
 use Rattle.net_opt.specs.Walk.{Limited, Reached}
-use Rattle.net_opt.proofs.Insides.{inside, ChildFits, PartFits, child_fits, part_fits, no_later_child, no_later_part}
+use Rattle.net_opt.proofs.Insides.{ChildFits, PartFits, child_fits, part_fits, no_later_child, no_later_part}
 use Rattle.net_opt.proofs.Beside.{beside}
 use Rattle.net_opt.proofs.Tried.{none_there, none_anywhere, passed_on}
 
@@ -72,10 +72,10 @@ leaf_inside : (m n : ℕ) (o : Option Expression) (d : Placed) → option_map (�
 leaf_inside m n None d h = absurd (none-some d h)
 leaf_inside m n (Some x) d h = ap (λ (y : Placed). Some y.tree) (same_Some (placed m n (a_leaf x)) d h)
 
-pub found_inside : (c d : Placed) (k : ℕ) → placed_at c.params c.olds c.tree (k ∷ []) ≡ Some d → inside c.tree k ≡ Some d.tree
+pub found_inside : (c d : Placed) (k : ℕ) → placed_at c.params c.olds c.tree (k ∷ []) ≡ Some d → tree_child c.tree k ≡ Some d.tree
 found_inside c d k h = go c.params c.olds c.tree h
   where
-    go : (m n : ℕ) (u : Tree Expression) → placed_at m n u (k ∷ []) ≡ Some d → inside u k ≡ Some d.tree
+    go : (m n : ℕ) (u : Tree Expression) → placed_at m n u (k ∷ []) ≡ Some d → tree_child u k ≡ Some d.tree
     go m n (a_network f) h = network_inside (m + (bound_in f k).params) (n + (bound_in f k).olds) (child f k) d h
     go m n (a_leaf e) h = leaf_inside m n (part e k) d h
 
@@ -88,10 +88,10 @@ no_leaf_inside : (m n : ℕ) (o : Option Expression) → option_map (λ x. place
 no_leaf_inside m n None h = refl
 no_leaf_inside m n (Some x) h = absurd (none-some (placed m n (a_leaf x)) (sym h))
 
-pub none_inside : (c : Placed) (k : ℕ) → placed_at c.params c.olds c.tree (k ∷ []) ≡ None → inside c.tree k ≡ None
+pub none_inside : (c : Placed) (k : ℕ) → placed_at c.params c.olds c.tree (k ∷ []) ≡ None → tree_child c.tree k ≡ None
 none_inside c k h = go c.params c.olds c.tree h
   where
-    go : (m n : ℕ) (u : Tree Expression) → placed_at m n u (k ∷ []) ≡ None → inside u k ≡ None
+    go : (m n : ℕ) (u : Tree Expression) → placed_at m n u (k ∷ []) ≡ None → tree_child u k ≡ None
     go m n (a_network f) h = no_network_inside (m + (bound_in f k).params) (n + (bound_in f k).olds) (child f k) h
     go m n (a_leaf e) h = no_leaf_inside m n (part e k) h
 
@@ -148,7 +148,7 @@ part_within k e (Some x) c l s h = subst (Within k (a_leaf e)) (same_Some (a_lea
   low = omega (arith, l, s.1);
 })
 
-within : (k : ℕ) (u c : Tree Expression) → Limited u → inside u k ≡ Some c → Within k u c
+within : (k : ℕ) (u c : Tree Expression) → Limited u → tree_child u k ≡ Some c → Within k u c
 within k (a_network f) c l h =
     child_within k f c l.0 (standing l.1.params l.1.olds l.1.input) (subst (λ o. IfSome o (ChildFits (network_size f) k)) h (child_fits f k))
     (subst (λ o. IfSome o (ChildThere (standing l.1.params l.1.olds l.1.input) f k)) h (child_there l.1.typed k))
@@ -165,8 +165,10 @@ reached_inside t p k c d r h = record {
 pub lower_inside : (k : ℕ) (c d : Placed) → Limited c.tree → placed_at c.params c.olds c.tree (k ∷ []) ≡ Some d → rank d.tree < rank c.tree
 lower_inside k c d l h = (within k c.tree d.tree l (found_inside c d k h)).lower
 
-pub low_number : (k : ℕ) (c d : Placed) → Limited c.tree → placed_at c.params c.olds c.tree (k ∷ []) ≡ Some d → k ≤ 5000001
-low_number k c d l h = (within k c.tree d.tree l (found_inside c d k h)).low
+-- something that the code found has a low number
+pub low_number : {X : Type 0} (see : X → Placed) (k : ℕ) (c : Placed) {o : Option X} {x : X} → Limited c.tree
+    → option_map see o ≡ placed_at c.params c.olds c.tree (k ∷ []) → o ≡ Some x → k ≤ 5000001
+low_number see k c {x = x} l h e = (within k c.tree (see x).tree l (found_inside c (see x) k (sym h ∙ ap (option_map see) e))).low
 
 -- the walk begins at the root
 pub reached_root : (t : TypedNetwork) → WithinLimits t → Reached t [] (placed 0 0 (a_network t.net))
@@ -181,7 +183,7 @@ no_part : (o : Option Expression) → option_map a_leaf o ≡ None → o ≡ Non
 no_part None h = refl
 no_part (Some x) h = absurd (none-some (a_leaf x) (sym h))
 
-pub nothing_behind : (m n k j : ℕ) (q : List ℕ) (u : Tree Expression) → inside u k ≡ None → k ≤ j → placed_at m n u (j ∷ q) ≡ None
+pub nothing_behind : (m n k j : ℕ) (q : List ℕ) (u : Tree Expression) → tree_child u k ≡ None → k ≤ j → placed_at m n u (j ∷ q) ≡ None
 nothing_behind m n k j q (a_network f) h l =
     ap (λ o. o >>= (λ u. placed_at (m + (bound_in f j).params) (n + (bound_in f j).olds) u q)) (no_later_child f k (j - k) j h (omega arith))
 nothing_behind m n k j q (a_leaf e) h l =

@@ -9,7 +9,7 @@ use Rattle.leaf_core.specs.Expression.{Expression}
 use Rattle.leaf_core.specs.Parts.{part}
 use Rattle.leaf_core.specs.PartWalk.{part_input, part_type_at}
 use Rattle.net_tree.specs.Place.{◌>>=◌, Tree, a_network, a_leaf}
-use Rattle.net_syntax.specs.Placed.{Placed, placed, placed_at}
+use Rattle.net_syntax.specs.Placed.{Placed, placed, placed_at, tree_child}
 use Rattle.net_syntax.specs.Standing.{Standing, alone, TypeAt}
 use Rattle.net_syntax.specs.StandingWalk.{taking, type_walk_at}
 use Rattle.net_syntax.specs.StandingWalk as W
@@ -17,18 +17,12 @@ use Rattle.net_syntax.proofs.FoundTypes.{type_there, nothing_stands}
 use Rattle.net_meaning.specs.TypedNetwork.{TypedNetwork}
 use Rattle.net_meaning.specs.NetworkLimits.{WithinLimits}
 use Rattle.net_opt.specs.Walk.{Reached}
-use Rattle.net_opt.proofs.Insides.{inside}
 use Rattle.net_opt.proofs.Walked.{found_inside, reached_root, reached_inside}
 use Rattle.net_view.specs.Listed.{IsInside}
 use Rattle.net_view.specs.Outline.{OutlinedLine, line_of, IsLine, IsOutline}
 use Rattle.net_view.specs.Walked.{inside_tree, IsWalked, IsLineBelow, AddsLines}
 use Rattle.net_view.specs.declared.lines.OutlineLine.{OutlineLine}
 use Rattle.net_view.proofs.Paths.{IsUpTo, inside_at, paths_begin, paths_more, paths_end, found_positions}
-
--- what a stage gets behind a network that stands there
-pub got_behind : (S : Standing) (o : Option TypeTree) → option_map (λ (s : Standing). s.input) (o >>= (λ A. option_map (λ Q. taking Q A) (Some S))) ≡ o
-got_behind S None = refl
-got_behind S (Some A) = refl
 
 -- the types below what is inside a tree are those below the tree
 leaf_walk : (S R : Standing) (e : Expression) (k : ℕ) (v : Tree Expression) (q : List ℕ) (o : Option Expression) (i : Option TypeTree) → part e k ≡ o
@@ -41,7 +35,7 @@ leaf_walk S R e k v q (Some c) (Some B) a b h j =
     let is : a_leaf c ≡ v = same_Some (a_leaf c) v h in
     found ∙ ap (λ z. type_walk_at z (a_leaf c) q) at ∙ ap (λ z. type_walk_at R z q) is
 
-walk_inside : (S R : Standing) (u v : Tree Expression) (k : ℕ) (q : List ℕ) → inside u k ≡ Some v → inside_tree S u k ≡ Some R
+walk_inside : (S R : Standing) (u v : Tree Expression) (k : ℕ) (q : List ℕ) → tree_child u k ≡ Some v → inside_tree S u k ≡ Some R
     → type_walk_at S u (k ∷ q) ≡ type_walk_at R v q
 walk_inside S R (a_network f) v k q h j =
     ap (λ o. o >>= (λ c. W.inside S f k >>= (λ Q. type_walk_at Q c q))) h ∙ ap (λ o. o >>= (λ Q. type_walk_at Q v q)) j
@@ -53,7 +47,7 @@ leaf_nowhere S e k v None i a b h j = absurd (none-some v h)
 leaf_nowhere S e k v (Some c) None a b h j = simp (a, b) refl
 leaf_nowhere S e k v (Some c) (Some B) a b h j = absurd (none-some (taking S B) (sym j))
 
-walk_nowhere : (S : Standing) (u v : Tree Expression) (k : ℕ) → inside u k ≡ Some v → inside_tree S u k ≡ None → type_walk_at S u (k ∷ []) ≡ None
+walk_nowhere : (S : Standing) (u v : Tree Expression) (k : ℕ) → tree_child u k ≡ Some v → inside_tree S u k ≡ None → type_walk_at S u (k ∷ []) ≡ None
 walk_nowhere S (a_network f) v k h j =
     ap (λ o. o >>= (λ c. W.inside S f k >>= (λ Q. type_walk_at Q c []))) h ∙ ap (λ o. o >>= (λ Q. type_walk_at Q v [])) j
 walk_nowhere S (a_leaf e) v k h j = leaf_nowhere S e k v (part e k) (part_input S.params S.input e k) refl refl h j

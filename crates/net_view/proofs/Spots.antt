@@ -7,11 +7,13 @@ use Rattle.std.proofs.lemmas.Option.{none-some, same_Some}
 use Rattle.std.proofs.lemmas.Nat.{mul-le}
 use Rattle.std.proofs.Math.Nat.{div-mul-le_self, mul_comm}
 use Rattle.sample_core.specs.TypeTree.{TypeTree}
+use Rattle.sample_core.proofs.Numbers.{parts_of}
 use Rattle.leaf_core.specs.Expression.{Expression, height_of, nodes_in}
 use Rattle.leaf_core.specs.ExpressionLimits.{expression_fits, TypedWithin, ExpressionTypedWithin}
 use Rattle.leaf_core.specs.Parts.{part, with_part, with_part_at}
 use Rattle.leaf_core.specs.PartWalk.{part_input, part_type_at}
 use Rattle.leaf_core.proofs.WithinParts.{WithinPart, within_part}
+use Rattle.leaf_core.proofs.PartTypes.{value_is}
 use Rattle.net_tree.specs.Network.{Network}
 use Rattle.net_tree.specs.Weight.{weight}
 use Rattle.net_tree.specs.Height.{height}
@@ -20,14 +22,14 @@ use Rattle.net_tree.specs.LawStep.{Step, part_of}
 use Rattle.net_tree.specs.declared.law_step.Tree as C
 use Rattle.net_tree.specs.declared.law_step.Law.{Law}
 use Rattle.net_tree.specs.declared.law_step.Direction.TheVariants.{Forward}
-use Rattle.net_syntax.specs.Placed.{Placed, placed, placed_at, replaced}
+use Rattle.net_syntax.specs.Placed.{Placed, placed, placed_at, replaced, tree_child}
 use Rattle.net_syntax.specs.Standing.{Standing, alone, TreeWithin}
 use Rattle.net_syntax.specs.StandingWalk as W
 use Rattle.net_meaning.specs.TypedNetwork.{TypedNetwork}
 use Rattle.net_meaning.specs.NetworkLimits.{WithinLimits, NetTypedWithin}
 use Rattle.net_types.specs.KeptTypes.{same_type, kept_in_leaf, both_there, type_kept}
 use Rattle.net_types.proofs.Holes.{Hole, hole, found_there}
-use Rattle.net_types.proofs.Rewritings.{rewritten, none_unkept}
+use Rattle.net_types.proofs.Rewritings.{rewritten, none_unkept, the_net}
 use Rattle.cert_check.specs.TreeAnswer.{TreeAnswer}
 use Rattle.cert_check.specs.Derives.{Next}
 use Rattle.cert_check.specs.StepAnswers.{IsTreeAnswer}
@@ -35,23 +37,19 @@ use Rattle.cert_check.proofs.StandsNow.{next_there}
 use Rattle.net_opt.specs.Optimising.{forward_step}
 use Rattle.net_opt.specs.Order.{Before}
 use Rattle.net_opt.specs.Walk.{Reached}
-use Rattle.net_opt.proofs.Insides.{inside}
 use Rattle.net_opt.proofs.Tried.{refused_at}
-use Rattle.net_opt.proofs.Walked.{found_inside, placed_here, reached_inside}
+use Rattle.net_opt.proofs.Walked.{found_inside, reached_inside}
 use Rattle.net_view.specs.Listed.{InOrder, Lists, AddsPositions, IsInside}
 use Rattle.net_view.specs.Possible.{Possible, EarlierStep, earlier_position, IsFoundBy, IsPossible, ListsSteps, ArePossible, ArePossibleAt, MayBeTaken, changing, possible_of}
 use Rattle.net_view.specs.Spots.{IsRoomy, IsRoomyTree, IsNewRoom, IsRoomBelow, fits_there, kept_in_room, kept_below, IsAround, MayStand, GrowsLittle, AtPositions, AddsSteps, AddsStepsBelow}
 use Rattle.net_view.specs.Walked.{inside_tree}
 use Rattle.net_view.specs.declared.possible.PossibleStep.{PossibleStep}
 use Rattle.net_view.proofs.Listings.{order_mapped, lists_same, lists_joined}
-use Rattle.net_view.proofs.Paths.{IsUpTo, inside_at, none_below, order_behind, paths_begin, paths_more, paths_end, found_positions, no_positions}
+use Rattle.net_view.proofs.Paths.{IsUpTo, inside_at, order_behind, paths_begin, paths_more, paths_end, found_positions, no_positions}
 use Rattle.net_view.proofs.Stepping.{steps_in, no_positions_yet, steps_more, all_possible}
 use Rattle.net_view.proofs.Putting.{Has, Put, what_is_there, part_put}
 use Rattle.net_view.proofs.Heavier.{whole_times, whole_light}
 use Rattle.net_view.proofs.Higher.{whole_rises, whole_low}
-
-value_is : {X : Type 0} (P : X → Type 0) {o : Option X} {x : X} → o ≡ Some x → IfSome o P → P x
-value_is P e h = subst (λ o. IfSome o P) e h
 
 -- the walk begins at the root
 pub around_start : (t : TypedNetwork) (p : List ℕ) (c : Placed) (S : Standing) (high more : ℕ) → WithinLimits t → p ≡ [] → S ≡ alone t.input
@@ -220,7 +218,7 @@ around_inside t p r k high more high' more' c d S R way a found stands left = go
         subst (λ z. IsAround t r d R z more') (sym l.0)
         (subst (λ z. IsAround t r d R (high - 1) z) (sym l.1) (around_part t p r k high more e x c d S R is way a i (sym (same_Some (a_leaf x) d.tree h)) j))
 
-    go : (u : Tree Expression) → c.tree ≡ u → inside u k ≡ Some d.tree → inside_tree S u k ≡ Some R → IsRoomBelow u d.tree high more high' more'
+    go : (u : Tree Expression) → c.tree ≡ u → tree_child u k ≡ Some d.tree → inside_tree S u k ≡ Some R → IsRoomBelow u d.tree high more high' more'
         → IsAround t r d R high' more'
     go (a_network f) is i j l = around_child t p r k high more high' more' f c d S R is way a i j l
     go (a_leaf e) is i j l = in_part e is (part e k) refl i j l
@@ -245,7 +243,7 @@ stands_below t p k high more c d S a found none = go c.tree a.typed (found_insid
         value_is (WithinPart S.params S.input a.output e k) i (within_part whole.checked.given whole.checked.fits k) in
         none-some (W.taking S w.input) (sym j ∙ ap (option_map (W.taking S)) w.found)
 
-    go : (u : Tree Expression) → TreeWithin S u a.output → inside u k ≡ Some d.tree → inside_tree S u k ≡ None → ⊥
+    go : (u : Tree Expression) → TreeWithin S u a.output → tree_child u k ≡ Some d.tree → inside_tree S u k ≡ None → ⊥
     go (a_network f) typed i j = let b : Below S f k d.tree = below S f k d.tree a.output typed i in none-some b.place (sym j ∙ b.found)
     go (a_leaf e) typed i j = in_part e typed (part e k) refl i j
 
@@ -272,20 +270,13 @@ record Fitting (t : TypedNetwork) (p : List ℕ) (new : Tree Expression) : Type 
   light : weight net [] ≤ 1000000
   low : height net [] ≤ 256
 
-one_network : (u v : Network Expression) → a_network u ≡ a_network v → u ≡ v
-one_network u v e = ap (λ z. network_in z) e
-  where
-    network_in : Tree Expression → Network Expression
-    network_in (a_network f) = f
-    network_in (a_leaf e) = u
-
 fitting : (t : TypedNetwork) (p : List ℕ) (new : Tree Expression) (u v : Network Expression) → replaced (a_network t.net) p new ≡ Some (a_network u)
     → replaced (a_network t.net) p new ≡ Some (a_network v) → weight u [] ≤ 1000000 → height v [] ≤ 256 → Fitting t p new
 fitting t p new u v i j light low = record {
   net = u;
   made = i;
   light = light;
-  low = subst (λ z. height z [] ≤ 256) (one_network v u (same_Some (a_network v) (a_network u) (sym j ∙ i))) low;
+  low = subst (λ z. height z [] ≤ 256) (the_net v u (same_Some (a_network v) (a_network u) (sym j ∙ i))) low;
 }
 
 network_fits : (t : TypedNetwork) (p : List ℕ) (c : Placed) (g s : Network Expression) → Reached t p c → c.tree ≡ a_network g → c.olds ≡ 0 → GrowsLittle t g s
@@ -327,14 +318,9 @@ network_stands t p c S high more g s kept r a is none l same =
     told t p (a_network s) kept r.within (network_fits t p c g s r is none l) (kept_there t p c S high more (a_network g) (a_network s) a is ∙ sym same)
 
 -- in an expression: one that is within the room is within the limits
-and_true : (a b : Bool) → (a && b) ≡ true → (a ≡ true) × (b ≡ true)
-and_true true true e = (refl, refl)
-and_true true false e = absurd (cc)
-and_true false b e = absurd (cc)
-
 fits_alone : (e s : Expression) (high more : ℕ) → IsRoomy e high more → fits_there high more e s ≡ true → expression_fits s ≡ true
 fits_alone e s high more room fits =
-    let both = and_true (leb (height_of s) high) (leb (nodes_in s) (nodes_in e + more)) fits in
+    let both = parts_of (leb (height_of s) high) (leb (nodes_in s) (nodes_in e + more)) fits in
     let low : leb (height_of s) 256 ≡ true = le-leb (height_of s) 256 (omega (arith, leb-true (height_of s) high both.0, room.limit)) in
     let few : leb (nodes_in s) 100000 ≡ true =
     le-leb (nodes_in s) 100000 (omega (arith, leb-true (nodes_in s) (nodes_in e + more) both.1, room.few)) in
@@ -485,19 +471,6 @@ steps_end t p k c before now none x = record {
 }
 
 -- at or below what stands at a path
-pub steps_here : (t : TypedNetwork) (p rest : List ℕ) (c : Placed) (before now : List Possible) → rest ≡ [] → before ≡ [] → AddsSteps t p (IsInside c) before now
-    → AddsStepsBelow t p c rest now
-steps_here t p rest c before now none new x =
-    let here : AddsSteps t (p ++ []) (IsInside c) [] now = subst (λ z. AddsSteps t (p ++ []) (IsInside c) z now) new (subst (λ z. AddsSteps t z (IsInside c) before now) (sym (append-nil p)) x) in
-    subst (λ z. AddsStepsBelow t p c z now) (sym none)
-    (subst (λ o. MatchOption o (now ≡ []) (λ d. AddsSteps t (p ++ []) (IsInside d) [] now)) (sym (placed_here c.params c.olds c.tree)) here)
-
-pub steps_nowhere : (t : TypedNetwork) (p rest back : List ℕ) (k : ℕ) (c : Placed) (now : List Possible) → rest ≡ k ∷ back → placed_at c.params c.olds c.tree (k ∷ []) ≡ None
-    → now ≡ [] → AddsStepsBelow t p c rest now
-steps_nowhere t p rest back k c now split none new =
-    subst (λ z. AddsStepsBelow t p c z now) (sym split)
-    (subst (λ o. MatchOption o (now ≡ []) (λ d. AddsSteps t (p ++ k ∷ back) (IsInside d) [] now)) (sym (none_below (k ∷ []) back c.params c.olds c.tree none)) new)
-
 pub steps_further : (t : TypedNetwork) (p r rest back : List ℕ) (k : ℕ) (c d : Placed) (now : List Possible) → rest ≡ k ∷ back → r ≡ p ++ k ∷ []
     → placed_at c.params c.olds c.tree (k ∷ []) ≡ Some d → AddsStepsBelow t r d back now → AddsStepsBelow t p c rest now
 steps_further t p r rest back k c d now split way found x =

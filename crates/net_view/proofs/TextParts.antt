@@ -1,16 +1,7 @@
 -- Texts that grow part by part.
-use Rattle.std.proofs.Common.{◌≡◌, ℕ, zero, suc, ◌+◌, ◌<◌, List, [], ◌∷◌, ◌++◌, length, drop, Result, Ok, Err, sym, ap, refl, ◌∙◌, append_assoc, arith}
-use Rattle.sample_core.specs.Adding.{Extends, Adds}
+use Rattle.std.proofs.Common.{◌≡◌, ℕ, zero, suc, ◌+◌, ◌<◌, List, [], ◌∷◌, ◌++◌, length, drop, sym, ap, refl, ◌∙◌, append_assoc, arith}
+use Rattle.sample_core.specs.Adding.{Extends}
 use Rattle.net_view.specs.Texts.{indent}
-
--- what begins with a text that begins with another begins with that
-pub extends_further : (a b c x : List ℕ) → b ≡ a ++ x → Extends b c → Extends a c
-extends_further a b c x e h = record { behind = x ++ h.behind; joined = h.joined ∙ ap (λ z. z ++ h.behind) e ∙ append_assoc a x h.behind }
-
--- one part, and then what is added behind it
-pub adds_behind : {T E : Type 0} (r : Result T E) (old mid new a b : List ℕ) → mid ≡ old ++ a → Adds r mid new b → Adds r old new (a ++ b)
-adds_behind (Ok x) old mid new a b e h = h ∙ ap (λ z. z ++ b) e ∙ append_assoc old a b
-adds_behind (Err x) old mid new a b e h = extends_further old mid new a e h
 
 -- two blanks more
 pub indent_more : (p : List ℕ) (i : ℕ) → i < length p → indent (drop i p) ≡ 32 ∷ 32 ∷ indent (drop (i + 1) p)

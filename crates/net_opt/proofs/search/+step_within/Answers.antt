@@ -59,20 +59,10 @@ step_within-requires t c =
     )
 
 pub overflow_add-k : goal.overflow_add-k
-overflow_add-k t c =
-    let here = seen_place c.args.place in
-    let there = seen_place c.in-Some-place_below.inner in
-    let found : placed_at here.params here.olds here.tree (c.loop-inner.k ∷ []) ≡ Some there =
-    sym c.place_below.ensures ∙ ap (option_map seen_place) c.in-Some-place_below.is in
-    omega (arith, low_number c.loop-inner.k here there c.requires.reached.limited found)
+overflow_add-k t c = omega (arith, low_number seen_place c.loop-inner.k (seen_place c.args.place) c.requires.reached.limited c.place_below.ensures c.in-Some-place_below.is)
 
 pub loop-inner-smaller : goal.loop-inner-smaller
-loop-inner-smaller t c =
-    let here = seen_place c.args.place in
-    let there = seen_place c.in-Some-place_below.inner in
-    let found : placed_at here.params here.olds here.tree (c.loop-inner.k ∷ []) ≡ Some there =
-    sym c.place_below.ensures ∙ ap (option_map seen_place) c.in-Some-place_below.is in
-    omega (arith, low_number c.loop-inner.k here there c.requires.reached.limited found)
+loop-inner-smaller t c = omega (arith, low_number seen_place c.loop-inner.k (seen_place c.args.place) c.requires.reached.limited c.place_below.ensures c.in-Some-place_below.is)
 
 pub loop-inner-preserved : goal.loop-inner-preserved
 loop-inner-preserved t c =

@@ -43,18 +43,10 @@ add_lines-added-requires t c =
     )
 
 pub overflow_add-k : goal.overflow_add-k
-overflow_add-k t c =
-    let here = seen_place c.args.place in
-    let there = seen_place c.in-Some.inner in
-    let found : placed_at here.params here.olds here.tree (c.loop-inner.k ∷ []) ≡ Some there = sym c.place_below.ensures ∙ ap (option_map seen_place) c.in-Some.is in
-    omega (arith, low_number c.loop-inner.k here there c.requires.1.limited found)
+overflow_add-k t c = omega (arith, low_number seen_place c.loop-inner.k (seen_place c.args.place) c.requires.1.limited c.place_below.ensures c.in-Some.is)
 
 pub loop-inner-smaller : goal.loop-inner-smaller
-loop-inner-smaller t c =
-    let here = seen_place c.args.place in
-    let there = seen_place c.in-Some.inner in
-    let found : placed_at here.params here.olds here.tree (c.loop-inner.k ∷ []) ≡ Some there = sym c.place_below.ensures ∙ ap (option_map seen_place) c.in-Some.is in
-    omega (arith, low_number c.loop-inner.k here there c.requires.1.limited found)
+loop-inner-smaller t c = omega (arith, low_number seen_place c.loop-inner.k (seen_place c.args.place) c.requires.1.limited c.place_below.ensures c.in-Some.is)
 
 pub loop-inner-preserved : goal.loop-inner-preserved
 loop-inner-preserved t c =

@@ -2,7 +2,7 @@ use Rattle.std.proofs.Common.{◌∙◌, ap, [], ◌∷◌, ◌++◌, string_byt
 use Rattle.std.specs.Prelude.{codes}
 use Rattle.sample_core.specs.Spelling.{type_spelling}
 use Rattle.net_tree.specs.Position.{position_spelling}
-use Rattle.net_view.proofs.TextParts.{adds_behind}
+use Rattle.leaf_expr.proofs.Joined.{adds_behind}
 use Rattle.net_view.specs.Outline.{line_of}
 use Rattle.net_view.specs.Texts.{indent, tree_word, weight_spelling}
 use Rattle.net_view.proofs.texts.push_line.Goals as goal
