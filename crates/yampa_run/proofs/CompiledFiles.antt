@@ -1,10 +1,9 @@
 -- What is printed as C is the text of code that outputs the stream meaning.
-use Rattle.std.proofs.Common.{◌≡◌, ℕ, List, [], Some, sym, ap, ◌∙◌, subst, inl, inr}
+use Rattle.std.proofs.Common.{◌≡◌, List, [], Some, sym, ap, ◌∙◌, subst, inl, inr}
 use Rattle.std.specs.Prelude.{string_bytes}
 use Rattle.sample_core.specs.TypeTree.{TypeTree}
 use Rattle.leaf_core.specs.declared.expr.Expr.{Expr}
 use Rattle.net_meaning.specs.Laws.{WithinLaw}
-use Rattle.net_meaning.specs.NetworkLimits.{NetworkFits, WithinLimits}
 use Rattle.net_meaning.specs.SignalFunction.{TimedList}
 use Rattle.net_meaning.specs.Typing.{TypedSamples}
 use Rattle.net_meaning.specs.TypedNetwork.{HasItsTypes, NetTyped, TypedNetwork, stream_of}
@@ -18,16 +17,10 @@ use Rattle.cert_check.specs.Laws.{SameStreamLaw}
 use Rattle.command_line.specs.CommandLine.{RequestTree, types, run, outline, laws, optimise, improve, check as checks, run_checked, apply, certify, compile, compile_checked}
 use Rattle.yampa_run.specs.CompiledFiles.{CompiledFilesLaw, CompilesAsAsked}
 use Rattle.yampa_run.specs.Loading.{IsNetworkIn, IsNetworkOf}
-use Rattle.yampa_run.specs.Check.{AreStepsOf, IsDerivedIn}
+use Rattle.yampa_run.specs.Check.{DerivationIn}
 use Rattle.yampa_run.specs.Preparation.{Meets}
 use Rattle.yampa_run.specs.declared.preparation.Job.TheVariants as J
-
--- a file's network has its types
-typed_in : WithinLaw → (file : List ℕ) (t : TypedNetwork) → IsNetworkIn file t → HasItsTypes t
-typed_in within file t i =
-    let limits : WithinLimits t = i.typed in
-    let fits : NetworkFits t.net t.input t.output = limits.fits in
-    within [] [] t.net t.input t.output fits.typed
+use Rattle.yampa_run.proofs.DerivationFiles.{in_files, typed_in}
 
 module _ (code : CodeLaw) (leaves : LeafCodeLaw) (t : TypedNetwork) (fs : List Function) (made : IsCodeOf t fs) (typed : HasItsTypes t) where
   there : NetTyped [] [] t.net t.input t.output
@@ -79,20 +72,13 @@ compiled_files code leaves within same told words what (J.Print text) asks (inr 
           };
         }
     go (compile_checked form names) m = λ source_file target_file certificate e f g.
-        let d : IsDerivedIn told names m.net m.is_checked.count = m.is_checked.derived in
-        let source_is : IsNetworkIn source_file d.source = subst (λ known. IsNetworkOf known d.source) e d.files.is_source in
-        let target_is : IsNetworkIn target_file m.net = subst (λ known. IsNetworkOf known m.net) f d.files.is_target in
-        let typed : HasItsTypes m.net = typed_in within target_file m.net target_is in
+        let d : DerivationIn source_file target_file certificate =
+        in_files told names m.net m.is_checked.count m.is_checked.derived source_file target_file certificate e f g in
+        let typed : HasItsTypes m.net = typed_in within target_file m.net d.target_is in
         let stream : (xs : TimedList) → TypedSamples d.source.input xs → stream_of d.source.net xs ≡ stream_of m.net.net xs =
-        λ xs y. same d.source m.net d.steps xs (typed_in within source_file d.source source_is) d.derives y in
+        λ xs y. same d.source m.net d.steps xs (typed_in within source_file d.source d.source_is) d.derives y in
         record {
-          source = d.source;
-          target = m.net;
-          steps = d.steps;
-          source_is = source_is;
-          target_is = target_is;
-          certificate_is = subst (λ known. AreStepsOf known d.steps) g d.files.are_steps;
-          derives = d.derives;
+          files = d;
           prints = m.prints;
           outputs = record {
             outputs = λ s xs y. outputs code leaves m.net _ m.prints.prints.fits.code typed s xs ∙ sym (stream xs y);

@@ -6,6 +6,7 @@ mod Headline
 mod Front
 mod NetworkRun
 mod TextFaults
+mod DerivationFiles
 mod WholeRun
 mod OptimisedFiles
 mod AppliedFiles

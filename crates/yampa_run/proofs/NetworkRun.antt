@@ -87,5 +87,5 @@ unbound keys t has holds (B.MissingLeaf at) (Refused.Line status line) m h = inr
   status_is = h.0;
   line_is = h.1;
 })
-unbound keys t has holds B.Memory (Refused.Line status line) m h = absurd h
+unbound keys t has holds B.Memory (Refused.Line status line) m h = absurd (cc)
 unbound keys t has holds fault Refused.Memory m h = (0, nothing_moved t.input t.net has holds)

@@ -196,10 +196,9 @@ none_is_some : IsSome {T = ℕ} None → ⊥
 none_is_some e = cc
 
 -- a word that tells a number of steps isn't refused
-no_number_fails : (word : Option (List ℕ)) (first : Option ℕ) (refusal : Refusal) → refusal ≢ Refused.Memory → TellsFirst word first → IsNoNumber word refusal → ⊥
-no_number_fails word first Refused.Memory m t h = m refl
-no_number_fails None first (Refused.Line status line) m t h = h
-no_number_fails (Some word) first (Refused.Line status line) m t h = none_is_some (subst (λ o. IsSome o) (t.1 ∙ h.0) t.0)
+no_number_fails : (word : Option (List ℕ)) (first : Option ℕ) (refusal : Refusal) → TellsFirst word first → IsNoNumber word refusal → ⊥
+no_number_fails None first refusal t h = h
+no_number_fails (Some word) first refusal t h = none_is_some (subst (λ o. IsSome o) (t.1 ∙ h.0) t.0)
 
 one_first : (word : Option (List ℕ)) (first other : Option ℕ) → TellsFirst word first → TellsFirst word other → first ≡ other
 one_first None first other t u = t ∙ sym u
@@ -210,7 +209,7 @@ typed_of known t (bytes, e) n = let i : IsNetworkIn bytes t = subst (λ o. IsNet
 
 no_applied_fails : (told : KnownFiles) (names : LeadingNames) (job : Job) (refusal : Refusal) → refusal ≢ Refused.Memory → AreTold told (apply names)
     → TellsApplied told names job → IsNotApplied told names refusal → ⊥
-no_applied_fails told names job refusal m k n (no_number h) = no_number_fails names.first n.leading.first refusal m n.leading.is_first h
+no_applied_fails told names job refusal m k n (no_number h) = no_number_fails names.first n.leading.first refusal n.leading.is_first h
 no_applied_fails told names job refusal m k n (without_source first t h) = no_file R.Source (told names.source) n.source refusal m k.0 n.leading.is_source h
 no_applied_fails told names job refusal m k n (without_steps first t source i h) =
     no_certificate (told names.certificate) n.leading.all refusal m k.1 n.leading.are_steps h
@@ -240,33 +239,31 @@ no_certified_fails told from to job (Refused.Line status line) m k n (other_inpu
     h.0 (ap (λ (t : TypedNetwork). t.input) x ∙ same_inputs n.source n.target job n.certified ∙ sym (ap (λ (t : TypedNetwork). t.input) y))
 
 -- a word that tells what names begin with isn't refused
-no_name_fails : (word : Option (List ℕ)) (name : List ℕ) (refusal : Refusal) → refusal ≢ Refused.Memory → TellsName word name → IsNoName word refusal → ⊥
-no_name_fails word name Refused.Memory m t h = m refl
-no_name_fails None name (Refused.Line status line) m t h = h
-no_name_fails (Some word) name (Refused.Line status line) m t h = let q : true ≡ false = sym t.1 ∙ h.0 in absurd (cc)
+no_name_fails : (word : Option (List ℕ)) (name : List ℕ) (refusal : Refusal) → TellsName word name → IsNoName word refusal → ⊥
+no_name_fails None name refusal t h = h
+no_name_fails (Some word) name refusal t h = let q : true ≡ false = sym t.1 ∙ h.0 in absurd (cc)
 
 -- nor one that tells how many elements a list may have
-no_most_fails : (word : Option (List ℕ)) (most : ℕ) (refusal : Refusal) → refusal ≢ Refused.Memory → TellsMost word most → IsNoMost word refusal → ⊥
-no_most_fails word most Refused.Memory m t h = m refl
-no_most_fails None most (Refused.Line status line) m t h = h
-no_most_fails (Some word) most (Refused.Line status line) m t h = let q : Some most ≡ None = sym t ∙ h.0 in absurd (cc)
+no_most_fails : (word : Option (List ℕ)) (most : ℕ) (refusal : Refusal) → TellsMost word most → IsNoMost word refusal → ⊥
+no_most_fails None most refusal t h = h
+no_most_fails (Some word) most refusal t h = let q : Some most ≡ None = sym t ∙ h.0 in absurd (cc)
 
-no_form_fails : (words : PrintingWords) (name : List ℕ) (most : ℕ) (refusal : Refusal) → refusal ≢ Refused.Memory → TellsName words.name name
+no_form_fails : (words : PrintingWords) (name : List ℕ) (most : ℕ) (refusal : Refusal) → TellsName words.name name
     → TellsMost words.most most → IsNoForm words refusal → ⊥
-no_form_fails words name most refusal m t u (bad_name h) = no_name_fails words.name name refusal m t h
-no_form_fails words name most refusal m t u (bad_most h) = no_most_fails words.most most refusal m u h
+no_form_fails words name most refusal t u (bad_name h) = no_name_fails words.name name refusal t h
+no_form_fails words name most refusal t u (bad_most h) = no_most_fails words.most most refusal u h
 
 -- C that can be printed of a file is refused only where it is too large
 too_large : (known : Option (List ℕ)) (words : PrintingWords) (text : List ℕ) (refusal : Refusal) → refusal ≢ Refused.Memory → IsTold known
     → TellsC known words text → IsNotCompiled known words refusal → (t : TypedNetwork) × HasNoC t words refusal
-too_large known words text refusal m k n (unformed h) = absurd (no_form_fails words n.prints.name n.prints.most refusal m n.prints.name_is n.prints.most_is h)
+too_large known words text refusal m k n (unformed h) = absurd (no_form_fails words n.prints.name n.prints.most refusal n.prints.name_is n.prints.most_is h)
 too_large known words text refusal m k n (without_network f h) = absurd (no_file R.Network known n.net refusal m k n.network h)
 too_large known words text refusal m k n (without_c net f i h) = (net, h)
 
 checked_too_large : (told : KnownFiles) (names : DerivationNames) (words : PrintingWords) (text : List ℕ) (refusal : Refusal) → refusal ≢ Refused.Memory
     → AreTold told (run_checked names) → TellsCheckedC told names words text → IsNotCheckedC told names words refusal → (t : TypedNetwork) × HasNoC t words refusal
 checked_too_large told names words text refusal m k n (checked_unformed h) =
-    absurd (no_form_fails words n.prints.name n.prints.most refusal m n.prints.name_is n.prints.most_is h)
+    absurd (no_form_fails words n.prints.name n.prints.most refusal n.prints.name_is n.prints.most_is h)
 checked_too_large told names words text refusal m k n (without_derivation f h) =
     absurd (no_derivation told names n.net n.is_checked.count refusal m k n.is_checked.derived h)
 checked_too_large told names words text refusal m k n (checked_without_c net f i h) = (net, h)

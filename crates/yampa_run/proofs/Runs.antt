@@ -10,6 +10,7 @@ use Rattle.sample_core.specs.declared.sample.Sample.{Sample}
 use Rattle.leaf_core.specs.Expression.{Expression}
 use Rattle.leaf_core.specs.ExpressionValue.{value_of}
 use Rattle.net_meaning.specs.Environment.{closed}
+use Rattle.net_tree.specs.Height.{greatest}
 use Rattle.net_tree.specs.Network.{Network}
 use Rattle.net_meaning.specs.SignalFunction.{TimedList}
 use Rattle.net_meaning.specs.TypedNetwork.{stream_of}
@@ -29,7 +30,7 @@ use Rattle.stream_text.proofs.Hearing.{heard_none, heard_more, heard_end, heard_
 use Rattle.stream_text.proofs.FeedFree.{spelling_free}
 use Rattle.stream_text.proofs.Settling.{consumes_none}
 use Rattle.stream_text.specs.declared.line.TheConstants.{MOST_SAMPLES}
-use Rattle.yampa_run.specs.Output.{spelled_lines, line_feeds, line_of_value, greatest_of, most_visits_of, output_of}
+use Rattle.yampa_run.specs.Output.{spelled_lines, line_feeds, line_of_value, most_visits_of, output_of}
 use Rattle.yampa_run.specs.Runs.{RunsToEnd, IsOutput, StopsAtFault, StopsUnread, BeginsOutput, StopsWithin, StopsRun, Answers, IsPartOfLine, Breaks, run_fault_of, stream_fault_of}
 use Rattle.yampa_run.specs.declared.fault.RunFault.{RunFault}
 use Rattle.yampa_run.specs.declared.fault.RunReport.{RunReport}
@@ -64,7 +65,7 @@ begins A net has holds s r f st i n = record {
   of_network = n;
   wrote = subst (λ vs. Appends holds holds (spelled_lines vs)) (sym (no_output net)) (appends_none holds);
   counted = sym f.lines;
-  visited = sym (ap greatest_of (visits-take value_of net closed 0 []));
+  visited = sym (ap greatest (visits-take value_of net closed 0 []));
   before = subst (IsBefore A s.lines) (sym f.before) f.lines;
   few = let l : s.lines ≡ 0 = f.lines in omega (arith, l);
 }
@@ -86,9 +87,9 @@ later_lines net p later =
           ∙ sym (spelled-append (take (length p) all) (drop (length p) all)) ∙ ap spelled_lines (take-append-drop (length p) all),
     )
 
-greatest-push : (ns : List ℕ) (n : ℕ) → greatest_of (ns ++ n ∷ []) ≡ max (greatest_of ns) n
+greatest-push : (ns : List ℕ) (n : ℕ) → greatest (ns ++ n ∷ []) ≡ max (greatest ns) n
 greatest-push [] n = grind arith
-greatest-push (m ∷ ns) n = let i : greatest_of (ns ++ n ∷ []) ≡ max (greatest_of ns) n = greatest-push ns n in ap (max m) i ∙ max_three m (greatest_of ns) n
+greatest-push (m ∷ ns) n = let i : greatest (ns ++ n ∷ []) ≡ max (greatest ns) n = greatest-push ns n in ap (max m) i ∙ max_three m (greatest ns) n
   where
     max_three : (a b c : ℕ) → max a (max b c) ≡ max (max a b) c
     max_three a b c = grind arith
@@ -96,7 +97,7 @@ greatest-push (m ∷ ns) n = let i : greatest_of (ns ++ n ∷ []) ≡ max (great
 most_visits-push : (net : Network Expression) (p : TimedList) (x : ℕ × Datum)
     → most_visits_of net (p ++ x ∷ []) ≡ max (most_visits_of net p) (last_visits_of net (p ++ x ∷ []))
 most_visits-push net p x =
-    ap greatest_of (visits-push value_of net closed p x) ∙ greatest-push (visits_of value_of net closed p) (last_visits_of net (p ++ x ∷ []))
+    ap greatest (visits-push value_of net closed p x) ∙ greatest-push (visits_of value_of net closed p) (last_visits_of net (p ++ x ∷ []))
 
 -- one sample more
 pub goes_on : (A : TypeTree) (net : Network Expression) (has has' has'' holds holds' holds'' : Option (List ℕ)) (s s' : ReaderState) (r r' : RunnerState)

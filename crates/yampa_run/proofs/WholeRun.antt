@@ -3,7 +3,6 @@ use Rattle.std.proofs.Common.{◌≡◌, ℕ, Bool, true, false, List, [], Optio
 use Rattle.sample_core.specs.ReadingLaws.{FaultLaw, ReadingLaw}
 use Rattle.leaf_core.specs.KeyTree.{KeyTree}
 use Rattle.net_meaning.specs.Laws.{WithinLaw}
-use Rattle.net_meaning.specs.NetworkLimits.{NetworkFits, WithinLimits}
 use Rattle.net_tree.specs.LawStep.{Step}
 use Rattle.net_meaning.specs.TypedNetwork.{TypedNetwork}
 use Rattle.cert_check.specs.Laws.{SameStreamLaw}
@@ -13,8 +12,8 @@ use Rattle.command_line.specs.CommandLine.{RequestTree, types, run, outline, law
 use Rattle.yampa_run.specs.FaultLines.{line_of, status_of}
 use Rattle.yampa_run.specs.Headline.{RunsSo, text_output}
 use Rattle.yampa_run.specs.NetworkRun.{RunsOver}
-use Rattle.yampa_run.specs.Loading.{IsNetworkIn, IsNetworkOf}
-use Rattle.yampa_run.specs.Check.{AreStepsOf, IsDerivedIn}
+use Rattle.yampa_run.specs.Loading.{IsNetworkOf}
+use Rattle.yampa_run.specs.Check.{DerivationIn}
 use Rattle.yampa_run.specs.Apply.{IsApplied}
 use Rattle.yampa_run.specs.Preparation.{Meets}
 use Rattle.yampa_run.specs.RefusalLines.{refusal_line, refusal_status}
@@ -26,6 +25,7 @@ use Rattle.yampa_run.specs.declared.fault.RunReport.{RunReport}
 use Rattle.yampa_run.specs.declared.preparation.Job.TheVariants as J
 use Rattle.yampa_run.specs.declared.preparation.Refusal.{Refusal}
 use Rattle.yampa_run.specs.declared.preparation.Refusal.TheVariants as Refused
+use Rattle.yampa_run.proofs.DerivationFiles.{in_files, typed_in}
 use Rattle.yampa_run.proofs.Headline.{of_source, of_text, same_output, writes_output}
 use Rattle.yampa_run.proofs.NetworkRun.{stops_within}
 use Rattle.yampa_run.proofs.TextFaults.{value_status_one}
@@ -104,20 +104,11 @@ whole_run reads law faults same within told words t keys text has' holds holds' 
     go (improve wanted name) m = m
     go (checks names) m = m
     go (run_checked names) m = λ source_file target_file certificate e f g.
-        let d : IsDerivedIn told names t m.count = m.derived in
-        let source_is : IsNetworkIn source_file d.source = subst (λ known. IsNetworkOf known d.source) e d.files.is_source in
-        let limits : WithinLimits d.source = source_is.typed in
-        let fits : NetworkFits d.source.net d.source.input d.source.output = limits.fits in
+        let d : DerivationIn source_file target_file certificate = in_files told names t m.count m.derived source_file target_file certificate e f g in
         record {
-          source = d.source;
-          target = t;
-          steps = d.steps;
-          source_is = source_is;
-          target_is = subst (λ known. IsNetworkOf known t) f d.files.is_target;
-          certificate_is = subst (λ known. AreStepsOf known d.steps) g d.files.are_steps;
-          derives = d.derives;
+          files = d;
           writes = as_source d.source t text holds holds' answer d.derives.same_input
-              (same_output reads same d.source t d.steps text (within [] [] d.source.net d.source.input d.source.output fits.typed) d.derives) so;
+              (same_output reads same d.source t d.steps text (typed_in within source_file d.source d.source_is) d.derives) so;
         }
     go (apply names) m = absurd (not_run m.source m.steps names.shows t m.applied)
     go (certify from to) m = absurd m.certified

@@ -1,5 +1,5 @@
 -- What the command `apply` prints, and why it refuses.
-use Rattle.std.specs.Prelude.{◌≡◌, ◌≤◌, ℕ, Bool, true, false, List, length, map, Option, Some, None, option_map, Err, string_bytes, ⊤}
+use Rattle.std.specs.Prelude.{◌≡◌, ◌≤◌, ℕ, Bool, true, false, List, length, map, Option, Some, None, option_map, Err, string_bytes}
 use Rattle.net_meaning.specs.TypedNetwork.{TypedNetwork}
 use Rattle.net_tree.specs.LawStep.{Step}
 use Rattle.cert_check.specs.StepAnswers.{ApplyAnswer}
@@ -17,7 +17,6 @@ use Rattle.yampa_run.specs.declared.refused.Role.TheVariants as R
 use Rattle.yampa_run.specs.declared.preparation.Job.{Job}
 use Rattle.yampa_run.specs.declared.preparation.Job.TheVariants as J
 use Rattle.yampa_run.specs.declared.preparation.Refusal.{Refusal}
-use Rattle.yampa_run.specs.declared.preparation.Refusal.TheVariants as Refused
 use Rattle.yampa_run.specs.KnownFiles.{KnownFiles}
 use Rattle.yampa_run.specs.Loading.{HasNoNetwork, IsNetworkOf, RefusesWith}
 use Rattle.yampa_run.specs.Check.{AreStepsOf, HasNoSteps, RefusesCheck}
@@ -83,12 +82,10 @@ pub record TellsApplied (told : KnownFiles) (names : LeadingNames) (job : Job) :
   pub leading : IsLeading told names source steps
   pub applied : IsApplied source steps names.shows job
 
--- the word is no number of steps, and that is told with status 2; or memory was short
+-- the word is no number of steps, and that is told with status 2
 abbrev pub IsNoNumber : Option (List ℕ) → Refusal → Type 0
-IsNoNumber (Some word) (Refused.Line status line) = (number_in word ≡ None)
-    × RefusesWith 2 no_number_words (Refused.Line status line)
-IsNoNumber None (Refused.Line status line) = ⊥
-IsNoNumber word Refused.Memory = ⊤
+IsNoNumber (Some word) refusal = (number_in word ≡ None) × RefusesWith 2 no_number_words refusal
+IsNoNumber None refusal = ⊥
 
 -- why nothing is printed of steps: the word is no number; or it is one, and the first of the two
 -- files, in this order, is no network or has no steps; or the steps are refused

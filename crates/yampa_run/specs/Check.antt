@@ -16,7 +16,7 @@ use Rattle.yampa_run.specs.declared.refused.Role.TheVariants as R
 use Rattle.yampa_run.specs.declared.preparation.Refusal.{Refusal}
 use Rattle.yampa_run.specs.declared.preparation.Refusal.TheVariants as Refused
 use Rattle.yampa_run.specs.KnownFiles.{KnownFiles}
-use Rattle.yampa_run.specs.Loading.{HasNoNetwork, IsNetworkOf, IsUnread}
+use Rattle.yampa_run.specs.Loading.{HasNoNetwork, IsNetworkIn, IsNetworkOf, IsUnread}
 
 -- the steps are those of a certificate file, where its bytes are told
 abbrev pub AreStepsOf : Option (List ℕ) → List Step → Type 0
@@ -59,6 +59,17 @@ pub record IsDerivedIn (told : KnownFiles) (names : DerivationNames) (t : TypedN
   pub files : AreOf told names source t steps
   pub derives : Derives source t steps
   pub counted : count ≡ length steps
+
+-- the bytes are those of a source, a target and a certificate, whose steps derive the target from the
+-- source
+pub record DerivationIn (source_file target_file certificate : List ℕ) : Type 0 where
+  pub source : TypedNetwork
+  pub target : TypedNetwork
+  pub steps : List Step
+  pub source_is : IsNetworkIn source_file source
+  pub target_is : IsNetworkIn target_file target
+  pub certificate_is : IsCertificate certificate steps
+  pub derives : Derives source target steps
 
 -- why there is no derivation: the first of the three files, in this order, that is no network or
 -- has no steps; or the steps don't derive the target from the source

@@ -1,5 +1,5 @@
 -- What the command `compile` prints, and why it refuses.
-use Rattle.std.specs.Prelude.{◌≡◌, ℕ, Bool, true, false, ◌||◌, List, Option, Some, None, if◌then◌else◌, codes, ⊤}
+use Rattle.std.specs.Prelude.{◌≡◌, ℕ, Bool, true, false, ◌||◌, List, Option, Some, None, if◌then◌else◌, codes}
 use Rattle.sample_core.specs.TypeTree.{TypeTree, unit_ty, bool_ty, int_ty, pair_ty, event_ty, list_ty}
 use Rattle.net_meaning.specs.TypedNetwork.{TypedNetwork}
 use Rattle.net_text.specs.Printing.{file_spelling}
@@ -14,7 +14,6 @@ use Rattle.yampa_run.specs.declared.compile.Form.{Form}
 use Rattle.yampa_run.specs.RefusalLines.{no_layout_words, no_most_words, no_name_words, too_large_words}
 use Rattle.yampa_run.specs.declared.refused.Role.TheVariants as R
 use Rattle.yampa_run.specs.declared.preparation.Refusal.{Refusal}
-use Rattle.yampa_run.specs.declared.preparation.Refusal.TheVariants as Refused
 use Rattle.yampa_run.specs.KnownFiles.{KnownFiles}
 use Rattle.yampa_run.specs.Loading.{HasNoNetwork, IsNetworkOf, RefusesWith}
 use Rattle.yampa_run.specs.Check.{HasNoDerivation, IsChecked}
@@ -73,19 +72,15 @@ unless_told (Some word) asks = false
 abbrev pub asks_most : TypedNetwork → PrintingWords → Bool
 asks_most t words = unless_told words.most (has_lists t.input)
 
--- the word is no name, and that is told with status 2; or memory was short
+-- the word is no name, and that is told with status 2
 abbrev pub IsNoName : Option (List ℕ) → Refusal → Type 0
-IsNoName (Some word) (Refused.Line status line) = (is_name word ≡ false)
-    × RefusesWith 2 no_name_words (Refused.Line status line)
-IsNoName None (Refused.Line status line) = ⊥
-IsNoName word Refused.Memory = ⊤
+IsNoName (Some word) refusal = (is_name word ≡ false) × RefusesWith 2 no_name_words refusal
+IsNoName None refusal = ⊥
 
--- the word is no number of elements, and that is told with status 2; or memory was short
+-- the word is no number of elements, and that is told with status 2
 abbrev pub IsNoMost : Option (List ℕ) → Refusal → Type 0
-IsNoMost (Some word) (Refused.Line status line) = (most_in word ≡ None)
-    × RefusesWith 2 no_most_words (Refused.Line status line)
-IsNoMost None (Refused.Line status line) = ⊥
-IsNoMost word Refused.Memory = ⊤
+IsNoMost (Some word) refusal = (most_in word ≡ None) × RefusesWith 2 no_most_words refusal
+IsNoMost None refusal = ⊥
 
 -- why the words don't tell how C is printed: the one is no name; or the other is no number
 pub data IsNoForm (words : PrintingWords) (refusal : Refusal) : Type 0 where

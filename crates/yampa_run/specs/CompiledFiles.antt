@@ -4,7 +4,6 @@
 use Rattle.std.specs.Prelude.{◌≡◌, ◌⊎◌, ℕ, List, Some, string_bytes, ⊤}
 use Rattle.sample_core.specs.TypeTree.{TypeTree}
 use Rattle.leaf_core.specs.declared.expr.Expr.{Expr}
-use Rattle.net_tree.specs.LawStep.{Step}
 use Rattle.net_meaning.specs.SignalFunction.{TimedList}
 use Rattle.net_meaning.specs.Typing.{TypedSamples}
 use Rattle.net_meaning.specs.TypedNetwork.{TypedNetwork, stream_of}
@@ -13,9 +12,8 @@ use Rattle.net_code.specs.CodeLaw.{leaf_in, value_in}
 use Rattle.net_code.specs.CodeView.{code_in}
 use Rattle.net_code.specs.Running.{run_code}
 use Rattle.net_code.specs.declared.statement.Function.{Function}
-use Rattle.net_text.specs.CertificateLaws.{IsCertificate}
-use Rattle.cert_check.specs.Derives.{Derives}
 use Rattle.command_line.specs.CommandLine.{AsksHelp, PrintingWords, RequestTree, compile, compile_checked, request_in}
+use Rattle.yampa_run.specs.Check.{DerivationIn}
 use Rattle.yampa_run.specs.Compile.{PrintsC}
 use Rattle.yampa_run.specs.KnownFiles.{KnownFiles}
 use Rattle.yampa_run.specs.Loading.{IsNetworkIn}
@@ -44,15 +42,9 @@ pub record CompilesFile (file : List ℕ) (words : PrintingWords) (text : List �
 -- source, and the text is the target's code as C, which outputs the source's stream meaning
 pub record CompilesChecked (source_file target_file certificate : List ℕ) (words : PrintingWords)
     (text : List ℕ) : Type 0 where
-  pub source : TypedNetwork
-  pub target : TypedNetwork
-  pub steps : List Step
-  pub source_is : IsNetworkIn source_file source
-  pub target_is : IsNetworkIn target_file target
-  pub certificate_is : IsCertificate certificate steps
-  pub derives : Derives source target steps
-  pub prints : PrintsC target words text
-  pub outputs : OutputsStream source prints.prints.program.functions.items
+  pub files : DerivationIn source_file target_file certificate
+  pub prints : PrintsC files.target words text
+  pub outputs : OutputsStream files.source prints.prints.program.functions.items
 
 -- the text is the C that is asked for, if C is, where the bytes of the files that are named are told
 abbrev pub CompilesAsAsked : KnownFiles → RequestTree → List ℕ → Type 0

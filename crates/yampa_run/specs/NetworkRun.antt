@@ -1,5 +1,5 @@
 -- A run of a typed network over a table of stored closures: what it does, and what is told of it.
-use Rattle.std.specs.Prelude.{◌≡◌, ◌⊎◌, ℕ, List, [], Option, Result, Ok, Err, codes, string_bytes, ⊤}
+use Rattle.std.specs.Prelude.{◌≡◌, ◌⊎◌, ℕ, List, [], Option, Result, Ok, Err, codes}
 use Rattle.leaf_core.specs.KeyTree.{KeyTree}
 use Rattle.net_meaning.specs.TypedNetwork.{TypedNetwork}
 use Rattle.step_core.specs.Lookup.{FindsAll, MissesIn}
@@ -8,6 +8,7 @@ use Rattle.step_core.specs.declared.fault.BindFault.TheVariants as B
 use Rattle.stream_text.specs.Failures.{Rose}
 use Rattle.yampa_run.specs.FaultLines.{line_of, status_of}
 use Rattle.yampa_run.specs.Headline.{RunsSo}
+use Rattle.yampa_run.specs.Loading.{RefusesWith}
 use Rattle.yampa_run.specs.RefusalLines.{refusal_line, refusal_status}
 use Rattle.yampa_run.specs.Runs.{Moves, StopsWithin}
 use Rattle.yampa_run.specs.declared.fault.RunFault.{RunFault}
@@ -58,13 +59,9 @@ pub record FailsAsTold (reads reads' writes writes' : ℕ) (refusal : Refusal) :
 
 -- a refusal for that fault of a run: its status and line, or memory was short
 abbrev pub RefusesRun : RunFault → Refusal → Type 0
-RefusesRun fault (Refused.Line status line) = (status ≡ status_of fault)
-    × (string_bytes line ≡ line_of fault)
-RefusesRun fault Refused.Memory = ⊤
+RefusesRun fault refusal = RefusesWith (status_of fault) (line_of fault) refusal
 
 -- a refusal for that fault of binding: `no row` with status 3, or memory was short
 abbrev pub RefusesBinding : BindFault → Refusal → Type 0
-RefusesBinding (B.MissingLeaf at) (Refused.Line status line) = (status ≡ 3)
-    × (string_bytes line ≡ codes "no row")
-RefusesBinding B.Memory (Refused.Line status line) = ⊥
-RefusesBinding fault Refused.Memory = ⊤
+RefusesBinding (B.MissingLeaf at) refusal = RefusesWith 3 (codes "no row") refusal
+RefusesBinding B.Memory refusal = refusal ≡ Refused.Memory

@@ -1,11 +1,12 @@
 -- What a run writes.
-use Rattle.std.specs.Prelude.{ℕ, suc, if◌then◌else◌, nat_eq, List, [], ◌∷◌, ◌++◌, max, Option}
+use Rattle.std.specs.Prelude.{ℕ, suc, if◌then◌else◌, nat_eq, List, [], ◌∷◌, ◌++◌, Option}
 use Rattle.sample_core.specs.Datum.{Datum}
 use Rattle.sample_core.specs.Spelling.{spelling}
 use Rattle.sample_core.specs.TypeTree.{TypeTree}
 use Rattle.leaf_core.specs.Expression.{Expression}
 use Rattle.leaf_core.specs.ExpressionValue.{value_of}
 use Rattle.net_meaning.specs.Environment.{closed}
+use Rattle.net_tree.specs.Height.{greatest}
 use Rattle.net_tree.specs.Network.{Network}
 use Rattle.net_meaning.specs.SignalFunction.{TimedList}
 use Rattle.net_meaning.specs.TypedNetwork.{stream_of}
@@ -46,11 +47,6 @@ output_of A net text = output_on net (samples A text)
 abbrev pub front_output_of : TypeTree → Network Expression → List ℕ → Output
 front_output_of A net bs = output_on net (front A bs)
 
--- the greatest number of a list, 0 where it has none
-abbrev pub greatest_of : List ℕ → ℕ
-greatest_of [] = 0
-greatest_of (n ∷ ns) = max n (greatest_of ns)
-
 -- the most nodes that a sample visits, 0 if there is none
 abbrev pub most_visits_of : Network Expression → TimedList → ℕ
-most_visits_of net xs = greatest_of (visits_of value_of net closed xs)
+most_visits_of net xs = greatest (visits_of value_of net closed xs)

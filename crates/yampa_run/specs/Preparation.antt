@@ -11,7 +11,7 @@ use Rattle.yampa_run.specs.declared.preparation.Job.TheVariants as J
 use Rattle.yampa_run.specs.declared.preparation.Refusal.{Refusal}
 use Rattle.yampa_run.specs.declared.preparation.Refusal.TheVariants as Refused
 use Rattle.yampa_run.specs.KnownFiles.{IsTold, KnownFiles}
-use Rattle.yampa_run.specs.Loading.{HasNoNetwork, IsNetworkOf}
+use Rattle.yampa_run.specs.Loading.{HasNoNetwork, IsNetworkOf, RefusesWith}
 use Rattle.yampa_run.specs.NetworkCommands.{Prints}
 use Rattle.yampa_run.specs.Check.{HasNoDerivation, IsChecked, TellsAccepted}
 use Rattle.yampa_run.specs.Laws.{HasNoPlace, TellsLaws}
@@ -114,7 +114,5 @@ OnlyMemoryLaw = (told : KnownFiles) (words : List (List ℕ)) (what : RequestTre
 -- a refusal for a table that takes no more: its line with status 1 where it is full, or memory was
 -- short
 abbrev pub RefusesTable : TableFault → Refusal → Type 0
-RefusesTable A.Full (Refused.Line status line) = (status ≡ 1)
-    × (string_bytes line ≡ codes "table full")
-RefusesTable A.Memory (Refused.Line status line) = ⊥
-RefusesTable fault Refused.Memory = ⊤
+RefusesTable A.Full refusal = RefusesWith 1 (codes "table full") refusal
+RefusesTable A.Memory refusal = refusal ≡ Refused.Memory

@@ -17,12 +17,10 @@
 use Rattle.std.specs.Prelude.{◌≡◌, ℕ, List, [], ◌∷◌, Contains, Option, Some, Result, Ok, Err, codes}
 use Rattle.std.specs.Io.KnownBytes.{Appends}
 use Rattle.leaf_core.specs.KeyTree.{KeyTree}
-use Rattle.net_tree.specs.LawStep.{Step}
 use Rattle.net_meaning.specs.TypedNetwork.{TypedNetwork}
-use Rattle.net_text.specs.CertificateLaws.{IsCertificate}
-use Rattle.cert_check.specs.Derives.{Derives}
 use Rattle.stream_text.specs.declared.fault.StreamFault.{StreamFault}
 use Rattle.command_line.specs.CommandLine.{RequestTree, types, run, outline, laws, optimise, improve, check as checks, run_checked, apply, certify, compile, compile_checked, request_in}
+use Rattle.yampa_run.specs.Check.{DerivationIn}
 use Rattle.yampa_run.specs.FaultLines.{stream_words}
 use Rattle.yampa_run.specs.Headline.{WritesOutput}
 use Rattle.yampa_run.specs.NetworkRun.{RunsOver}
@@ -74,14 +72,8 @@ pub record RunsFile (file text : List ℕ) (holds holds' : Option (List ℕ))
 -- target from the source, and the source's output is written.
 pub record RunsChecked (source_file target_file certificate text : List ℕ)
     (holds holds' : Option (List ℕ)) (answer : Result RunReport Refusal) : Type 0 where
-  pub source : TypedNetwork
-  pub target : TypedNetwork
-  pub steps : List Step
-  pub source_is : IsNetworkIn source_file source
-  pub target_is : IsNetworkIn target_file target
-  pub certificate_is : IsCertificate certificate steps
-  pub derives : Derives source target steps
-  pub writes : WritesAsTold source text holds holds' answer
+  pub files : DerivationIn source_file target_file certificate
+  pub writes : WritesAsTold files.source text holds holds' answer
 
 -- the run is the one that is asked for, where the bytes of the files that are named are told
 abbrev pub RunsAsAsked : KnownFiles → RequestTree → List ℕ → Option (List ℕ) → Option (List ℕ)

@@ -10,7 +10,7 @@ ghost use Rattle.leaf_table.specs.{Computes.Computes, Rows.leaves_of, Rows.rows_
 ghost use Rattle.leaf_table.specs.declared.table.TheConstants.{MOST_ROWS};
 ghost use Rattle.yampa_run.specs.Preparation.{RefusesTable};
 
-use crate::preparation::Refusal;
+use crate::preparation::{Refusal, refusal_with};
 pub use leaf_core::{Shape, shape_of};
 use leaf_table::{Leaf, LeafTable, Run};
 pub use leaf_table::{
@@ -27,9 +27,9 @@ pub use std::cell::Cell;
 pub fn table_refusal(alloc: Global, fault: TableFault) -> Refusal
     ensures { RefusesTable fault result }
 {
-    match (fault, String::from_str(alloc, "table full")) {
-        (TableFault::Full, Ok(line)) => Refusal::Line { status: 1, line },
-        _ => Refusal::Memory,
+    match fault {
+        TableFault::Full => refusal_with(alloc, 1, "table full"),
+        TableFault::Memory => Refusal::Memory,
     }
 }
 

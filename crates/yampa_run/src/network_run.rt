@@ -7,7 +7,7 @@ ghost use Rattle.yampa_run.specs.NetworkRun.{FailsAsTold, RefusesBinding, Refuse
 ghost use Rattle.yampa_run.specs.RefusalLines.{answer_status};
 
 use crate::fault::{RunFault, RunReport};
-use crate::preparation::Refusal;
+use crate::preparation::{Refusal, refusal_with};
 use crate::printed::fault_line;
 use crate::stream_run::run;
 use leaf_table::LeafTable;
@@ -80,10 +80,7 @@ fn bind_refusal(alloc: Global, fault: &BindFault) -> Refusal
     ensures { RefusesBinding fault.now result }
 {
     match fault {
-        BindFault::MissingLeaf { position: _ } => match String::from_str(alloc, "no row") {
-            Ok(line) => Refusal::Line { status: 3, line },
-            Err(_) => Refusal::Memory,
-        },
+        BindFault::MissingLeaf { position: _ } => refusal_with(alloc, 3, "no row"),
         BindFault::Memory => Refusal::Memory,
     }
 }

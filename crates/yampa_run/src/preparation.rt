@@ -4,6 +4,7 @@ ghost use Rattle.std.specs.Prelude.{◌≡◌, ℕ, List, Err, IfErr, IfOk, map}
 ghost use Rattle.command_line.specs.CommandLine.{ReadsWords, request_view};
 ghost use Rattle.yampa_run.specs.RefusalLines.{job_status, refusal_line, refusal_status};
 ghost use Rattle.yampa_run.specs.KnownFiles.{KnownFiles};
+ghost use Rattle.yampa_run.specs.Loading.{RefusesWith};
 ghost use Rattle.yampa_run.specs.Preparation.{Fails, IsRequested, IsRefusal, Meets};
 
 use crate::apply::applied;
@@ -72,6 +73,16 @@ impl Refusal {
             Refusal::Line { line, .. } => line.as_str(),
             Refusal::Memory => "memory",
         }
+    }
+}
+
+/// The refusal with that status and line, or `Memory`.
+pub(crate) fn refusal_with(alloc: Global, status: u8, line: &str) -> Refusal
+    ensures { RefusesWith status line.now result }
+{
+    match String::from_str(alloc, line) {
+        Ok(line) => Refusal::Line { status, line },
+        Err(_) => Refusal::Memory,
     }
 }
 

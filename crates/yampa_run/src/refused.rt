@@ -1,7 +1,7 @@
 // What the program prints of a file that is refused.
 
 ghost use Rattle.std.specs.Prelude.{◌≡◌, IfOk, string_bytes};
-ghost use Rattle.yampa_run.specs.RefusalLines.{byte_words, check_words, expression_words, line_on, no_layout_words, no_most_words, no_name_words, no_number_words, no_place_words, none_found_words, not_there_words, place_words, role_words, step_words, text_words, too_large_words, type_words, unread_words};
+ghost use Rattle.yampa_run.specs.RefusalLines.{byte_words, check_words, expression_words, line_on, no_layout_words, none_found_words, not_there_words, place_words, role_words, step_words, text_words, too_large_words, type_words, unread_words};
 
 use crate::printed::push_number;
 use cert_check::CheckFault;
@@ -122,34 +122,6 @@ pub(crate) fn not_there_line(alloc: Global, position: &Position) -> Result<Strin
     ensures { IfOk result (λ line. string_bytes line ≡ not_there_words position.now) }
 {
     place_line(alloc, Role::Network, "no position ", position)
-}
-
-/// The line on a word that is no number of steps.
-pub(crate) fn no_number_line(alloc: Global) -> Result<String, Memory>
-    ensures { IfOk result (λ line. string_bytes line ≡ no_number_words) }
-{
-    Ok(String::from_str(alloc, "--first: no number")?)
-}
-
-/// The line on a word that is no position.
-pub(crate) fn no_place_line(alloc: Global) -> Result<String, Memory>
-    ensures { IfOk result (λ line. string_bytes line ≡ no_place_words) }
-{
-    Ok(String::from_str(alloc, "--at: no position")?)
-}
-
-/// The line on a word that no name may begin with.
-pub(crate) fn no_name_line(alloc: Global) -> Result<String, Memory>
-    ensures { IfOk result (λ line. string_bytes line ≡ no_name_words) }
-{
-    Ok(String::from_str(alloc, "--name: no name")?)
-}
-
-/// The line on a word that is no number of elements.
-pub(crate) fn no_most_line(alloc: Global) -> Result<String, Memory>
-    ensures { IfOk result (λ line. string_bytes line ≡ no_most_words) }
-{
-    Ok(String::from_str(alloc, "--most: no number")?)
 }
 
 /// The line on what is too large at a position, and that `--most` may help, where it may.

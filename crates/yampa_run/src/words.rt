@@ -10,8 +10,7 @@ ghost use Rattle.yampa_run.specs.Apply.{IsNoNumber};
 ghost use Rattle.yampa_run.specs.Compile.{IsNoMost, IsNoName};
 ghost use Rattle.yampa_run.specs.Words.{IsPlaceIn, IsPlaceOfStep, TellsFirst, TellsMost, TellsName, TellsPlace, all_name_bytes, begins_name, is_digits_word, is_most, is_name, is_name_byte, most_in, number_in, placed_file};
 
-use crate::preparation::Refusal;
-use crate::refused::{no_most_line, no_name_line, no_number_line, no_place_line};
+use crate::preparation::{Refusal, refusal_with};
 use leaf_expr::MOST_INDEX;
 use net_text::read_cert;
 use net_tree::{LawStep, Position, push_position};
@@ -38,10 +37,7 @@ pub(crate) fn first_of(alloc: Global, word: Option<&str>) -> Result<Option<usize
     };
     match number_in(word) {
         Some(number) => Ok(Some(number)),
-        None => Err(Refusal::Line {
-            status: 2,
-            line: no_number_line(alloc)?,
-        }),
+        None => Err(refusal_with(alloc, 2, "--first: no number")),
     }
 }
 
@@ -57,10 +53,7 @@ pub(crate) fn name_of<'a>(alloc: Global, word: Option<&'a str>) -> Result<&'a st
     if is_name(word) {
         Ok(word)
     } else {
-        Err(Refusal::Line {
-            status: 2,
-            line: no_name_line(alloc)?,
-        })
+        Err(refusal_with(alloc, 2, "--name: no name"))
     }
 }
 
@@ -112,10 +105,7 @@ pub(crate) fn most_of(alloc: Global, word: Option<&str>) -> Result<usize, Refusa
     };
     match most_in(word) {
         Some(most) => Ok(most),
-        None => Err(Refusal::Line {
-            status: 2,
-            line: no_most_line(alloc)?,
-        }),
+        None => Err(refusal_with(alloc, 2, "--most: no number")),
     }
 }
 
@@ -171,10 +161,7 @@ pub(crate) fn place_of(alloc: Global, word: Option<&str>) -> Result<Position, Re
     };
     match place_in(alloc, word)? {
         Some(place) => Ok(place),
-        None => Err(Refusal::Line {
-            status: 2,
-            line: no_place_line(alloc)?,
-        }),
+        None => Err(refusal_with(alloc, 2, "--at: no position")),
     }
 }
 
