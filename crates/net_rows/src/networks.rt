@@ -2,10 +2,8 @@
 
 use crate::found::{Probe, all_are_found};
 use leaf_expr::Expr;
-use net_syntax::TypedNet;
 use net_text::{NetTextFault, print_net, read_net};
 use net_tree::Net;
-use net_types::check_types;
 use row_texts::texts::{bytes_in, printed_told, say, say_at};
 use sample_core::{Memory, Ty};
 use std::alloc::Global;
@@ -48,20 +46,6 @@ fn copy_told(alloc: Global, input: &Ty, net: &Net<Expr>, out: &mut String) {
             drop(copy);
         }
         Err(Memory) => say(out, "memory"),
-    }
-}
-
-/// The network of a file's text with its types; `None` if the text or its types are refused.
-pub fn network(alloc: Global, text: &str) -> Option<Box<TypedNet>> {
-    match read_net(alloc, text.as_bytes()) {
-        Ok((input, net)) => match check_types(alloc, input, net) {
-            Ok(net) => Box::new(alloc, net).ok(),
-            Err(fault) => {
-                drop(fault);
-                None
-            }
-        },
-        Err(_fault) => None,
     }
 }
 

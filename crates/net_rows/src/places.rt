@@ -3,12 +3,13 @@
 use crate::certificates::steps_in;
 use crate::found::{LawProbe, Probe, all_are_found};
 use crate::network_types::typed_told;
-use crate::networks::{network, text_fault_told};
+use crate::networks::text_fault_told;
 use leaf_expr::push_expr;
 use net_syntax::{Place, TypedNet, at, replace, type_at};
 use net_text::push_net;
 use net_tree::{LawStep, Position, Tree, TreeRef, same_net};
 use net_types::{Rewritten, rewrite};
+use row_texts::networks::network;
 use row_texts::texts::{parted, say, say_at};
 use sample_core::{Memory, Ty, push_type};
 use std::alloc::Global;

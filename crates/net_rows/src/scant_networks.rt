@@ -3,13 +3,14 @@
 use crate::found::{Probe, all_are_found};
 use crate::needs::needs_told;
 use crate::network_types::checked_told;
-use crate::networks::{network, reading_told};
+use crate::networks::reading_told;
 use leaf_expr::Expr;
 use net_syntax::{TypedNet, leaves};
 use net_text::{print_net, read_net};
 use net_tree::Net;
 use net_types::check_types;
 use row_texts::ballast::{Ballast, ROOM, Tally, take_all};
+use row_texts::networks::network;
 use row_texts::texts::{parted, printed_told, say};
 use sample_core::{Memory, Ty};
 use std::alloc::Global;

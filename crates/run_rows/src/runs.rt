@@ -14,10 +14,9 @@ use crate::tables::row_told;
 use crate::visits::visits_told;
 use leaf_table::{LeafTable, TableFault};
 use net_syntax::{LeafNeed, TypedNet, leaves};
-use net_text::read_net;
 use net_tree::push_position;
-use net_types::check_types;
 use row_texts::devices::Pieces;
+use row_texts::networks::network;
 use row_texts::texts::{parted, say};
 use sample_core::{Memory, Sample};
 use std::alloc::Global;
@@ -84,20 +83,6 @@ pub fn file_told(alloc: Global, text: &str, trial: Trial<'_>, out: &mut String) 
     match network(alloc, text) {
         Some(net) => trial_told(alloc, &net, trial, out),
         None => say(out, "no network"),
-    }
-}
-
-/// The network of a file's text with its types; `None` if the text or its types are refused.
-pub fn network(alloc: Global, text: &str) -> Option<Box<TypedNet>> {
-    match read_net(alloc, text.as_bytes()) {
-        Ok((input, net)) => match check_types(alloc, input, net) {
-            Ok(net) => Box::new(alloc, net).ok(),
-            Err(fault) => {
-                drop(fault);
-                None
-            }
-        },
-        Err(_fault) => None,
     }
 }
 

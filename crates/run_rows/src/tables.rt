@@ -5,10 +5,11 @@ ghost use Rattle.sample_core.specs.ValueView.{datum_of};
 ghost use Rattle.leaf_table.specs.{Computes.Computes};
 
 use crate::found::{Probe, all_are_found};
-use crate::runs::{Trial, network, trial_told};
+use crate::runs::{Trial, trial_told};
 use leaf_expr::LeafKey;
 use leaf_table::{Leaf, LeafId, LeafTable, Run, TableFault, run_general};
 use net_syntax::{LeafNeed, TypedNet, leaves};
+use row_texts::networks::network;
 use row_texts::texts::{answer_told, parted, say, say_at, value_in};
 use sample_core::{Memory, Sample};
 use std::alloc::Global;
