@@ -3,12 +3,12 @@
 use crate::certificates::steps_in;
 use crate::found::{LawProbe, Probe, all_are_found};
 use crate::networks::text_fault_told;
+use crate::typed::network;
 use cert_check::{Accepted, CheckFault, check};
 use net_syntax::TypedNet;
 use net_text::print_net;
 use net_tree::LawStep;
 use row_texts::ballast::{ROOM, take_all};
-use row_texts::networks::network;
 use row_texts::scarce::MOST_TRIES;
 use row_texts::texts::{parted, printed_told, say, say_at};
 use std::alloc::Global;

@@ -3,9 +3,9 @@
 use crate::found::{Probe, all_are_found};
 use crate::network_types::typed_told;
 use crate::networks::file_told;
+use crate::typed::network;
 use net_syntax::TypedNet;
 use net_text::{print_net, push_net};
-use row_texts::networks::network;
 use row_texts::texts::say;
 use sample_core::Memory;
 use std::alloc::Global;

@@ -6,7 +6,7 @@
 //! A file has the tables of one topic, and what tells; a `Probe` names it. Short forms are those of
 //! `row_texts`. What begins with `scant` leaves the calls little memory, or none.
 //!
-//! First `src/found.rt`, then `src/network_types.rt`.
+//! First `src/found.rt`, then `src/network_types.rt`. `run_rows` takes `typed::network` from here.
 #![tactic(auto)]
 
 #[cfg(test)]
@@ -39,3 +39,4 @@ mod places;
 mod scant_networks;
 #[cfg(test)]
 mod selecting;
+pub mod typed;

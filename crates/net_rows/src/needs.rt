@@ -2,10 +2,10 @@
 
 use crate::found::{Probe, all_are_found};
 use crate::network_types::arrow_told;
+use crate::typed::network;
 use leaf_expr::push_expr;
 use net_syntax::{LeafNeed, leaves};
 use net_tree::push_position;
-use row_texts::networks::network;
 use row_texts::texts::{number_in, parted, say};
 use sample_core::{Memory, push_type};
 use std::alloc::Global;

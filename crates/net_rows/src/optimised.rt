@@ -2,13 +2,13 @@
 
 use crate::checks::{refused_told, spare_behind};
 use crate::found::{LawProbe, Probe, all_are_found};
+use crate::typed::network;
 use leaf_expr::Expr;
 use net_opt::optimise;
 use net_syntax::TypedNet;
 use net_text::{print_cert, print_net};
 use net_tree::{LawStep, Net};
 use row_texts::ballast::{ROOM, take_all};
-use row_texts::networks::network;
 use row_texts::scarce::MOST_TRIES;
 use row_texts::texts::{printed_told, say};
 use sample_core::Memory;

@@ -14,7 +14,6 @@ pub mod ballast;
 pub mod devices;
 mod found;
 mod named;
-pub mod networks;
 pub mod refusing;
 pub mod scarce;
 pub mod texts;

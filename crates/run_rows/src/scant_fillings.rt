@@ -2,9 +2,9 @@
 
 use crate::found::{Probe, all_are_found};
 use crate::runs::{Trial, trial_told};
+use net_rows::typed::network;
 use net_syntax::TypedNet;
 use row_texts::ballast::{TRIES, Tally, spare_at, take_all};
-use row_texts::networks::network;
 use row_texts::texts::say;
 use std::alloc::Global;
 
