@@ -1,5 +1,5 @@
 -- What is tested of a layout, whose types are numbers in a table, is a rule of fitting.
-use Rattle.std.proofs.Common.{◌≡◌, ◌≤◌, ◌^◌, ℕ, List, [], ◌∷◌, ◌++◌, length, map, take, Option, Some, None, refl, sym, ap, ◌∙◌, subst}
+use Rattle.std.proofs.Common.{◌≡◌, ◌≤◌, ◌^◌, ℕ, List, [], ◌∷◌, ◌++◌, length, map, take, Option, Some, None, Result, Ok, Err, IfOk, refl, sym, ap, ◌∙◌, subst}
 use Rattle.std.specs.List.{slice_get}
 use Rattle.std.specs.declared.vec.Vec.{Vec}
 use Rattle.std.specs.declared.alloc.Global.{Global}
@@ -19,6 +19,11 @@ use Rattle.code_fits.specs.Layouts.{Layout, layout}
 use Rattle.code_fits.specs.Rules.{CellTyped, i_pre_typed, delay_typed, hold_typed, after_typed, repeatedly_typed, LeafTyped, Goes, goes, AllGo, FunctionFits, arr_fits, seq_fits, first_fits, par_fits, loop_fits, cell_fits, time_fits, integral_fits, accum_fits, switch_fits, d_switch_fits, r_switch_fits, dr_switch_fits, k_switch_fits, p_switch_fits, old_fits, same_fits, initial_out_fits, initial_in_fits, collection_fits}
 use Rattle.code_fits.specs.Tables.{tree_at, trees_at, tree_if, layout_of, TableHolds, beside, bound_of, FitsOver}
 use Rattle.code_fits.specs.Parts.{GoesHere, TakesOver, IsPair, IsEvent, Watches, Restarts, Freezes}
+
+-- what follows where a test succeeds
+pub if_ok : {A E P Q : Type 0} (r : Result A E) → (P → Q) → IfOk r (λ _. P) → IfOk r (λ _. Q)
+if_ok (Ok x) f h = f h
+if_ok (Err e) f h = h
 
 -- a function fits a layout that has these types
 fitting : (bound : Bounds) (Ls : List Layout) (f : Function) (M : Layout) (A B : TypeTree) (Ts : List TypeTree) (K : Option TypeTree)

@@ -54,16 +54,14 @@ pub(crate) fn joined(all: &[usize], front: &[usize], back: &[usize]) -> Result<(
     }
     let (first, others) = all.split_at(front.len());
     equal(first, front)?;
-    equal(others, back)?;
-    Ok(())
+    equal(others, back)
 }
 
 /// The values of the function's statements have these types.
 pub(crate) fn has(around: Around<'_>, values: &[usize]) -> Result<(), Unlaid>
     ensures { IfOk result (λ _. around.entry.layout.now.values.items ≡ values.now) }
 {
-    equal(around.layout.values.as_slice(), values)?;
-    Ok(())
+    equal(around.layout.values.as_slice(), values)
 }
 
 /// The function keeps no value itself.
@@ -168,16 +166,7 @@ pub(crate) fn takes_over(
     ensures { IfOk result (λ _. TakesOver around.entry.types.now around.entry.earlier.now
         around.entry.layout.now around.entry.layout.now.olds.items t by a b) }
 {
-    let callee = layout_at(around.earlier, t)?;
-    same(callee.input, a)?;
-    same(callee.output, b)?;
-    joined(
-        callee.params.as_slice(),
-        around.layout.params.as_slice(),
-        &[by],
-    )?;
-    equal(callee.olds.as_slice(), around.layout.olds.as_slice())?;
-    Ok(())
+    resumes(around, t, by, &[], a, b)
 }
 
 /// Each of these functions goes from a to b, with the same in scope.
@@ -217,10 +206,7 @@ pub(crate) fn answers_many(around: Around<'_>, list: usize, many: usize) -> Resu
         (map type_of around.entry.types.now.trees.items) around.entry.bounds.now) }
 {
     match around.types.trees.get(list) {
-        Some(ty) => {
-            may_have(around.types.trees.as_slice(), around.bounds, ty, many)?;
-            Ok(())
-        }
+        Some(ty) => may_have(around.types.trees.as_slice(), around.bounds, ty, many),
         None => Err(Unlaid::Untyped),
     }
 }
@@ -244,8 +230,7 @@ fn step_within(known: &[Ty], bounds: &[usize], step: &Step) -> Result<(), Unlaid
     if many == 0 {
         return Ok(());
     }
-    may_have(known, bounds, &step.ty, many)?;
-    Ok(())
+    may_have(known, bounds, &step.ty, many)
 }
 
 /// The lists that steps make are within their bounds.
@@ -283,8 +268,7 @@ fn lists_within(around: Around<'_>, params: &[Ty], input: &Ty, e: &Expr) -> Resu
         (leaf_code (map type_of params.now) (type_of input.now) (expression_of e.now)).0) }
 {
     let code = compile_expr(around.alloc, params, input, e)?;
-    steps_within(around.types, around.bounds, code.steps.as_slice())?;
-    Ok(())
+    steps_within(around.types, around.bounds, code.steps.as_slice())
 }
 
 /// An expression goes from a type to another, and the lists that it makes are within their bounds.
@@ -295,8 +279,7 @@ pub(crate) fn leaf_to(around: Around<'_>, e: &Expr, input: &Ty, output: &Ty) -> 
 {
     let params = trees(around.alloc, around.layout.params.as_slice(), around.types)?;
     is_typed(around.alloc, params.as_slice(), input, e, output)?;
-    lists_within(around, params.as_slice(), input, e)?;
-    Ok(())
+    lists_within(around, params.as_slice(), input, e)
 }
 
 /// The same to b.
@@ -306,8 +289,7 @@ pub(crate) fn leaf_at(around: Around<'_>, e: &Expr, input: &Ty, b: usize) -> Res
         (type_of input.now) (tree_at around.entry.types.now b)) }
 {
     let output = around.types.tree(around.alloc, b)?;
-    leaf_to(around, e, input, &output)?;
-    Ok(())
+    leaf_to(around, e, input, &output)
 }
 
 /// The same from a to b.
@@ -317,8 +299,7 @@ pub(crate) fn leaf(around: Around<'_>, e: &Expr, a: usize, b: usize) -> Result<(
         (tree_at around.entry.types.now a) (tree_at around.entry.types.now b)) }
 {
     let input = around.types.tree(around.alloc, a)?;
-    leaf_at(around, e, &input, b)?;
-    Ok(())
+    leaf_at(around, e, &input, b)
 }
 
 /// The same from pairs of a type of the table and another to b.
@@ -337,6 +318,5 @@ pub(crate) fn leaf_beside(
     let first = TyChild::new(around.alloc, around.types.tree(around.alloc, a)?)?;
     let second = TyChild::new(around.alloc, other)?;
     let input = Ty::Pair(first, second);
-    leaf_at(around, e, &input, b)?;
-    Ok(())
+    leaf_at(around, e, &input, b)
 }

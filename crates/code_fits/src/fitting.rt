@@ -13,7 +13,7 @@ use crate::types::{TypeEntry, Types};
 use crate::walk::Unlaid;
 use net_code::Function;
 use net_syntax::TypedNet;
-use sample_core::{Ty, TyChild, same_type};
+use sample_core::{Ty, same_type};
 use std::alloc::Global;
 
 /// Tests that each entry of the table is the tree at its number, that functions fit their layouts by the
@@ -34,8 +34,7 @@ pub(crate) fn test_program(
 {
     test_table(types)?;
     test_layouts(alloc, functions, layouts, types, bounds)?;
-    test_whole(net, functions, layouts, types)?;
-    Ok(())
+    test_whole(net, functions, layouts, types)
 }
 
 /// The last function has nothing in scope, and goes from the network's input to its output.
@@ -90,35 +89,12 @@ fn test_entry(types: &Types, entry: TypeEntry, tree: &Ty) -> Result<(), Unlaid>
         (TypeEntry::Bool, Ty::Bool) => Ok(()),
         (TypeEntry::Int, Ty::Int) => Ok(()),
         (TypeEntry::Pair(i, j), Ty::Pair(a, b)) => {
-            test_part(types, i, a)?;
-            test_part(types, j, b)?;
-            Ok(())
+            test_type(types, i, a.get())?;
+            test_type(types, j, b.get())
         }
-        (TypeEntry::Event(i), Ty::Event(a)) => {
-            test_part(types, i, a)?;
-            Ok(())
-        }
-        (TypeEntry::List(i), Ty::List(a)) => {
-            test_part(types, i, a)?;
-            Ok(())
-        }
+        (TypeEntry::Event(i), Ty::Event(a)) => test_type(types, i, a.get()),
+        (TypeEntry::List(i), Ty::List(a)) => test_type(types, i, a.get()),
         _ => Err(Unlaid::Untyped),
-    }
-}
-
-/// The type of a number is this one.
-fn test_part(types: &Types, k: usize, part: &TyChild) -> Result<(), Unlaid>
-    ensures { IfOk result (λ _. part.now ≡ tree_at types.now k) }
-{
-    match types.trees.get(k) {
-        Some(tree) => {
-            if same_type(part.get(), tree) {
-                Ok(())
-            } else {
-                Err(Unlaid::Untyped)
-            }
-        }
-        None => Err(Unlaid::Untyped),
     }
 }
 

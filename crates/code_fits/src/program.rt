@@ -2,8 +2,7 @@
 
 ghost use Rattle.std.specs.Prelude.{IfOk};
 ghost use Rattle.code_fits.specs.CodeOfNet.{IsCodeOf};
-ghost use Rattle.code_fits.specs.Programs.{HasWhole, IsProgramOf};
-ghost use Rattle.code_fits.specs.Tables.{LayoutsFit, TableHolds};
+ghost use Rattle.code_fits.specs.Programs.{IsProgramOf};
 
 use crate::bounds::bounds_of;
 use crate::bytes::{kept_bytes, value_bytes};
@@ -36,6 +35,14 @@ impl<E: OutOfMemory> From<E> for Refused {
     }
 }
 
+/// The same without layouts.
+fn refusal(unlaid: Unlaid) -> Refused {
+    match unlaid {
+        Unlaid::Untyped => Refused::Untyped,
+        Unlaid::Memory => Refused::Memory,
+    }
+}
+
 /// The program of a network, whose input's lists have at most `most` elements; or the first function
 /// that keeps too much.
 pub fn program_of(alloc: Global, net: &TypedNet, most: usize) -> Result<Program, Refused>
@@ -43,8 +50,7 @@ pub fn program_of(alloc: Global, net: &TypedNet, most: usize) -> Result<Program,
 {
     let layouts = match lay_out(alloc, net) {
         Ok(layouts) => layouts,
-        Err(Unlaid::Untyped) => return Err(Refused::Untyped),
-        Err(Unlaid::Memory) => return Err(Refused::Memory),
+        Err(unlaid) => return Err(refusal(unlaid)),
     };
     match compile(alloc, net.net()) {
         Ok(functions) => tested(alloc, net, functions, layouts, most),
@@ -75,14 +81,15 @@ fn tested(
         &mut layouts.types,
     )?;
     let Layouts { types, all } = layouts;
-    test(
+    test_program(
         alloc,
         net,
         functions.as_slice(),
         all.as_slice(),
         &types,
         bounds.as_slice(),
-    )?;
+    )
+    .map_err(refusal)?;
     let state_bytes = state_bytes(
         alloc,
         functions.as_slice(),
@@ -97,27 +104,6 @@ fn tested(
         bounds,
         state_bytes,
     })
-}
-
-/// Tests that functions fit their layouts, and that the last is the network.
-fn test(
-    alloc: Global,
-    net: &TypedNet,
-    functions: &[Function],
-    layouts: &[Layout],
-    types: &Types,
-    bounds: &[usize],
-) -> Result<(), Refused>
-    ensures table { IfOk result (λ _. TableHolds types.now) }
-    ensures layouts { IfOk result
-        (λ _. LayoutsFit types.now bounds.now functions.now layouts.now) }
-    ensures whole { IfOk result (λ _. HasWhole net.now types.now functions.now layouts.now) }
-{
-    match test_program(alloc, net, functions, layouts, types, bounds) {
-        Ok(()) => Ok(()),
-        Err(Unlaid::Untyped) => Err(Refused::Untyped),
-        Err(Unlaid::Memory) => Err(Refused::Memory),
-    }
 }
 
 /// The bytes of the state, or the first function that keeps too much.

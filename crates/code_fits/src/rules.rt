@@ -56,8 +56,7 @@ fn arr(around: Around<'_>, e: &Expr) -> Result<(), Unlaid>
 {
     leaf(around, e, around.layout.input, around.layout.output)?;
     has(around, &[around.layout.output])?;
-    keeps_none(around)?;
-    Ok(())
+    keeps_none(around)
 }
 
 /// `>>>`.
@@ -69,8 +68,7 @@ fn seq(around: Around<'_>, f: usize, g: usize) -> Result<(), Unlaid>
     goes(around, f, around.layout.input, b)?;
     goes(around, g, b, around.layout.output)?;
     has(around, &[b, around.layout.output])?;
-    keeps_none(around)?;
-    Ok(())
+    keeps_none(around)
 }
 
 /// `first`.
@@ -83,8 +81,7 @@ fn first(around: Around<'_>, f: usize) -> Result<(), Unlaid>
     same(d, e)?;
     goes(around, f, a, b)?;
     has(around, &[a, b, d, around.layout.output])?;
-    keeps_none(around)?;
-    Ok(())
+    keeps_none(around)
 }
 
 /// `parB`.
@@ -97,8 +94,7 @@ fn par(around: Around<'_>, fs: &Vec<usize>) -> Result<(), Unlaid>
     all_go(around, members, around.layout.input, b)?;
     answers_many(around, around.layout.output, members.len())?;
     has(around, &[around.layout.output])?;
-    keeps_none(around)?;
-    Ok(())
+    keeps_none(around)
 }
 
 /// `loopPre`.
@@ -113,8 +109,7 @@ fn loop_pre(around: Around<'_>, c: &Expr, f: usize) -> Result<(), Unlaid>
     goes(around, f, from, to)?;
     pairs(around, from, around.layout.input, v)?;
     pairs(around, to, around.layout.output, v)?;
-    has(around, &[v, v, from, to, v, around.layout.output])?;
-    Ok(())
+    has(around, &[v, v, from, to, v, around.layout.output])
 }
 
 /// A type of the table is that of pairs of a and b.
@@ -123,8 +118,7 @@ fn pairs(around: Around<'_>, k: usize, a: usize, b: usize) -> Result<(), Unlaid>
 {
     let (first, second) = around.types.parts(k)?;
     same(first, a)?;
-    same(second, b)?;
-    Ok(())
+    same(second, b)
 }
 
 /// A type of the table is that of events of a.
@@ -132,8 +126,7 @@ fn events(around: Around<'_>, k: usize, a: usize) -> Result<(), Unlaid>
     ensures { IfOk result (λ _. IsEvent around.entry.types.now k a) }
 {
     let carried = around.types.carried(k)?;
-    same(carried, a)?;
-    Ok(())
+    same(carried, a)
 }
 
 /// A cell with a constant.
@@ -144,8 +137,7 @@ fn cell(around: Around<'_>, form: Form, c: &Expr) -> Result<(), Unlaid>
     let v = kept(around)?;
     leaf_at(around, c, &Ty::Unit, v)?;
     cell_typed(around, form, v)?;
-    has(around, &[v, around.layout.output])?;
-    Ok(())
+    has(around, &[v, around.layout.output])
 }
 
 /// A cell of the form that keeps values of type v goes from the input's type to the answer's.
@@ -173,8 +165,7 @@ fn previous(around: Around<'_>, v: usize) -> Result<(), Unlaid>
         (tree_at around.entry.types.now around.entry.layout.now.output)) }
 {
     same(around.layout.input, v)?;
-    same(around.layout.output, v)?;
-    Ok(())
+    same(around.layout.output, v)
 }
 
 /// `delay`.
@@ -188,8 +179,7 @@ fn delay(around: Around<'_>, q: u64, v: usize) -> Result<(), Unlaid>
         return Err(Unlaid::Untyped);
     }
     same(around.layout.input, v)?;
-    same(around.layout.output, v)?;
-    Ok(())
+    same(around.layout.output, v)
 }
 
 /// `hold`.
@@ -200,8 +190,7 @@ fn hold(around: Around<'_>, v: usize) -> Result<(), Unlaid>
         (tree_at around.entry.types.now around.entry.layout.now.output)) }
 {
     events(around, around.layout.input, v)?;
-    same(around.layout.output, v)?;
-    Ok(())
+    same(around.layout.output, v)
 }
 
 /// `after`.
@@ -214,8 +203,7 @@ fn after(around: Around<'_>, q: u64, v: usize) -> Result<(), Unlaid>
     if q > MOST_WAIT {
         return Err(Unlaid::Untyped);
     }
-    events(around, around.layout.output, v)?;
-    Ok(())
+    events(around, around.layout.output, v)
 }
 
 /// `repeatedly`.
@@ -228,8 +216,7 @@ fn repeatedly(around: Around<'_>, q: u64, v: usize) -> Result<(), Unlaid>
     if q < 1 || q > MOST_WAIT {
         return Err(Unlaid::Untyped);
     }
-    events(around, around.layout.output, v)?;
-    Ok(())
+    events(around, around.layout.output, v)
 }
 
 /// A type of the table is that of numbers.
@@ -261,8 +248,7 @@ fn time(around: Around<'_>) -> Result<(), Unlaid>
 {
     is_int(around, around.layout.output)?;
     has(around, &[around.layout.output])?;
-    keeps_none(around)?;
-    Ok(())
+    keeps_none(around)
 }
 
 /// `integral`.
@@ -273,8 +259,7 @@ fn integral(around: Around<'_>) -> Result<(), Unlaid>
     is_int(around, around.layout.output)?;
     is_int(around, around.layout.input)?;
     has(around, &[around.layout.output])?;
-    keeps_none(around)?;
-    Ok(())
+    keeps_none(around)
 }
 
 /// `accumBy`.
@@ -288,8 +273,7 @@ fn accum(around: Around<'_>, g: &Expr, z: &Expr) -> Result<(), Unlaid>
     leaf_at(around, z, &Ty::Unit, v)?;
     let value = around.types.tree(around.alloc, u)?;
     leaf_beside(around, g, v, value, v)?;
-    has(around, &[v, around.layout.output])?;
-    Ok(())
+    has(around, &[v, around.layout.output])
 }
 
 /// The parts of a switch whose event stands beside what f answers: the types of that answer, of the
@@ -315,8 +299,7 @@ fn switch(around: Around<'_>, f: usize, t: usize) -> Result<(), Unlaid>
 {
     let (answer, event, _) = watched(around, f, t)?;
     let b = around.layout.output;
-    has(around, &[b, answer, b, event, b, b])?;
-    Ok(())
+    has(around, &[b, answer, b, event, b, b])
 }
 
 /// `dSwitch`.
@@ -326,8 +309,7 @@ fn d_switch(around: Around<'_>, f: usize, t: usize) -> Result<(), Unlaid>
 {
     let (answer, event, _) = watched(around, f, t)?;
     let b = around.layout.output;
-    has(around, &[b, answer, b, event, b, b, b])?;
-    Ok(())
+    has(around, &[b, answer, b, event, b, b, b])
 }
 
 /// The parts of a switch that restarts, whose event stands beside its input: the types of that
@@ -351,8 +333,7 @@ fn r_switch(around: Around<'_>, f: usize, t: usize) -> Result<(), Unlaid>
 {
     let (a, event, _) = restarted(around, f, t)?;
     let b = around.layout.output;
-    has(around, &[a, event, b, b])?;
-    Ok(())
+    has(around, &[a, event, b, b])
 }
 
 /// `drSwitch`.
@@ -362,8 +343,7 @@ fn dr_switch(around: Around<'_>, f: usize, t: usize) -> Result<(), Unlaid>
 {
     let (a, event, _) = restarted(around, f, t)?;
     let b = around.layout.output;
-    has(around, &[a, event, b, b, b, b])?;
-    Ok(())
+    has(around, &[a, event, b, b, b, b])
 }
 
 /// The parts of a switch that freezes these functions: the types of what e gets, of the event, and of
@@ -451,8 +431,7 @@ fn old(around: Around<'_>, k: usize, f: usize, params: usize, olds: usize) -> Re
     starts(callee.olds.as_slice(), around.layout.olds.as_slice(), olds)?;
     stands_at(around.layout.olds.as_slice(), k, f)?;
     has(around, &[around.layout.output])?;
-    keeps_none(around)?;
-    Ok(())
+    keeps_none(around)
 }
 
 /// Number k of these is f.
@@ -460,8 +439,7 @@ fn stands_at(all: &[usize], k: usize, f: usize) -> Result<(), Unlaid>
     ensures { IfOk result (λ _. slice_get all.now k ≡ Some f) }
 {
     let known = number_at(all, k)?;
-    same(known, f)?;
-    Ok(())
+    same(known, f)
 }
 
 /// Numbers are the first n of others.
@@ -471,8 +449,7 @@ fn starts(front: &[usize], all: &[usize], n: usize) -> Result<(), Unlaid>
     if n > all.len() {
         return Err(Unlaid::Untyped);
     }
-    equal(front, &all[..n])?;
-    Ok(())
+    equal(front, &all[..n])
 }
 
 /// `old` of a frozen network that isn't there.
@@ -482,8 +459,7 @@ fn identity(around: Around<'_>) -> Result<(), Unlaid>
 {
     same(around.layout.input, around.layout.output)?;
     has(around, &[around.layout.output])?;
-    keeps_none(around)?;
-    Ok(())
+    keeps_none(around)
 }
 
 /// `-->`.
@@ -495,8 +471,7 @@ fn initial_out(around: Around<'_>, c: &Expr, f: usize) -> Result<(), Unlaid>
     leaf_at(around, c, &Ty::Unit, b)?;
     goes(around, f, around.layout.input, b)?;
     has(around, &[b, b, b])?;
-    keeps_none(around)?;
-    Ok(())
+    keeps_none(around)
 }
 
 /// `>--`.
@@ -508,8 +483,7 @@ fn initial_in(around: Around<'_>, c: &Expr, f: usize) -> Result<(), Unlaid>
     leaf_at(around, c, &Ty::Unit, a)?;
     goes(around, f, a, around.layout.output)?;
     has(around, &[a, a, around.layout.output])?;
-    keeps_none(around)?;
-    Ok(())
+    keeps_none(around)
 }
 
 /// `rpSwitchB`.
@@ -527,8 +501,7 @@ fn collection(around: Around<'_>, fs: &Vec<usize>, m: &Expr, t: usize) -> Result
     answers_many(around, around.layout.output, MOST_MEMBERS)?;
     chooses(around, m, u, by)?;
     takes_over(around, t, by, a, b)?;
-    has(around, &[around.layout.output])?;
-    Ok(())
+    has(around, &[around.layout.output])
 }
 
 /// The choice of an `rpSwitchB` goes from u to the members that stay, beside what new ones start
@@ -545,6 +518,5 @@ fn chooses(around: Around<'_>, m: &Expr, u: usize, by: usize) -> Result<(), Unla
     let stay = TyChild::new(around.alloc, stay)?;
     let start = TyChild::new(around.alloc, start)?;
     let input = around.types.tree(around.alloc, u)?;
-    leaf_to(around, m, &input, &Ty::Pair(stay, start))?;
-    Ok(())
+    leaf_to(around, m, &input, &Ty::Pair(stay, start))
 }

@@ -268,10 +268,8 @@ fn part(
 ) -> Result<Laid, Unlaid> {
     let position = below(frame, k)?;
     let inner = Frame {
-        alloc: frame.alloc,
         position: position.as_slice(),
-        params: frame.params,
-        olds: frame.olds,
+        ..frame
     };
     lay_part(inner, f, input, to)
 }
@@ -288,10 +286,8 @@ fn taker(
 ) -> Result<Laid, Unlaid> {
     let params = and_param(frame, by)?;
     let inner = Frame {
-        alloc: frame.alloc,
-        position: frame.position,
         params: params.as_slice(),
-        olds: frame.olds,
+        ..frame
     };
     part(inner, k, t, input, to)
 }
@@ -309,10 +305,8 @@ fn resumer(
 ) -> Result<Laid, Unlaid> {
     let olds = and_olds(frame, frozen)?;
     let inner = Frame {
-        alloc: frame.alloc,
-        position: frame.position,
-        params: frame.params,
         olds: olds.as_slice(),
+        ..frame
     };
     taker(inner, frozen.behind.saturating_add(1), t, by, input, to)
 }

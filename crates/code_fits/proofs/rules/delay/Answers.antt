@@ -1,8 +1,8 @@
 use Rattle.std.proofs.Common.{arith}
-use Rattle.code_fits.proofs.RuleTests.{delay-ok}
+use Rattle.code_fits.proofs.RuleTests.{if_ok, delay-ok}
 use Rattle.code_fits.proofs.rules.delay.Goals as goal
 
 pub returns : goal.returns
 returns c =
-    delay-ok c.args.around.types.now c.args.around.bounds.now c.args.around.earlier.now c.args.around.layout.now
-    c.args.q c.args.v (omega arith) (omega arith) c.in_ok-same.ensures c.in_ok-same-2.ensures
+    if_ok _ (delay-ok c.args.around.types.now c.args.around.bounds.now c.args.around.earlier.now c.args.around.layout.now
+    c.args.q c.args.v (omega arith) (omega arith) c.in_ok-same.ensures) c.same-2.ensures

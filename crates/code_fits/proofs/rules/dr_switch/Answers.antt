@@ -1,7 +1,7 @@
-use Rattle.code_fits.proofs.RuleTests.{dr_switch-ok}
+use Rattle.code_fits.proofs.RuleTests.{if_ok, dr_switch-ok}
 use Rattle.code_fits.proofs.rules.dr_switch.Goals as goal
 
 pub returns : goal.returns
 returns c =
-    dr_switch-ok c.args.around.types.now c.args.around.bounds.now c.args.around.earlier.now c.args.around.layout.now
-    c.args.f c.args.t _ _ _ c.in_ok-a.ensures c.in_ok-has.ensures
+    if_ok _ (dr_switch-ok c.args.around.types.now c.args.around.bounds.now c.args.around.earlier.now c.args.around.layout.now
+    c.args.f c.args.t _ _ _ c.in_ok-a.ensures) c.has.ensures

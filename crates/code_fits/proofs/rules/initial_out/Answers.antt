@@ -1,7 +1,7 @@
-use Rattle.code_fits.proofs.RuleTests.{initial_out-ok}
+use Rattle.code_fits.proofs.RuleTests.{if_ok, initial_out-ok}
 use Rattle.code_fits.proofs.rules.initial_out.Goals as goal
 
 pub returns : goal.returns
 returns c =
-    initial_out-ok c.args.around.types.now c.args.around.bounds.now c.args.around.earlier.now c.args.around.layout.now
-    c.args.c.now c.args.f c.in_ok-leaf_at.ensures c.in_ok-goes.ensures c.in_ok-has.ensures c.in_ok-keeps_none.ensures
+    if_ok _ (initial_out-ok c.args.around.types.now c.args.around.bounds.now c.args.around.earlier.now c.args.around.layout.now
+    c.args.c.now c.args.f c.in_ok-leaf_at.ensures c.in_ok-goes.ensures c.in_ok-has.ensures) c.keeps_none.ensures
