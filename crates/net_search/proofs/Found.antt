@@ -1,31 +1,16 @@
 -- Certificates that are found, and read back.
-use Rattle.std.proofs.Common.{◌≡◌, ◌≢◌, ◌↔◌, ◌≤◌, ℕ, List, [], length, map, IsTrue, Bool, false, Result, Ok, Err, sym, subst, arith}
-use Rattle.std.proofs.lemmas.List.{length-map}
+use Rattle.std.proofs.Common.{◌≡◌, ◌≢◌, ◌↔◌, ℕ, List, [], IsTrue, Bool, false, Result, Ok, Err, sym, subst, arith}
 use Rattle.net_meaning.specs.TypedNetwork.{TypedNetwork}
-use Rattle.net_tree.specs.LawStep.{Step, step_of}
-use Rattle.net_tree.specs.declared.law_step.LawStep.{LawStep}
+use Rattle.net_tree.specs.LawStep.{Step}
 use Rattle.net_text.specs.CertificateLaws.{IsCertificate}
 use Rattle.net_text.specs.CertificatePrinting.{PrintedCertificateLaw, certificate_spelling}
 use Rattle.net_text.specs.declared.fault.NetTextFault.{NetTextFault}
 use Rattle.net_text.specs.declared.fault.NetTextFault.TheVariants as V
 use Rattle.cert_check.specs.Derives.{Derives, no_step}
-use Rattle.cert_check.specs.declared.derivation.TheConstants.{MOST_STEPS}
 use Rattle.leaf_core.specs.Expression.{Expression}
 use Rattle.net_tree.specs.Network.{Network}
-use Rattle.net_search.specs.Certifying.{AreApart, LeadTo}
 use Rattle.net_search.specs.Improving.{Improved}
 use Rattle.net_search.specs.ReadBack.{IsReadBack}
-
--- steps that lead from t to the target's network derive it, where they are few
-pub derives_found : (t target : TypedNetwork) (items : List LawStep) → AreApart t target → LeadTo t target (map step_of items) → length items ≤ MOST_STEPS
-    → Derives t target (map step_of items)
-derives_found t target items apart lead few = record {
-  same_input = apart.same_input;
-  few = let h : length (map step_of items) ≡ length items = length-map items step_of in omega arith;
-  last = lead.last;
-  leads = lead.leads;
-  ends = lead.ends;
-}
 
 -- no step derives the same network
 pub derives_same : (t target : TypedNetwork) → t.input ≡ target.input → t.net ≡ target.net → Derives t target []

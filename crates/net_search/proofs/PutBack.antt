@@ -15,10 +15,8 @@ use Rattle.net_syntax.proofs.OnePlace.{populated, one_place}
 use Rattle.net_syntax.proofs.Splits.{Split, split}
 use Rattle.net_types.proofs.ChangedPlaces.{kept}
 use Rattle.net_types.proofs.Holes.{Hole, hole, found_there}
+use Rattle.net_types.proofs.Rewritings.{one_tree}
 use Rattle.net_search.proofs.Restored.{part_restored, child_restored}
-
-one_of : {X : Type 0} {o : Option X} {a b : X} → o ≡ Some a → o ≡ Some b → a ≡ b
-one_of {a = a} {b = b} e h = same_Some a b (sym e ∙ h)
 
 -- an expression with another part at a path, and the first one back
 leaf_back : (e : Expression) (p : List ℕ) (s v c : Expression) → with_part_at e p s ≡ Some v → part_at e p ≡ Some c → with_part_at v p c ≡ Some e
@@ -66,8 +64,8 @@ put_back R Q tree there p s w B C d x q (inside_network {R = P} {f = f} {c = c} 
     value_is (λ v. (inside R v n ≡ inside R f n) × (child v n ≡ Some t.now)) t.is (kept R f n t.now) in
     let b : Hole R.params R.olds R.input C t.net n t.now = value_is (Hole R.params R.olds R.input C t.net n) same.1 (hole x' n) in
     let here : a.place ≡ P = one_place (populated d) a.stands g refl in
-    let moved : b.place ≡ P = one_of (found_there x' same.1 b.stands) (same.0 ∙ (found_there d i a.stands ∙ ap Some here)) in
-    let e : t.before ≡ c = one_of t.there i in
+    let moved : b.place ≡ P = one_tree (found_there x' same.1 b.stands) (same.0 ∙ (found_there d i a.stands ∙ ap Some here)) in
+    let e : t.before ≡ c = one_tree t.there i in
     let below : PutBack P Q c there p' s t.now =
     put_back P Q c there p' s t.now a.out b.out (subst (λ z. TreeWithin z c a.out) here a.typed) (subst (λ z. TreeWithin z t.now b.out) moved b.typed)
     (ap (λ z. replaced z p' s) (sym e) ∙ t.changed) r in

@@ -15,7 +15,8 @@ use Rattle.yampa_run.specs.Loading.{IsNetworkIn, IsNetworkOf}
 use Rattle.yampa_run.specs.Check.{AreStepsOf}
 use Rattle.yampa_run.specs.Apply.{IsLeading}
 
-typed_of : (known : Option (List ℕ)) (t : TypedNetwork) → IsTold known → IsNetworkOf known t → WithinLimits t
+-- a known file has a network within the limits
+pub typed_of : (known : Option (List ℕ)) (t : TypedNetwork) → IsTold known → IsNetworkOf known t → WithinLimits t
 typed_of known t (bytes, e) n = let i : IsNetworkIn bytes t = subst (λ o. IsNetworkOf o t) e n in i.typed
 
 -- where no number is given, the steps that are to be taken are all of the certificate

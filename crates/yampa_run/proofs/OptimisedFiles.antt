@@ -1,11 +1,10 @@
 -- What two runs of the command `optimise` print of one file is read back, and derives what is printed.
-use Rattle.std.proofs.Common.{◌≡◌, ℕ, Bool, true, false, List, [], ◌∷◌, Option, Some, refl, sym, ap, ◌∙◌, subst, arith}
+use Rattle.std.proofs.Common.{◌≡◌, ℕ, Bool, true, false, List, [], ◌∷◌, Some, refl, sym, ap, ◌∙◌, subst, arith}
 use Rattle.std.specs.List.{All, Contains, list_all}
 use Rattle.std.proofs.lemmas.Bool.{leb-true}
 use Rattle.std.proofs.lemmas.List.Elements.{All-head, All-tail}
 use Rattle.std.proofs.lemmas.List.Folds.{list_all_at}
 use Rattle.std.proofs.Math.Dec.{leb}
-use Rattle.leaf_expr.specs.Sexpr.{depths}
 use Rattle.leaf_core.specs.Expression.{Expression}
 use Rattle.net_tree.specs.LawStep.{Step}
 use Rattle.net_tree.specs.Network.{Network}
@@ -14,22 +13,24 @@ use Rattle.net_meaning.specs.TypedNetwork.{TypedNetwork}
 use Rattle.net_tree.specs.declared.law_step.Law.{Law}
 use Rattle.net_tree.specs.declared.law_step.Law.TheVariants as L
 use Rattle.net_text.specs.CertificateLaws.{IsCertificate}
-use Rattle.net_text.specs.CertificatePrinting.{ChildrenFit, GivenFits, IsLaw, PrintedCertificateLaw, StepFits, StepsFit, certificate_spelling, child_sexprs}
+use Rattle.net_text.specs.CertificatePrinting.{ChildrenFit, GivenFits, IsLaw, PrintedCertificateLaw, StepFits, StepsFit, certificate_spelling}
 use Rattle.net_text.specs.FileLaws.{IsFile, PrintedFileLaw}
 use Rattle.net_text.specs.Grammar.{version_3}
 use Rattle.net_text.specs.StepGrammar.{last_law, last_leaf_law}
 use Rattle.net_text.specs.Printing.{file_spelling}
-use Rattle.cert_check.specs.Derives.{Steps, no_step, step_then}
+use Rattle.cert_check.proofs.Taken.{led}
 use Rattle.net_opt.specs.Laws.{OptimisedDerivesLaw, OneOptimisedLaw}
 use Rattle.net_opt.specs.Optimising.{IsTried, MayTake, Optimised, expression_laws, network_laws}
 use Rattle.command_line.specs.CommandLine.{DerivationNames}
 use Rattle.yampa_run.specs.OptimisedFiles.{DerivesOptimised, FitFiles, OptimisedFilesLaw}
 use Rattle.command_line.specs.declared.command.Wanted.TheVariants as W
-use Rattle.yampa_run.specs.KnownFiles.{IsTold, KnownFiles}
-use Rattle.yampa_run.specs.Loading.{IsNetworkIn, IsNetworkOf}
+use Rattle.yampa_run.specs.KnownFiles.{KnownFiles}
+use Rattle.yampa_run.specs.Loading.{IsNetworkOf}
 use Rattle.yampa_run.specs.NetworkCommands.{PrintsMade}
 use Rattle.yampa_run.specs.Check.{AreStepsOf}
 use Rattle.yampa_run.proofs.Refusals.{one_of_file}
+use Rattle.yampa_run.proofs.AppliedFiles.{typed_of}
+use Rattle.yampa_run.proofs.Places.{flat}
 
 -- a test that each number of a list passes is passed by one that stands in it
 passes : (test : ℕ → Bool) (ns : List ℕ) (n : ℕ) → list_all test ns ≡ true → Contains ns n → test n ≡ true
@@ -43,10 +44,6 @@ passes test ns n all c = go (test n) refl
 is_law : (law : Law) → IsTried law → IsLaw law
 is_law (L.L n) tried = (leb-true 1 n (passes (leb 1) network_laws n refl tried), leb-true n (last_law version_3) (passes (λ k. leb k (last_law version_3)) network_laws n refl tried))
 is_law (L.E n) tried = (leb-true 1 n (passes (leb 1) expression_laws n refl tried), leb-true n (last_leaf_law version_3) (passes (λ k. leb k (last_leaf_law version_3)) expression_laws n refl tried))
-
-flat : (p : List ℕ) → depths (child_sexprs p) ≡ 0
-flat [] = refl
-flat (k ∷ ks) = let e : depths (child_sexprs ks) ≡ 0 = flat ks in rw e refl
 
 -- a step that may be taken is within the limits of files where its position is
 step_fits : (s : Step) → MayTake s → ChildrenFit s.position → StepFits s
@@ -63,12 +60,6 @@ steps_fit (s ∷ ss) may fit = (
   step_fits s (All-head MayTake s ss may) (All-head (λ s. ChildrenFit s.position) s ss fit),
   steps_fit ss (All-tail MayTake s ss may) (All-tail (λ s. ChildrenFit s.position) s ss fit),
 )
-
--- steps keep the input type, and what they lead to is within the limits
-led : (t : TypedNetwork) (ss : List Step) (u : TypedNetwork) → WithinLimits t → Steps t ss u → (u.input ≡ t.input) × WithinLimits u
-led t ss u limits no_step = (refl, limits)
-led t ss u limits (step_then {u = next} {ss = more} x xs) =
-    let behind = led next more u x.rewritten.within xs in (behind.0 ∙ x.rewritten.same_input, behind.1)
 
 -- files that hold a source, its optimised network and the steps that lead there hold a derivation
 derives_files : PrintedFileLaw → PrintedCertificateLaw → OptimisedDerivesLaw → (told : KnownFiles) (names : DerivationNames) (source : TypedNetwork)
@@ -101,9 +92,6 @@ derives_files nets certificates derives told names source net steps network type
         counted = refl;
       };
     }
-
-typed_of : (known : Option (List ℕ)) (t : TypedNetwork) → IsTold known → IsNetworkOf known t → WithinLimits t
-typed_of known t (bytes, e) n = let i : IsNetworkIn bytes t = subst (λ o. IsNetworkOf o t) e n in i.typed
 
 -- two runs on one file print of one answer
 pub optimised_files : PrintedFileLaw → PrintedCertificateLaw → OptimisedDerivesLaw → OneOptimisedLaw → OptimisedFilesLaw

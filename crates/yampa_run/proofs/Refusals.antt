@@ -46,6 +46,7 @@ use Rattle.yampa_run.specs.declared.preparation.Job.{Job}
 use Rattle.yampa_run.specs.declared.preparation.Job.TheVariants as J
 use Rattle.yampa_run.specs.declared.preparation.Refusal.{Refusal}
 use Rattle.yampa_run.specs.declared.preparation.Refusal.TheVariants as Refused
+use Rattle.yampa_run.proofs.AppliedFiles.{typed_of}
 
 err_is : {A F : Type 0} {x y : F} → ◌≡◌ {A = Result A F} (Err x) (Err y) → x ≡ y
 err_is e = cc
@@ -203,9 +204,6 @@ no_number_fails (Some word) first refusal t h = none_is_some (subst (λ o. IsSom
 one_first : (word : Option (List ℕ)) (first other : Option ℕ) → TellsFirst word first → TellsFirst word other → first ≡ other
 one_first None first other t u = t ∙ sym u
 one_first (Some word) first other t u = t.1 ∙ sym u.1
-
-typed_of : (known : Option (List ℕ)) (t : TypedNetwork) → IsTold known → IsNetworkOf known t → WithinLimits t
-typed_of known t (bytes, e) n = let i : IsNetworkIn bytes t = subst (λ o. IsNetworkOf o t) e n in i.typed
 
 no_applied_fails : (told : KnownFiles) (names : LeadingNames) (job : Job) (refusal : Refusal) → refusal ≢ Refused.Memory → AreTold told (apply names)
     → TellsApplied told names job → IsNotApplied told names refusal → ⊥
