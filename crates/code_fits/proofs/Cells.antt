@@ -6,7 +6,7 @@ use Rattle.std.proofs.lemmas.Int.{SFits-int_wrap}
 use Rattle.sample_core.specs.Datum.{Datum, no_event, event, int_of}
 use Rattle.sample_core.specs.TypeTree.{TypeTree, int_ty, event_ty}
 use Rattle.leaf_code.specs.Fitting.{Bounds, Fits, int_fits, no_event_fits, event_fits}
-use Rattle.net_meaning.specs.SignalFunction.{latest_event, if_event}
+use Rattle.net_meaning.specs.SignalFunction.{latest_event}
 use Rattle.cell_core.specs.Cell.{Cell, waiting, over, recurring, due, count_down, enqueue, after_cell}
 use Rattle.cell_core.specs.declared.form.Form.{Form}
 use Rattle.cell_core.specs.declared.form.Form.TheVariants as C
@@ -78,10 +78,6 @@ module _ (bound : Bounds) where
   latest-fits : (V : TypeTree) (c : Datum) {x : Datum} → Fits bound c V → Fits bound x (event_ty V) → Fits bound (latest_event c (x ∷ [])) V
   latest-fits V c f no_event_fits = f
   latest-fits V c f (event_fits h) = h
-
-  pub if-fits : (V : TypeTree) (w : Datum) {x : Datum} (U : TypeTree) → Fits bound w V → Fits bound x (event_ty U) → Fits bound (if_event x w) (event_ty V)
-  if-fits V w U f no_event_fits = no_event_fits
-  if-fits V w U f (event_fits h) = event_fits f
 
   pub int-of-fits : {x : Datum} → Fits bound x int_ty → FitsSigned w64 (int_of x)
   int-of-fits (int_fits h) = h

@@ -1,5 +1,5 @@
 -- What is tested of each holds of all.
-use Rattle.std.proofs.Common.{◌≡◌, ◌≤◌, ◌<◌, ◌+◌, ℕ, zero, suc, true, false, List, [], ◌∷◌, ◌++◌, length, map, take, drop, get_or, Some, refl, sym, ap, ◌∙◌, subst, arith, below_more}
+use Rattle.std.proofs.Common.{◌≡◌, ◌≤◌, ◌<◌, ◌+◌, ℕ, zero, suc, true, false, List, [], ◌∷◌, ◌++◌, length, map, take, drop, get_or, Some, refl, sym, ap, ◌∙◌, subst, arith}
 use Rattle.std.specs.List.{slice_get}
 use Rattle.std.proofs.lemmas.List.{map-append}
 use Rattle.std.proofs.lemmas.Option.{slice_get-get_or, slice_get_read}
@@ -13,12 +13,12 @@ use Rattle.leaf_code.specs.declared.operation.Step.{Step}
 use Rattle.leaf_code.specs.CodeView.{operation_of, steps_in}
 use Rattle.leaf_code.specs.Fitting.{Bounds, ListWithin, ListsWithin}
 use Rattle.net_code.specs.declared.statement.Function.{Function}
+use Rattle.net_code.specs.Running.{AllBelow}
 use Rattle.code_fits.specs.declared.types.Types.{Types}
-use Rattle.code_fits.specs.declared.types.TypeEntry.{TypeEntry}
 use Rattle.code_fits.specs.declared.layout.Layout as N
 use Rattle.code_fits.specs.Layouts.{Layout}
-use Rattle.code_fits.specs.Rules.{Goes, AllGo, one_goes, FunctionFits, AllBelow, CodeFits}
-use Rattle.code_fits.specs.Tables.{beside, bound_of, elements_in, layout_of, entry_tree, tree_at, FitsOver, TableHolds}
+use Rattle.code_fits.specs.Rules.{Goes, AllGo, one_goes, FunctionFits, CodeFits}
+use Rattle.code_fits.specs.Tables.{beside, bound_of, elements_in, layout_of, FitsOver, TableHolds}
 
 some-is : {X : Type 0} (x y : X) → Some x ≡ Some y → x ≡ y
 some-is x y e = cc
@@ -97,14 +97,6 @@ found-after A Ts ns i T n l e f h =
     ∙ ap (λ ms. beside A (type_of T ∷ map type_of (drop (suc i) Ts)) ms) (drop-some ns i n f)
     ∙ beside-after A (type_of T) (map type_of (drop (suc i) Ts)) n (drop (suc i) ns) h
     ∙ ap (λ k. beside A (map type_of (drop k Ts)) (drop k ns)) one
-
--- an entry more of a table is the tree at its number
-pub entries-next : (ts : Types) (i : ℕ) (r : TypeEntry) → i < length ts.entries.items → r ≡ get_or ts.entries.items i r → tree_at ts i ≡ entry_tree ts r
-    → ((j : ℕ) → j < i → (q : TypeEntry) → slice_get ts.entries.items j ≡ Some q → tree_at ts j ≡ entry_tree ts q)
-    → (j : ℕ) → j < i + 1 → (q : TypeEntry) → slice_get ts.entries.items j ≡ Some q → tree_at ts j ≡ entry_tree ts q
-entries-next ts i r l e h before =
-    below_more (λ j. (q : TypeEntry) → slice_get ts.entries.items j ≡ Some q → tree_at ts j ≡ entry_tree ts q) i before
-    (λ q f. let same : r ≡ q = some-is r q (sym (placed ts.entries.items i r l e) ∙ f) in subst (λ z. tree_at ts i ≡ entry_tree ts z) same h)
 
 -- how many stand in front of what is there
 front-length : (lay : N.Layout → Layout) (Ls : List N.Layout) (i : ℕ) (L : N.Layout) → slice_get Ls i ≡ Some L → length (map lay (take i Ls)) ≡ i

@@ -1,5 +1,5 @@
 -- A function that fits its layout keeps to it, over earlier ones that do.
-use Rattle.std.proofs.Common.{◌≡◌, ◌≤◌, ◌<◌, ◌^◌, ◌+◌, ℕ, zero, suc, pos, if◌then◌else◌, List, [], ◌∷◌, ◌++◌, map, length, take, get_or, Option, Some, None, refl, sym, ap, ◌∙◌, arith, subst, append-nil, append_assoc, length-take, min}
+use Rattle.std.proofs.Common.{◌≡◌, ◌≤◌, ◌<◌, ◌^◌, ◌+◌, ℕ, zero, suc, pos, if◌then◌else◌, List, [], ◌∷◌, ◌++◌, map, length, take, get_or, Option, Some, None, refl, sym, ap, ◌∙◌, arith, subst, append-nil, append_assoc}
 use Rattle.std.proofs.lemmas.List.{length-map}
 use Rattle.std.specs.List.{slice_get}
 use Rattle.sample_core.specs.Datum.{Datum, Datums, unit, int, pair, list, left, right, list_of, elements, items_of}
@@ -15,6 +15,7 @@ use Rattle.cell_core.specs.declared.form.Form.TheVariants as C
 use Rattle.net_machine.specs.Store.{Moment, start, step, Store, Origin, written, made, Entry, entries, stored, nothing, both as two_parts, mode as moded, frozen as kept_frozen, one, other, fed_value, looped, mode_of, front_part, taker_part, frozen_when, frozen_part, resumer_part, cell_in}
 use Rattle.net_machine.specs.Stepper.{Stepper, each_step, routed, event_beside, cell_at, Turn, turns, new_turns, written_from, members_at, members_in, step_at, member_step, turns_step}
 use Rattle.net_machine.specs.Machine.{no_leaf}
+use Rattle.net_machine.proofs.Collections.{few-taken, entries-stored}
 use Rattle.net_code.specs.declared.statement.Action.TheVariants as Ac
 use Rattle.net_code.specs.declared.statement.Part.TheVariants as P
 use Rattle.net_code.specs.declared.statement.When.TheVariants as W
@@ -570,10 +571,6 @@ module _ (bound : Bounds) (S : ℕ → Shape) where
           × (AllFit bound (list_of r.1) B × ((length r.1 ≡ length ts) × EntriesFit bound MS TS V r.0)) = turns-good ts v h.1 x in
           (well-append bound (member_stands (tracers_of g js) maker-stands t.1.0 t.1.1 (t.0, v)) _ a.0 b.0, (more_fits a.1.0 b.1.0, (ap suc b.1.1.0, (a.1.1, b.1.1.1))))
 
-      entries-stored : (es : List Entry) → entries (stored es) ≡ es
-      entries-stored [] = refl
-      entries-stored (a ∷ es) = ap (λ bs. a ∷ bs) (entries-stored es)
-
       turns-take : (n : ℕ) (ts : List Turn) → TurnsFit ts → TurnsFit (take n ts)
       turns-take zero ts h = tt
       turns-take (suc n) [] h = tt
@@ -627,9 +624,6 @@ module _ (bound : Bounds) (S : ℕ → Shape) where
           let l : LeafFits bound Ps U (expression_of e) g.params c (pair_ty (list_ty int_ty) (list_ty V)) = leaf-well e g.params c he p h in
           turns-take 64 _ (turns-append (items_named ts (items_of (left (value_in e g.params c)))) (new_turns (map made (items_of (right (value_in e g.params c)))))
           (all-named ts (items_of (left (value_in e g.params c))) k) (started-fit (right-fits bound l.value)))
-
-      few-taken : {X : Type 0} (xs : List X) → length (take 64 xs) ≤ 64
-      few-taken xs = let h : length (take 64 xs) ≡ min 64 (length xs) = length-take 64 xs in omega arith
 
       few-in : (m : Moment) (s : Store) (o : Option Datum) → length (members_in (value_in e g.params) (members_at m (steps_of g js) s) o) ≤ 64
       few-in start s None = few-taken _

@@ -4,16 +4,17 @@ use Rattle.std.specs.List.{slice_get}
 use Rattle.sample_core.specs.Datum.{Datum}
 use Rattle.sample_core.specs.TypeTree.{TypeTree}
 use Rattle.leaf_code.specs.Fitting.{Bounds, Fits, ParamsFit, no_param}
+use Rattle.leaf_code.proofs.Values.{get-front}
 use Rattle.net_meaning.specs.SignalFunction.{TimedList}
 use Rattle.net_machine.specs.Store.{Moment, start, step, Store}
 use Rattle.net_machine.specs.Stepper.{Stepper}
 use Rattle.net_code.specs.declared.statement.Function.{Function}
-use Rattle.net_code.specs.Running.{Kept, Linked, body_step, numbered, nothing_done, link, latest, nothing_given}
+use Rattle.net_code.specs.Running.{Kept, Linked, body_step, numbered, nothing_done, link, latest, nothing_given, AllBelow}
 use Rattle.net_code.specs.CodeView.{body_of, code_in}
 use Rattle.net_code.specs.CodeLaw.{value_in}
-use Rattle.net_code.proofs.Links.{get-front, get-next}
+use Rattle.net_code.proofs.Links.{get-next}
 use Rattle.code_fits.specs.Layouts.{Layout}
-use Rattle.code_fits.specs.Rules.{FunctionFits, AllBelow, CodeFits}
+use Rattle.code_fits.specs.Rules.{FunctionFits, CodeFits}
 use Rattle.code_fits.specs.Standing.{Tracer, Traced, nothing_stands, values_stand, function_stands, traced, link_stands, run_stands}
 use Rattle.code_fits.specs.FitLaw.{SamplesFit, AlwaysWell, FitLaw}
 use Rattle.code_fits.proofs.Cells.{At}

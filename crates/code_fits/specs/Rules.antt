@@ -1,5 +1,5 @@
 -- When the functions of code fit their layouts: a rule a form.
-use Rattle.std.specs.Prelude.{◌≡◌, ◌≤◌, ◌<◌, ◌^◌, ℕ, List, [], ◌∷◌, ◌++◌, length, take, slice_get, Option, Some, None}
+use Rattle.std.specs.Prelude.{◌≡◌, ◌≤◌, ◌^◌, ℕ, List, [], ◌∷◌, ◌++◌, length, take, slice_get, Option, Some, None}
 use Rattle.std.specs.declared.vec.Vec.{Vec}
 use Rattle.std.specs.declared.alloc.Global.{Global}
 use Rattle.sample_core.specs.TypeTree.{TypeTree, unit_ty, int_ty, pair_ty, event_ty, list_ty}
@@ -10,6 +10,7 @@ use Rattle.leaf_code.specs.CodeOf.{leaf_code}
 use Rattle.leaf_code.specs.Fitting.{Bounds, ListsWithin}
 use Rattle.cell_core.specs.declared.form.Form.{Form}
 use Rattle.cell_core.specs.declared.form.Form.TheVariants as C
+use Rattle.net_code.specs.Running.{AllBelow}
 use Rattle.net_code.specs.declared.statement.Function.{Function}
 use Rattle.net_code.specs.declared.statement.Function.TheVariants as F
 use Rattle.code_fits.specs.Layouts.{Layout, layout}
@@ -126,11 +127,6 @@ pub data FunctionFits (bound : Bounds) (Ls : List Layout) : Layout → Function 
       → FunctionFits bound Ls
       (layout Ps Os (pair_ty A (event_ty U)) (list_ty B) (list_ty B ∷ []) (Some V))
       (F.Collection fs m t)
-
--- each is below n
-abbrev pub AllBelow : ℕ → List ℕ → Type 0
-AllBelow n [] = Unit {0}
-AllBelow n (j ∷ js) = (j < n) × AllBelow n js
 
 -- functions fit their layouts, each beside the earlier ones, behind these; what is frozen are
 -- earlier functions

@@ -2,7 +2,7 @@
 
 ghost use Rattle.std.specs.Prelude.{◌≡◌, IfOk, Some};
 ghost use Rattle.sample_core.specs.TypeView.{type_of};
-ghost use Rattle.code_fits.specs.Rules.{AllBelow};
+ghost use Rattle.net_code.specs.Running.{AllBelow};
 ghost use Rattle.code_fits.specs.Programs.{HasWhole};
 ghost use Rattle.code_fits.specs.Tables.{LayoutsFit, TableHolds, entry_tree, tree_at};
 

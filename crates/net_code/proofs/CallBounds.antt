@@ -1,5 +1,5 @@
 -- Code calls at most as many steps as its network weighs.
-use Rattle.std.proofs.Common.{◌≡◌, ◌≤◌, ◌<◌, ℕ, zero, suc, ◌+◌, ◌*◌, max, min, Bool, true, false, if◌then◌else◌, List, [], ◌∷◌, ◌++◌, map, length, take, Option, Some, None, get_or, refl, sym, ap, ◌∙◌, arith, subst, append-nil, append_assoc, length-take}
+use Rattle.std.proofs.Common.{◌≡◌, ◌≤◌, ◌<◌, ℕ, zero, suc, ◌+◌, ◌*◌, max, Bool, true, false, if◌then◌else◌, List, [], ◌∷◌, ◌++◌, map, length, take, Option, Some, None, get_or, refl, sym, ap, ◌∙◌, arith, subst, append-nil, append_assoc}
 use Rattle.std.proofs.lemmas.List.{length-map}
 use Rattle.sample_core.specs.Datum.{Datum, left}
 use Rattle.leaf_core.specs.declared.expr.Expr.{Expr}
@@ -9,15 +9,16 @@ use Rattle.net_tree.specs.Weight.{weight, weights, weight_at, total}
 use Rattle.net_meaning.specs.SignalFunction.{TimedList, event_in}
 use Rattle.net_machine.specs.Store.{Moment, start, step, Store, Origin, written, made, one, other, mode_of, front_part, taker_part, entries}
 use Rattle.net_machine.specs.Stepper.{Timed, Stepper, event_beside, Turn, turns, members_at, members_in}
+use Rattle.net_machine.proofs.Collections.{few-taken}
 use Rattle.net_code.specs.declared.freezable.Freezable.{Freezable}
-use Rattle.net_code.specs.Running.{Body, Code, Given, given_value, value_taken, cleared, taken_by, frozen_now, beside_in, is_none, going, Linked, Local, entered, latest, nothing_given}
+use Rattle.net_code.specs.Running.{Body, Code, Given, given_value, value_taken, cleared, taken_by, frozen_now, beside_in, is_none, going, Linked, Local, entered, latest, nothing_given, AllBelow}
 use Rattle.net_code.specs.Bodies.{member_statements}
 use Rattle.net_code.specs.CodeOf.{freezable, and_body, body_of_old, emit, emit_all, code_of}
 use Rattle.net_code.specs.CodeLaw.{value_in}
 use Rattle.net_code.specs.Calls.{Counter, Counted, no_calls, each_calls, routed_calls, member_calls, turns_calls, going_calls, body_calls, function_calls, run_calls, CallsLaw}
 use Rattle.net_code.proofs.BodyLaws.{steps_of}
 use Rattle.net_code.proofs.Links.{Begins, function_of}
-use Rattle.net_code.proofs.Emitted.{begins-trans, before, adds, adds_all, AllBelow, below-more, latest_below, all_below, latest_body}
+use Rattle.net_code.proofs.Emitted.{begins-trans, before, adds, adds_all, below-more, latest_below, all_below, latest_body}
 use Rattle.net_code.proofs.CallLinks.{counter_of, same_counter, next_counter}
 
 -- at most so many
@@ -88,9 +89,6 @@ routed-within r k (n ∷ ns) (w ∷ ws) s x i = within-sum _ _ _ _ (i.0 (one s) 
 turns-within : (f : Origin → Counter) (w : ℕ) (ms : List Turn) (v : Datum) → ((o : Origin) → Below (f o) w) → turns_calls f ms v ≤ times (length ms) w
 turns-within f w [] v i = omega arith
 turns-within f w (m ∷ ms) v i = within-sum _ _ w (times (length ms) w) (i m.1.0 m.1.1 (m.0, v)) (turns-within f w ms v i)
-
-few-taken : {A : Type 0} (xs : List A) → length (take 64 xs) ≤ 64
-few-taken xs = let e : length (take 64 xs) ≡ min 64 (length xs) = length-take 64 xs in omega arith
 
 few-turns : (r : Datum → Datum) (m : Moment) (fs : List Stepper) (s : Store) (o : Option Datum) → length (members_in r (members_at m fs s) o) ≤ 64
 few-turns r start fs s None = few-taken _

@@ -2,9 +2,10 @@
 use Rattle.std.proofs.Common.{◌≡◌, ◌<◌, ℕ, ◌+◌, List, [], ◌∷◌, ◌++◌, length, refl, sym, ap, ◌∙◌, arith, append-nil, append_assoc, length-append}
 use Rattle.sample_core.specs.Datum.{Datum}
 use Rattle.leaf_core.specs.declared.expr.Expr.{Expr}
+use Rattle.leaf_code.proofs.Values.{get-front}
 use Rattle.net_code.specs.Running.{Body, Code, Linked, body_step, numbered, link}
 use Rattle.net_code.specs.Calls.{Counted, no_calls, function_calls, counted, link_calls}
-use Rattle.net_code.proofs.Links.{Begins, function_of, get-front, get-next}
+use Rattle.net_code.proofs.Links.{Begins, function_of, get-next}
 
 module _ (val : Expr → List Datum → Datum → Datum) where
   calls-append : (fs : List Linked) (ns : List Counted) (c d : Code) → link_calls val fs ns (c ++ d) ≡ link_calls val (link val fs c) (link_calls val fs ns c) d

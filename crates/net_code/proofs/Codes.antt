@@ -10,12 +10,12 @@ use Rattle.net_machine.specs.Store.{Moment, Store, nothing, both, one, other}
 use Rattle.net_machine.specs.Stepper.{Stepper, Frozen, freeze, seq_step, first_step, par_step, loop_step, switch_step, r_switch_step, initial_out_step, initial_in_step, resume_step, old_step, freezing_step, freeze_each, routed, rp_switch_step}
 use Rattle.net_machine.specs.Machine.{Scope, push_param, push_olds, machine, machines}
 use Rattle.net_code.specs.declared.freezable.Freezable.{Freezable}
-use Rattle.net_code.specs.Running.{Body, Code, Kept, kept_at, split, Given, Linked, given_value, given_kept, given_first, body_step, latest}
+use Rattle.net_code.specs.Running.{Body, Code, Kept, kept_at, split, Given, Linked, given_value, given_kept, given_first, body_step, latest, AllBelow}
 use Rattle.net_code.specs.Bodies.{par_body}
 use Rattle.net_code.specs.CodeOf.{freezable, and_body, body_of_old, emit, emit_all}
 use Rattle.net_code.proofs.BodyLaws.{steps_of, arr_done, seq_done, first_done, par_done, loop_done, cell_done, accum_done, time_done, integral_done, switch_done, r_switch_done, k_switch_done, p_switch_done, old_done, same_done, out_done, in_done, collection_done}
 use Rattle.net_code.proofs.Links.{Begins, function_of, same_function, next_function}
-use Rattle.net_code.proofs.Emitted.{begins-trans, before, adds, adds_all, AllBelow, below-more, latest_below, all_below, latest_body}
+use Rattle.net_code.proofs.Emitted.{begins-trans, before, adds, adds_all, below-more, latest_below, all_below, latest_body}
 
 -- what may be frozen is among q functions, and within n parameters and m frozen networks
 pub data Fits (q n m : ℕ) : List Freezable → Type 0 where

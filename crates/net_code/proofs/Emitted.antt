@@ -3,7 +3,7 @@ use Rattle.std.proofs.Common.{◌≡◌, ◌≤◌, ◌<◌, ℕ, suc, ◌+◌, 
 use Rattle.leaf_core.specs.declared.expr.Expr.{Expr}
 use Rattle.net_tree.specs.Network.{Network, Networks, arr, seq, first, par, loop_pre, initial_out, initial_in, i_pre, delay, hold, accum_by, after, repeatedly, time, integral, switch, r_switch, rp_switch, k_switch, p_switch, old, no_members, and_member}
 use Rattle.net_code.specs.declared.freezable.Freezable.{Freezable}
-use Rattle.net_code.specs.Running.{Body, Code, latest}
+use Rattle.net_code.specs.Running.{Body, Code, latest, AllBelow}
 use Rattle.net_code.specs.CodeOf.{freezable, and_body, emit, emit_all}
 use Rattle.net_code.proofs.Links.{Begins}
 
@@ -89,11 +89,6 @@ mutual
   adds_all (and_member f fs) n ps c =
       let d : Code = emit f n ps c in
       keeps-trans c d _ (adds-keeps c d (adds f n ps c)) (adds_all fs n ps d)
-
--- numbers of functions that are there
-abbrev pub AllBelow : ℕ → List ℕ → Type 0
-AllBelow n [] = Unit {0}
-AllBelow n (j ∷ js) = (j < n) × AllBelow n js
 
 pub below-more : (n m : ℕ) (js : List ℕ) → n ≤ m → AllBelow n js → AllBelow m js
 below-more n m [] l i = tt

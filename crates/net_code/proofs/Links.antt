@@ -1,17 +1,13 @@
 -- Functions that are linked: each is its statements over the earlier ones.
-use Rattle.std.proofs.Common.{◌≡◌, ℕ, zero, suc, ◌+◌, ◌<◌, List, [], ◌∷◌, ◌++◌, length, get_or, refl, sym, ap, ◌∙◌, arith, append-nil, append_assoc, length-append}
+use Rattle.std.proofs.Common.{◌≡◌, ℕ, ◌+◌, ◌<◌, List, [], ◌∷◌, ◌++◌, length, get_or, refl, sym, ap, ◌∙◌, arith, append-nil, append_assoc, length-append}
 use Rattle.sample_core.specs.Datum.{Datum}
 use Rattle.leaf_core.specs.declared.expr.Expr.{Expr}
+use Rattle.leaf_code.proofs.Values.{get-front}
 use Rattle.net_code.specs.Running.{Body, Code, Linked, body_step, numbered, nothing_done, link}
 
 -- code that begins with other code
 abbrev pub Begins : Code → Code → Type 0
 Begins c d = (ds : Code) × (d ≡ c ++ ds)
-
-pub get-front : {A : Type 0} (xs ys : List A) (k : ℕ) (a : A) → k < length xs → get_or (xs ++ ys) k a ≡ get_or xs k a
-get-front [] ys k a l = absurd (omega arith)
-get-front (x ∷ xs) ys zero a l = refl
-get-front (x ∷ xs) ys (suc k) a l = get-front xs ys k a (omega arith)
 
 pub get-next : {A : Type 0} (xs : List A) (y : A) (ys : List A) (a : A) → get_or (xs ++ y ∷ ys) (length xs) a ≡ y
 get-next [] y ys a = refl

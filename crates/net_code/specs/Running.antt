@@ -1,5 +1,5 @@
 -- What code does: a function after the other, each over the earlier ones.
-use Rattle.std.specs.Prelude.{ℕ, zero, suc, Bool, true, false, if◌then◌else◌, List, [], ◌∷◌, ◌++◌, take, get_or, length, ◌-◌, Option, Some, None}
+use Rattle.std.specs.Prelude.{◌<◌, ℕ, zero, suc, Bool, true, false, if◌then◌else◌, List, [], ◌∷◌, ◌++◌, take, get_or, length, ◌-◌, Option, Some, None}
 use Rattle.sample_core.specs.Datum.{Datum, unit, pair, left, right, no_event}
 use Rattle.leaf_core.specs.declared.expr.Expr.{Expr}
 use Rattle.net_meaning.specs.SignalFunction.{SignalFunction, event_in}
@@ -208,6 +208,11 @@ resumed_from k l (step d) = l
 -- a function that is not there
 abbrev pub nothing_done : Linked
 nothing_done g s x = (s, unit)
+
+-- each is below n
+abbrev pub AllBelow : ℕ → List ℕ → Type 0
+AllBelow n [] = Unit {0}
+AllBelow n (j ∷ js) = (j < n) × AllBelow n js
 
 -- function k
 abbrev pub numbered : List Linked → ℕ → Linked

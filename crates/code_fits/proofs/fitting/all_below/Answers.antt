@@ -1,5 +1,5 @@
 use Rattle.std.proofs.Common.{arith}
-use Rattle.code_fits.specs.Rules.{AllBelow}
+use Rattle.net_code.specs.Running.{AllBelow}
 use Rattle.code_fits.proofs.Folds.{below-next, ended}
 use Rattle.code_fits.proofs.fitting.all_below.Goals as goal
 

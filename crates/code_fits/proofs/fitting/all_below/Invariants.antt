@@ -1,5 +1,5 @@
 use Rattle.std.proofs.Common.{drop}
-use Rattle.code_fits.specs.Rules.{AllBelow}
+use Rattle.net_code.specs.Running.{AllBelow}
 use Rattle.code_fits.proofs.fitting.all_below.Given as goal
 
 -- where those to come are, all are
