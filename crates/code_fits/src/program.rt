@@ -81,15 +81,17 @@ fn tested(
         &mut layouts.types,
     )?;
     let Layouts { types, all } = layouts;
-    test_program(
+    let fits = test_program(
         alloc,
         net,
         functions.as_slice(),
         all.as_slice(),
         &types,
         bounds.as_slice(),
-    )
-    .map_err(refusal)?;
+    );
+    if let Err(unlaid) = fits {
+        return Err(refusal(unlaid));
+    }
     let state_bytes = state_bytes(
         alloc,
         functions.as_slice(),
