@@ -4,8 +4,8 @@ ghost use Rattle.std.specs.Prelude.{◌≡◌, ◌++◌, IfOk, string_bytes};
 ghost use Rattle.code_text.specs.{Piece.pieces_text, PieceView.piece_of};
 ghost use Rattle.code_text.specs.CellText.{after_pieces, declared_in, delay_pieces, hold_pieces, i_pre_pieces, integral_pieces, repeatedly_pieces, time_pieces};
 
-use crate::declared::{Declared, push_begins, push_ended, push_zeros};
-use crate::piece::Piece;
+use crate::declared::Declared;
+use crate::piece::{Piece, push};
 use sample_core::Memory;
 
 /// `iPre`.
@@ -19,11 +19,16 @@ pub(crate) fn push_i_pre<'a>(
     ensures { IfOk result (λ _. string_bytes text.new ≡ string_bytes text.old
         ++ pieces_text prefix.now (i_pre_pieces (declared_in declared.entry) (piece_of c.entry) (piece_of x.entry))) }
 {
-    push_begins(
+    push(
         text,
         prefix,
-        declared,
         &[
+            Piece::Text(declared.indent),
+            Piece::Text("const "),
+            Piece::Type(declared.ty),
+            Piece::Text(" "),
+            declared.name,
+            Piece::Text(" = "),
             Piece::Text("(dt == 0) ? "),
             c,
             Piece::Text(" : s->value;\n"),
@@ -32,7 +37,8 @@ pub(crate) fn push_i_pre<'a>(
             x,
             Piece::Text(";\n"),
         ],
-    )
+    )?;
+    Ok(())
 }
 
 /// `hold`.
@@ -46,10 +52,9 @@ pub(crate) fn push_hold<'a>(
     ensures { IfOk result (λ _. string_bytes text.new ≡ string_bytes text.old
         ++ pieces_text prefix.now (hold_pieces (declared_in declared.entry) (piece_of c.entry) (piece_of x.entry))) }
 {
-    push_ended(
+    push(
         text,
         prefix,
-        declared,
         &[
             Piece::Text(declared.indent),
             Piece::Text("if (dt == 0) { s->value = "),
@@ -61,9 +66,16 @@ pub(crate) fn push_hold<'a>(
             Piece::Text(".is) { s->value = "),
             x,
             Piece::Text(".v; }\n"),
+            Piece::Text(declared.indent),
+            Piece::Text("const "),
+            Piece::Type(declared.ty),
+            Piece::Text(" "),
+            declared.name,
+            Piece::Text(" = "),
+            Piece::Text("s->value;\n"),
         ],
-        &[Piece::Text("s->value;\n")],
-    )
+    )?;
+    Ok(())
 }
 
 /// `after`.
@@ -77,11 +89,19 @@ pub(crate) fn push_after<'a>(
     ensures { IfOk result (λ _. string_bytes text.new ≡ string_bytes text.old
         ++ pieces_text prefix.now (after_pieces (declared_in declared.entry) q (piece_of c.entry))) }
 {
-    push_zeros(
+    push(
         text,
         prefix,
-        declared,
         &[
+            Piece::Text(declared.indent),
+            Piece::Type(declared.ty),
+            Piece::Text(" "),
+            declared.name,
+            Piece::Text("; memset(&"),
+            declared.name,
+            Piece::Text(", 0, sizeof "),
+            declared.name,
+            Piece::Text(");\n"),
             Piece::Text(declared.indent),
             Piece::Text("if (dt == 0) { s->over = false; s->left = INT64_C("),
             Piece::Number(q),
@@ -95,7 +115,8 @@ pub(crate) fn push_after<'a>(
             declared.name,
             Piece::Text(".v = s->value; }\n"),
         ],
-    )
+    )?;
+    Ok(())
 }
 
 /// `repeatedly`.
@@ -109,11 +130,19 @@ pub(crate) fn push_repeatedly<'a>(
     ensures { IfOk result (λ _. string_bytes text.new ≡ string_bytes text.old
         ++ pieces_text prefix.now (repeatedly_pieces (declared_in declared.entry) q (piece_of c.entry))) }
 {
-    push_zeros(
+    push(
         text,
         prefix,
-        declared,
         &[
+            Piece::Text(declared.indent),
+            Piece::Type(declared.ty),
+            Piece::Text(" "),
+            declared.name,
+            Piece::Text("; memset(&"),
+            declared.name,
+            Piece::Text(", 0, sizeof "),
+            declared.name,
+            Piece::Text(");\n"),
             Piece::Text(declared.indent),
             Piece::Text("if (dt == 0) { s->left = INT64_C("),
             Piece::Number(q),
@@ -133,7 +162,8 @@ pub(crate) fn push_repeatedly<'a>(
             Piece::Text(declared.indent),
             Piece::Text("else { s->left -= dt; }\n"),
         ],
-    )
+    )?;
+    Ok(())
 }
 
 /// `time`.
@@ -145,18 +175,24 @@ pub(crate) fn push_time<'a>(
     ensures { IfOk result (λ _. string_bytes text.new ≡ string_bytes text.old
         ++ pieces_text prefix.now (time_pieces (declared_in declared.entry))) }
 {
-    push_ended(
+    push(
         text,
         prefix,
-        declared,
         &[
             Piece::Text(declared.indent),
             Piece::Text("s->time = (dt == 0) ? 0 : "),
             Piece::Name,
             Piece::Text("_add(s->time, dt);\n"),
+            Piece::Text(declared.indent),
+            Piece::Text("const "),
+            Piece::Type(declared.ty),
+            Piece::Text(" "),
+            declared.name,
+            Piece::Text(" = "),
+            Piece::Text("s->time;\n"),
         ],
-        &[Piece::Text("s->time;\n")],
-    )
+    )?;
+    Ok(())
 }
 
 /// `integral`.
@@ -169,10 +205,9 @@ pub(crate) fn push_integral<'a>(
     ensures { IfOk result (λ _. string_bytes text.new ≡ string_bytes text.old
         ++ pieces_text prefix.now (integral_pieces (declared_in declared.entry) (piece_of x.entry))) }
 {
-    push_ended(
+    push(
         text,
         prefix,
-        declared,
         &[
             Piece::Text(declared.indent),
             Piece::Text("s->sum = (dt == 0) ? 0 : "),
@@ -184,9 +219,16 @@ pub(crate) fn push_integral<'a>(
             Piece::Text("s->before = "),
             x,
             Piece::Text(";\n"),
+            Piece::Text(declared.indent),
+            Piece::Text("const "),
+            Piece::Type(declared.ty),
+            Piece::Text(" "),
+            declared.name,
+            Piece::Text(" = "),
+            Piece::Text("s->sum;\n"),
         ],
-        &[Piece::Text("s->sum;\n")],
-    )
+    )?;
+    Ok(())
 }
 
 /// `delay`: a queue of the samples that are younger than q.
@@ -201,10 +243,9 @@ pub(crate) fn push_delay<'a>(
     ensures { IfOk result (λ _. string_bytes text.new ≡ string_bytes text.old
         ++ pieces_text prefix.now (delay_pieces (declared_in declared.entry) q (piece_of c.entry) (piece_of x.entry))) }
 {
-    push_ended(
+    push(
         text,
         prefix,
-        declared,
         &[
             Piece::Text(declared.indent),
             Piece::Text("if (dt == 0) { s->now = 0; s->head = 0; s->size = 0; s->out = "),
@@ -226,7 +267,14 @@ pub(crate) fn push_delay<'a>(
             Piece::Text(" : s->head + s->size; s->at[i] = s->now; s->value[i] = "),
             x,
             Piece::Text("; s->size++; }\n"),
+            Piece::Text(declared.indent),
+            Piece::Text("const "),
+            Piece::Type(declared.ty),
+            Piece::Text(" "),
+            declared.name,
+            Piece::Text(" = "),
+            Piece::Text("s->out;\n"),
         ],
-        &[Piece::Text("s->out;\n")],
-    )
+    )?;
+    Ok(())
 }

@@ -27,7 +27,8 @@ pub(crate) fn push_filter(
     push_readers(text, prefix, types, input, most)?;
     push_writers(text, prefix, types, output)?;
     push_sample(text, prefix, input, output)?;
-    push_named(text, prefix, TAIL)
+    push_named(text, prefix, TAIL)?;
+    Ok(())
 }
 
 /// How a sample's input is read, and its output written.
@@ -64,7 +65,8 @@ fn push_sample<'a>(
             Piece::Letters(output),
             Piece::Text("(output);\n}\n"),
         ],
-    )
+    )?;
+    Ok(())
 }
 
 /// Whether two types are the same.
@@ -152,7 +154,8 @@ fn push_reader(text: &mut String, prefix: &str, ty: &Ty, most: usize) -> Result<
         ],
     )?;
     push_reading(text, prefix, ty, most)?;
-    push(text, prefix, &[Piece::Text("}\n")])
+    push(text, prefix, &[Piece::Text("}\n")])?;
+    Ok(())
 }
 
 /// The lines of a reader.
@@ -211,7 +214,8 @@ fn push_reading_pair<'a>(
             Piece::Name,
             Piece::Text("_byte(r, ')');\n"),
         ],
-    )
+    )?;
+    Ok(())
 }
 
 /// The lines of a reader of events.
@@ -237,7 +241,8 @@ fn push_reading_event(text: &mut String, prefix: &str, a: &Ty) -> Result<(), Mem
             Piece::Name,
             Piece::Text("_word(r, 'E', \"none\", 4);\n"),
         ],
-    )
+    )?;
+    Ok(())
 }
 
 /// The lines of a reader of lists.
@@ -267,7 +272,8 @@ fn push_reading_list(text: &mut String, prefix: &str, a: &Ty, most: usize) -> Re
                 "(r, &v->e[v->n])) {\n            return false;\n        }\n    }\n    r->at++;\n    return true;\n",
             ),
         ],
-    )
+    )?;
+    Ok(())
 }
 
 /// The writers of the types that the output has.
@@ -311,7 +317,8 @@ fn push_writer(text: &mut String, prefix: &str, ty: &Ty) -> Result<(), Memory>
         ],
     )?;
     push_writing(text, prefix, ty)?;
-    push(text, prefix, &[Piece::Text("}\n")])
+    push(text, prefix, &[Piece::Text("}\n")])?;
+    Ok(())
 }
 
 /// The lines of a writer.
@@ -368,7 +375,8 @@ fn push_writing_pair<'a>(
             Piece::Name,
             Piece::Text("_put(\")\", 1);\n"),
         ],
-    )
+    )?;
+    Ok(())
 }
 
 /// The lines of a writer of events.
@@ -392,7 +400,8 @@ fn push_writing_event(text: &mut String, prefix: &str, a: &Ty) -> Result<(), Mem
             Piece::Name,
             Piece::Text("_put(\"none\", 4);\n    }\n"),
         ],
-    )
+    )?;
+    Ok(())
 }
 
 /// The lines of a writer of lists.
@@ -416,5 +425,6 @@ fn push_writing_list(text: &mut String, prefix: &str, a: &Ty) -> Result<(), Memo
             Piece::Name,
             Piece::Text("_put(\")\", 1);\n"),
         ],
-    )
+    )?;
+    Ok(())
 }

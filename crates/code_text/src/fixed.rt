@@ -28,7 +28,8 @@ pub(crate) fn push_use(text: &mut String, prefix: &str) -> Result<(), Memory>
                 "_step(&state, dt, &input, &output);      at each sample: dt is the time since the sample before, at least 1; at the first sample\n *                                           it is not looked at\n",
             ),
         ],
-    )
+    )?;
+    Ok(())
 }
 
 /// The beginning of the declarations.
@@ -46,7 +47,8 @@ pub(crate) fn push_opening(text: &mut String, prefix: &str) -> Result<(), Memory
             Piece::Name,
             Piece::Text("_h\n\n#include <stdbool.h>\n#include <stdint.h>\n\n"),
         ],
-    )
+    )?;
+    Ok(())
 }
 
 /// What a program calls.
@@ -72,7 +74,8 @@ pub(crate) fn push_prototypes(text: &mut String, prefix: &str) -> Result<(), Mem
             Piece::Name,
             Piece::Text("_output *output);\n#ifdef __cplusplus\n}\n#endif\n\n#endif\n"),
         ],
-    )
+    )?;
+    Ok(())
 }
 
 /// Numbers, which wrap, without a conversion that C leaves to its compilers.
@@ -96,7 +99,8 @@ fn push_wrapped(text: &mut String, prefix: &str) -> Result<(), Memory>
             Piece::Name,
             Piece::Text("_wrapped(0U - (uint64_t)a);\n}\n"),
         ],
-    )
+    )?;
+    Ok(())
 }
 
 /// A fresh state.
@@ -114,7 +118,8 @@ fn push_init(text: &mut String, prefix: &str) -> Result<(), Memory>
             Piece::Name,
             Piece::Text("_state *state)\n{\n    memset(state, 0, sizeof *state);\n}\n"),
         ],
-    )
+    )?;
+    Ok(())
 }
 
 /// An operation on two numbers.
@@ -140,7 +145,8 @@ fn push_binary<'a>(
             Piece::Text(sign),
             Piece::Text(" (uint64_t)b);\n}\n"),
         ],
-    )
+    )?;
+    Ok(())
 }
 
 /// Numbers, and the operations on them.
@@ -150,7 +156,8 @@ pub(crate) fn push_numbers(text: &mut String, prefix: &str) -> Result<(), Memory
     push_wrapped(text, prefix)?;
     push_binary(text, prefix, "_add", "+")?;
     push_binary(text, prefix, "_sub", "-")?;
-    push_binary(text, prefix, "_mul", "*")
+    push_binary(text, prefix, "_mul", "*")?;
+    Ok(())
 }
 
 /// The two functions that a program calls; the last function of the code keeps something or not.
@@ -163,7 +170,8 @@ pub(crate) fn push_entries(
     ensures { IfOk result (λ _. string_bytes text.new ≡ string_bytes text.old ++ entries_text prefix.now last keeps) }
 {
     push_init(text, prefix)?;
-    push_step(text, prefix, last, keeps)
+    push_step(text, prefix, last, keeps)?;
+    Ok(())
 }
 
 /// What the last function is handed, if it keeps anything.
@@ -201,5 +209,6 @@ fn push_step(text: &mut String, prefix: &str, last: usize, keeps: bool) -> Resul
             Piece::Text(passed),
             Piece::Text("step, input);\n}\n"),
         ],
-    )
+    )?;
+    Ok(())
 }

@@ -47,7 +47,8 @@ pub(crate) fn push_comment(text: &mut String, caller: Caller<'_>) -> Result<(), 
             Piece::Spelt(output),
             Piece::Text(" */\n"),
         ],
-    )
+    )?;
+    Ok(())
 }
 
 /// The numbers of a position.
@@ -121,7 +122,8 @@ pub(crate) fn push_function(
     push_comment(text, caller)?;
     push_leaves(alloc, text, caller, statements)?;
     push_head(text, caller)?;
-    push_lines(text, caller, statements)
+    push_lines(text, caller, statements)?;
+    Ok(())
 }
 
 /// The head of a function.
@@ -144,7 +146,8 @@ fn push_head(text: &mut String, caller: Caller<'_>) -> Result<(), Memory>
         ],
     )?;
     push_arguments(text, caller)?;
-    push(text, caller.named.prefix, &[Piece::Text(")")])
+    push(text, caller.named.prefix, &[Piece::Text(")")])?;
+    Ok(())
 }
 
 /// A function's lines, between braces.
@@ -155,7 +158,8 @@ fn push_lines(text: &mut String, caller: Caller<'_>, body: &[Statement]) -> Resu
     push(text, caller.named.prefix, &[Piece::Text("\n{\n")])?;
     push_unused(text, caller)?;
     push_statements(text, caller, body)?;
-    push(text, caller.named.prefix, &[Piece::Text("}\n")])
+    push(text, caller.named.prefix, &[Piece::Text("}\n")])?;
+    Ok(())
 }
 
 /// The statements, each of which sets the next register, answers or keeps something.
@@ -262,7 +266,8 @@ fn push_set(
             Piece::Reg(at.1),
             Piece::Text(";\n"),
         ],
-    )
+    )?;
+    Ok(())
 }
 
 /// A statement that answers.
@@ -297,7 +302,8 @@ fn push_exit(
         caller.named.prefix,
         guarded,
         &[Piece::Text("    }\n")],
-    )
+    )?;
+    Ok(())
 }
 
 /// Whether a statement answers under a condition.
@@ -467,7 +473,8 @@ fn push_leaf_at(
             params: params.as_slice(),
             code: &code,
         },
-    )
+    )?;
+    Ok(())
 }
 
 /// The types of these numbers.

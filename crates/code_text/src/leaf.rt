@@ -1,11 +1,11 @@
 // The C of an expression's code: a step a line.
 
-ghost use Rattle.std.specs.Prelude.{◌≡◌, ◌++◌, IfOk, length, map, string_bytes};
+ghost use Rattle.std.specs.Prelude.{◌≡◌, ◌++◌, IfOk, map, string_bytes};
 ghost use Rattle.sample_core.specs.{TypeTree.unit_ty, TypeView.type_of};
 ghost use Rattle.leaf_code.specs.CodeView.{literal_in, operation_of, step_of};
 ghost use Rattle.leaf_code.specs.Operation as O;
 ghost use Rattle.code_text.specs.{Piece.letter, Piece.pieces_text, Piece.ty, PieceView.piece_of};
-ghost use Rattle.code_text.specs.LeafText.{between, call_two, declared_text, elements_text, input_pieces, leaf_in, leaf_text, list_text, param_pieces, params_text, register_type, step_text, steps_text, unit_pieces, unused_params, unused_text, value_pieces, zeros};
+ghost use Rattle.code_text.specs.LeafText.{between, call_two, declared_text, elements_text, input_pieces, leaf_in, leaf_text, list_text, params_text, register_type, step_text, steps_text, unit_pieces, unused_params_text, unused_text, value_pieces, zeros};
 
 use crate::piece::{Piece, push};
 use leaf_code::{LeafCode, Operation, Step};
@@ -82,7 +82,8 @@ pub(crate) fn push_leaf(text: &mut String, prefix: &str, leaf: Leaf<'_>) -> Resu
             Piece::Reg(leaf.code.answer),
             Piece::Text(";\n}\n"),
         ],
-    )
+    )?;
+    Ok(())
 }
 
 /// The first argument: the input; a constant's is a unit.
@@ -112,36 +113,29 @@ fn push_params(text: &mut String, prefix: &str, params: &[Ty]) -> Result<(), Mem
         ≡ string_bytes text.old ++ params_text prefix.now 0 (map type_of params.now)) }
 {
     for (k, ty) in params.iter().enumerate() {
-        push_param(text, prefix, k, ty)?;
+        push(
+            text,
+            prefix,
+            &[
+                Piece::Text(", const "),
+                Piece::Type(ty),
+                Piece::Text(" *p"),
+                Piece::Number(k),
+            ],
+        )?;
     }
     Ok(())
-}
-
-/// A parameter as an argument.
-pub(crate) fn push_param(text: &mut String, prefix: &str, k: usize, ty: &Ty) -> Result<(), Memory>
-    ensures { IfOk result (λ _. string_bytes text.new
-        ≡ string_bytes text.old ++ pieces_text prefix.now (param_pieces k (type_of ty.now))) }
-{
-    push(
-        text,
-        prefix,
-        &[
-            Piece::Text(", const "),
-            Piece::Type(ty),
-            Piece::Text(" *p"),
-            Piece::Number(k),
-        ],
-    )
 }
 
 /// The beginning of the lines: a constant's input, and what may stay unused.
 fn push_unused(text: &mut String, prefix: &str, leaf: Leaf<'_>) -> Result<(), Memory>
     ensures { IfOk result (λ _. string_bytes text.new ≡ string_bytes text.old
-        ++ unused_text prefix.now leaf.entry.is_constant (length (map type_of leaf.entry.params.now))) }
+        ++ unused_text prefix.now leaf.entry.is_constant (map type_of leaf.entry.params.now)) }
 {
     push_unit(text, prefix, leaf.is_constant)?;
-    push_unused_params(text, prefix, leaf.params.len())?;
-    push(text, prefix, &[Piece::Text("\n")])
+    push_unused_params(text, prefix, leaf.params)?;
+    push(text, prefix, &[Piece::Text("\n")])?;
+    Ok(())
 }
 
 /// The beginning of the first line.
@@ -161,16 +155,12 @@ fn push_unit(text: &mut String, prefix: &str, is_constant: bool) -> Result<(), M
     Ok(())
 }
 
-/// The first so many parameters, which may stay unused.
-pub(crate) fn push_unused_params(
-    text: &mut String,
-    prefix: &str,
-    count: usize,
-) -> Result<(), Memory>
+/// Parameters that may stay unused.
+fn push_unused_params(text: &mut String, prefix: &str, params: &[Ty]) -> Result<(), Memory>
     ensures { IfOk result (λ _. string_bytes text.new
-        ≡ string_bytes text.old ++ unused_params prefix.now count) }
+        ≡ string_bytes text.old ++ unused_params_text prefix.now 0 (map type_of params.now)) }
 {
-    for k in 0..count {
+    for (k, _) in params.iter().enumerate() {
         push(
             text,
             prefix,
@@ -208,7 +198,8 @@ fn push_step(
         text,
         prefix,
         &[Piece::Text("; (void)"), Piece::Reg(k), Piece::Text(";\n")],
-    )
+    )?;
+    Ok(())
 }
 
 /// The declaration of the register k that a step sets.
@@ -299,7 +290,8 @@ fn push_zeros(text: &mut String, prefix: &str, k: usize, ty: &Ty) -> Result<(), 
             Piece::Reg(k),
             Piece::Text(")"),
         ],
-    )
+    )?;
+    Ok(())
 }
 
 /// The list in register k.
@@ -317,7 +309,8 @@ fn push_list(text: &mut String, prefix: &str, k: usize, all: &[usize]) -> Result
             Piece::Number(all.len()),
         ],
     )?;
-    push_elements(text, prefix, k, all)
+    push_elements(text, prefix, k, all)?;
+    Ok(())
 }
 
 /// The elements of the list in register k.
@@ -427,7 +420,8 @@ fn push_same(
             Piece::At(j),
             Piece::Text(")"),
         ],
-    )
+    )?;
+    Ok(())
 }
 
 /// What an event in a register carries.
@@ -446,7 +440,8 @@ fn push_carried(text: &mut String, prefix: &str, leaf: Leaf<'_>, i: usize) -> Re
             Piece::At(i),
             Piece::Text(")"),
         ],
-    )
+    )?;
+    Ok(())
 }
 
 /// The element of a list in a register at a number, or another value.
@@ -476,7 +471,8 @@ fn push_nth(
             Piece::At(d),
             Piece::Text(")"),
         ],
-    )
+    )?;
+    Ok(())
 }
 
 /// A literal.
@@ -520,7 +516,8 @@ fn push_call_two(
             Piece::Reg(j),
             Piece::Text(")"),
         ],
-    )
+    )?;
+    Ok(())
 }
 
 /// Two registers with a sign between.
@@ -532,5 +529,6 @@ fn push_infix(text: &mut String, prefix: &str, i: usize, sign: &str, j: usize) -
         text,
         prefix,
         &[Piece::Reg(i), Piece::Text(sign), Piece::Reg(j)],
-    )
+    )?;
+    Ok(())
 }

@@ -1,5 +1,5 @@
-use Rattle.code_text.proofs.Joined.{added, joined_two}
+use Rattle.code_text.proofs.Joined.{joined_two}
 use Rattle.code_text.proofs.kept.push_freezing.Goals as goal
 
 pub returns : goal.returns
-returns c = joined_two _ _ _ _ _ _ c.in_ok-push_taken.ensures (added _ _ _ _ c.push_word.ensures)
+returns c = joined_two _ _ _ _ _ c.in_ok-push_taken.ensures c.in_ok-push_line.ensures
