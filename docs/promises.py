@@ -15,7 +15,7 @@ CALL = re.compile(r"^( *)pub (?:ghost )?(?:const )?fn (\w+)")
 OWNER = re.compile(r"^(?:impl|pub trait)(?:<[^>]*>)? (?:\w+(?:<[^>]*>)? for )?(\w+)")
 # Searches that nobody trusts: their answers are checked, so their calls have no contracts; and what tests share.
 SEARCHES = {"expr_improve", "net_improve", "net_certify"}
-OF_TESTS = {"row_texts"}
+OF_TESTS = {"row_texts", "net_rows"}
 # Calls of which there is nothing to say but that they return.
 FREE = {"sample_core::Sample::let_go"}
 
