@@ -1,33 +1,60 @@
--- What is printed in turn is printed as one.
-use Rattle.std.proofs.Common.{◌≡◌, ◌++◌, ℕ, List, append_assoc}
+-- What is printed in turn is printed as one, if the last call succeeds.
+use Rattle.std.proofs.Common.{◌≡◌, ◌++◌, ℕ, List, [], ◌∷◌, Result, Ok, Err, IfOk, refl, sym, ap, ◌∙◌, append_assoc}
+use Rattle.sample_core.specs.Adding.{Adds}
+use Rattle.code_text.specs.Piece.{Piece, piece_text, pieces_text}
 
-pub joined_two : (o a b m n : List ℕ) → m ≡ o ++ a → n ≡ m ++ b → n ≡ o ++ (a ++ b)
-joined_two o a b m n e f = rw (f, e, append_assoc o a b)
+if_ok : {A E P Q : Type 0} (r : Result A E) → (P → Q) → IfOk r (λ _. P) → IfOk r (λ _. Q)
+if_ok (Ok x) f h = f h
+if_ok (Err e) f h = h
 
-pub joined_three : (o a b c m n l : List ℕ) → m ≡ o ++ a → n ≡ m ++ b → l ≡ n ++ c
-    → l ≡ o ++ (a ++ (b ++ c))
-joined_three o a b c m n l e f g =
-    rw (g, f, e, append_assoc (o ++ a) b c, append_assoc o a (b ++ c))
+pub added : {A E : Type 0} (r : Result A E) (o n w : List ℕ) → Adds r o n w → IfOk r (λ _. n ≡ o ++ w)
+added (Ok x) o n w h = h
+added (Err e) o n w h = tt
 
-pub joined_four : (o a b c d m n p q : List ℕ) → m ≡ o ++ a → n ≡ m ++ b → p ≡ n ++ c → q ≡ p ++ d
-    → q ≡ o ++ (a ++ (b ++ (c ++ d)))
-joined_four o a b c d m n p q h1 h2 h3 h4 =
-    joined_two o a (b ++ (c ++ d)) m q h1 (joined_three m b c d n p q h2 h3 h4)
+plain : (o a b m n : List ℕ) → m ≡ o ++ a → n ≡ m ++ b → n ≡ o ++ (a ++ b)
+plain o a b m n e f = rw (f, e, append_assoc o a b)
 
-pub joined_five : (o a b c d e m n p q r : List ℕ) → m ≡ o ++ a → n ≡ m ++ b → p ≡ n ++ c
-    → q ≡ p ++ d → r ≡ q ++ e → r ≡ o ++ (a ++ (b ++ (c ++ (d ++ e))))
-joined_five o a b c d e m n p q r h1 h2 h3 h4 h5 =
-    joined_two o a (b ++ (c ++ (d ++ e))) m r h1 (joined_four m b c d e n p q r h2 h3 h4 h5)
+pieces_behind : (P : List ℕ) (ps qs : List Piece) → pieces_text P (ps ++ qs) ≡ pieces_text P ps ++ pieces_text P qs
+pieces_behind P [] qs = refl
+pieces_behind P (p ∷ ps) qs =
+    ap (λ s. piece_text P p ++ s) (pieces_behind P ps qs)
+    ∙ sym (append_assoc (piece_text P p) (pieces_text P ps) (pieces_text P qs))
 
-pub joined_six : (o a b c d e f m n p q r s : List ℕ) → m ≡ o ++ a → n ≡ m ++ b → p ≡ n ++ c
-    → q ≡ p ++ d → r ≡ q ++ e → s ≡ r ++ f → s ≡ o ++ (a ++ (b ++ (c ++ (d ++ (e ++ f)))))
-joined_six o a b c d e f m n p q r s h1 h2 h3 h4 h5 h6 =
-    joined_two o a (b ++ (c ++ (d ++ (e ++ f)))) m s h1
-    (joined_five m b c d e f n p q r s h2 h3 h4 h5 h6)
+module _ {A E : Type 0} (r : Result A E) where
+  pub joined_two : (o a b m n : List ℕ) → m ≡ o ++ a → IfOk r (λ _. n ≡ m ++ b)
+      → IfOk r (λ _. n ≡ o ++ (a ++ b))
+  joined_two o a b m n h1 h2 = if_ok r (plain o a b m n h1) h2
 
-pub joined_seven : (o a b c d e f g m n p q r s t : List ℕ) → m ≡ o ++ a → n ≡ m ++ b → p ≡ n ++ c
-    → q ≡ p ++ d → r ≡ q ++ e → s ≡ r ++ f → t ≡ s ++ g
-    → t ≡ o ++ (a ++ (b ++ (c ++ (d ++ (e ++ (f ++ g))))))
-joined_seven o a b c d e f g m n p q r s t h1 h2 h3 h4 h5 h6 h7 =
-    joined_two o a (b ++ (c ++ (d ++ (e ++ (f ++ g))))) m t h1
-    (joined_six m b c d e f g n p q r s t h2 h3 h4 h5 h6 h7)
+  -- the same of pieces
+  pub joined_pieces : (P : List ℕ) (ps qs : List Piece) (o m n : List ℕ) → m ≡ o ++ pieces_text P ps
+      → IfOk r (λ _. n ≡ m ++ pieces_text P qs) → IfOk r (λ _. n ≡ o ++ pieces_text P (ps ++ qs))
+  joined_pieces P ps qs o m n h1 h2 =
+      if_ok r (λ e. plain o (pieces_text P ps) (pieces_text P qs) m n h1 e ∙ ap (λ s. o ++ s) (sym (pieces_behind P ps qs))) h2
+
+  pub joined_three : (o a b c m n p : List ℕ) → m ≡ o ++ a → n ≡ m ++ b → IfOk r (λ _. p ≡ n ++ c)
+      → IfOk r (λ _. p ≡ o ++ (a ++ (b ++ c)))
+  joined_three o a b c m n p h1 h2 h3 = joined_two o a (b ++ c) m p h1 (joined_two m b c n p h2 h3)
+
+  pub joined_four : (o a b c d m n p q : List ℕ) → m ≡ o ++ a → n ≡ m ++ b → p ≡ n ++ c
+      → IfOk r (λ _. q ≡ p ++ d) → IfOk r (λ _. q ≡ o ++ (a ++ (b ++ (c ++ d))))
+  joined_four o a b c d m n p q h1 h2 h3 h4 =
+      joined_two o a (b ++ (c ++ d)) m q h1 (joined_three m b c d n p q h2 h3 h4)
+
+  pub joined_five : (o a b c d e m n p q s : List ℕ) → m ≡ o ++ a → n ≡ m ++ b → p ≡ n ++ c
+      → q ≡ p ++ d → IfOk r (λ _. s ≡ q ++ e) → IfOk r (λ _. s ≡ o ++ (a ++ (b ++ (c ++ (d ++ e)))))
+  joined_five o a b c d e m n p q s h1 h2 h3 h4 h5 =
+      joined_two o a (b ++ (c ++ (d ++ e))) m s h1 (joined_four m b c d e n p q s h2 h3 h4 h5)
+
+  pub joined_six : (o a b c d e f m n p q s t : List ℕ) → m ≡ o ++ a → n ≡ m ++ b → p ≡ n ++ c
+      → q ≡ p ++ d → s ≡ q ++ e → IfOk r (λ _. t ≡ s ++ f)
+      → IfOk r (λ _. t ≡ o ++ (a ++ (b ++ (c ++ (d ++ (e ++ f))))))
+  joined_six o a b c d e f m n p q s t h1 h2 h3 h4 h5 h6 =
+      joined_two o a (b ++ (c ++ (d ++ (e ++ f)))) m t h1
+      (joined_five m b c d e f n p q s t h2 h3 h4 h5 h6)
+
+  pub joined_seven : (o a b c d e f g m n p q s t u : List ℕ) → m ≡ o ++ a → n ≡ m ++ b → p ≡ n ++ c
+      → q ≡ p ++ d → s ≡ q ++ e → t ≡ s ++ f → IfOk r (λ _. u ≡ t ++ g)
+      → IfOk r (λ _. u ≡ o ++ (a ++ (b ++ (c ++ (d ++ (e ++ (f ++ g)))))))
+  joined_seven o a b c d e f g m n p q s t u h1 h2 h3 h4 h5 h6 h7 =
+      joined_two o a (b ++ (c ++ (d ++ (e ++ (f ++ g))))) m u h1
+      (joined_six m b c d e f g n p q s t u h2 h3 h4 h5 h6 h7)

@@ -52,26 +52,22 @@ module _ (n : Named) where
   abbrev pub caller : ℕ → Function → Layout → Caller
   caller k f L = record { named = n; number = k; function = f; layout = L }
 
-  -- what it keeps, if there is such a function
-  abbrev pub kept_at : ℕ → Function → Option Layout → List ℕ
-  kept_at k f None = []
-  kept_at k f (Some L) = kept_text (caller k f L)
+  -- a text of it, if there is such a function
+  abbrev pub text_at : (Caller → List ℕ) → ℕ → Function → Option Layout → List ℕ
+  text_at text_of k f None = []
+  text_at text_of k f (Some L) = text_of (caller k f L)
 
   -- the structs of what functions keep, from number k on
   abbrev pub all_kept : ℕ → List Function → List ℕ
   all_kept k [] = []
-  all_kept k (f ∷ fs) = kept_at k f (slice_get n.program.layouts.items k) ++ all_kept (suc k) fs
-
-  -- its lines, if there is such a function
-  abbrev pub function_at : ℕ → Function → Option Layout → List ℕ
-  function_at k f None = []
-  function_at k f (Some L) = function_text (caller k f L)
+  all_kept k (f ∷ fs) =
+      text_at kept_text k f (slice_get n.program.layouts.items k) ++ all_kept (suc k) fs
 
   -- functions, from number k on
   abbrev pub all_functions : ℕ → List Function → List ℕ
   all_functions k [] = []
   all_functions k (f ∷ fs) =
-      function_at k f (slice_get n.program.layouts.items k) ++ all_functions (suc k) fs
+      text_at function_text k f (slice_get n.program.layouts.items k) ++ all_functions (suc k) fs
 
 -- a name for a type
 abbrev pub type_name : TypeTree → List ℕ → List Piece
@@ -157,15 +153,10 @@ module _ (c : Caller) (o : Options) where
   abbrev pub file_text : List ℕ
   file_text = declarations_text ++ printed_text o.printed
 
--- the file where f, function k, is the last one, if it has a layout
-abbrev pub last_at : Named → Options → ℕ → Function → Option Layout → List ℕ
-last_at n o k f None = []
-last_at n o k f (Some L) = file_text (caller n k f L) o
-
 -- the file where function k is the last one, if there is such a function
 abbrev pub file_at : Named → Options → ℕ → Option Function → List ℕ
 file_at n o k None = []
-file_at n o k (Some f) = last_at n o k f (slice_get n.program.layouts.items k)
+file_at n o k (Some f) = text_at n (λ c. file_text c o) k f (slice_get n.program.layouts.items k)
 
 -- the file of a program
 abbrev pub file_of : Named → Options → List ℕ

@@ -1,5 +1,5 @@
 -- The C of an expression's code: a step a line.
-use Rattle.std.specs.Prelude.{ℕ, ℤ, suc, pos, neg_ℤ, ◌+◌, ◌^◌, Bool, true, false, if◌then◌else◌, List, [], ◌∷◌, ◌++◌, codes, length, map}
+use Rattle.std.specs.Prelude.{ℕ, ℤ, zero, suc, pos, neg_ℤ, ◌+◌, ◌^◌, Bool, true, false, if◌then◌else◌, List, [], ◌∷◌, ◌++◌, codes, length, map}
 use Rattle.std.specs.Ordering.{int_eq}
 use Rattle.sample_core.specs.TypeTree.{TypeTree}
 use Rattle.sample_core.specs.TypeView.{type_of}
@@ -133,30 +133,31 @@ abbrev pub input_pieces : Bool → TypeTree → List Piece
 input_pieces true T = text (codes "uint8_t unit") ∷ []
 input_pieces false T = text (codes "const ") ∷ ty T ∷ text (codes " *x") ∷ []
 
+-- parameter k, of type T, as an argument
+abbrev pub param_pieces : ℕ → TypeTree → List Piece
+param_pieces k T = text (codes ", const ") ∷ ty T ∷ text (codes " *p") ∷ number k ∷ []
+
 -- the parameters as arguments, from number k on
 abbrev pub params_text : List ℕ → ℕ → List TypeTree → List ℕ
 params_text P k [] = []
-params_text P k (T ∷ Ts) =
-    pieces_text P (text (codes ", const ") ∷ ty T ∷ text (codes " *p") ∷ number k ∷ [])
-    ++ params_text P (suc k) Ts
+params_text P k (T ∷ Ts) = pieces_text P (param_pieces k T) ++ params_text P (suc k) Ts
 
 -- the beginning of the lines
 abbrev pub unit_pieces : Bool → List Piece
 unit_pieces true = text (codes ")\n{\n    const uint8_t *const x = &unit;\n    (void)x;") ∷ []
 unit_pieces false = text (codes ")\n{\n    (void)x;") ∷ []
 
--- parameters that may stay unused, from number k on
-abbrev pub unused_params_text : List ℕ → ℕ → List TypeTree → List ℕ
-unused_params_text P k [] = []
-unused_params_text P k (T ∷ Ts) =
-    pieces_text P (text (codes " (void)p") ∷ number k ∷ text (codes ";") ∷ [])
-    ++ unused_params_text P (suc k) Ts
+-- the first so many parameters, which may stay unused
+abbrev pub unused_params : List ℕ → ℕ → List ℕ
+unused_params P zero = []
+unused_params P (suc k) =
+    unused_params P k ++ pieces_text P (text (codes " (void)p") ∷ number k ∷ text (codes ";") ∷ [])
 
--- the first line
-abbrev pub unused_text : List ℕ → Bool → List TypeTree → List ℕ
-unused_text P b Ts =
+-- the first line, where there are n parameters
+abbrev pub unused_text : List ℕ → Bool → ℕ → List ℕ
+unused_text P b n =
     pieces_text P (unit_pieces b)
-    ++ (unused_params_text P 0 Ts ++ pieces_text P (text (codes "\n") ∷ []))
+    ++ (unused_params P n ++ pieces_text P (text (codes "\n") ∷ []))
 
 -- the function of a leaf
 abbrev pub leaf_text : List ℕ → Leaf → List ℕ
@@ -166,6 +167,6 @@ leaf_text P l =
     ∷ text (codes "_f") ∷ number l.function ∷ text (codes "_e") ∷ number l.index ∷ text (codes "(") ∷ [])
     ++ (pieces_text P (input_pieces l.constant l.input)
     ++ (params_text P 0 l.params
-    ++ (unused_text P l.constant l.params
+    ++ (unused_text P l.constant (length l.params)
     ++ (steps_text (register_type l) P 1 l.code.0
     ++ pieces_text P (text (codes "    return ") ∷ reg l.code.1 ∷ text (codes ";\n}\n") ∷ [])))))

@@ -13,7 +13,7 @@ use Rattle.code_text.specs.declared.scope.Caller as D
 use Rattle.code_text.specs.declared.scope.Call as K
 use Rattle.code_text.specs.Piece.{Piece, text, name, number, ty, pieces_text}
 use Rattle.code_text.specs.PieceView.{piece_of, pieces_if}
-use Rattle.code_text.specs.LeafText.{params_text}
+use Rattle.code_text.specs.LeafText.{params_text, unused_params}
 
 -- a program with the prefix of its names, and what stands for a type that its table hasn't
 pub record Named : Type 0 where
@@ -87,12 +87,6 @@ members f = []
 abbrev pub first_params : List ℕ → ℕ → List ℕ
 first_params P zero = []
 first_params P (suc k) = first_params P k ++ pieces_text P (text (codes ", p") ∷ number k ∷ [])
-
--- the first so many parameters, which may stay unused
-abbrev pub unused_params : List ℕ → ℕ → List ℕ
-unused_params P zero = []
-unused_params P (suc k) =
-    unused_params P k ++ pieces_text P (text (codes " (void)p") ∷ number k ∷ text (codes ";") ∷ [])
 
 module _ (n : Named) where
   -- the argument of frozen network k, whose function is f: what it kept, and its moment

@@ -73,8 +73,8 @@ pair_pieces d j k =
 -- a list with room for so many answers
 abbrev pub answers_text : List ℕ → Declared → ℕ → List ℕ
 answers_text P d n =
-    pieces_text P (zeros_pieces d [])
-    ++ pieces_text P (d.indent ∷ d.value ∷ text (codes ".n = ") ∷ number n ∷ text (codes ";\n") ∷ [])
+    pieces_text P
+    (zeros_pieces d (d.indent ∷ d.value ∷ text (codes ".n = ") ∷ number n ∷ text (codes ";\n") ∷ []))
 
 -- the type of a layout's input; where there is no layout, that of the caller's
 abbrev pub input_in : Caller → Option Layout → TypeTree
@@ -179,17 +179,17 @@ module _ (c : Caller) where
   -- an `accumBy`, which begins as register j, at the event in register k; its leaf is statement r's
   abbrev pub accumulation_text : Declared → ℕ → ℕ → ℕ → List ℕ
   accumulation_text d r j k =
-      pieces_text c.named.prefix (zeros_pieces d [])
-      ++ (pieces_text c.named.prefix
+      pieces_text c.named.prefix
+      (zeros_pieces d
       (d.indent ∷ text (codes "if (dt == 0) { s->value = ") ∷ reg j ∷ text (codes "; }\n") ∷ d.indent
-      ∷ text (codes "if (") ∷ reg k ∷ text (codes ".is) { struct ") ∷ name ∷ text (codes "_p") ∷ [])
+      ∷ text (codes "if (") ∷ reg k ∷ text (codes ".is) { struct ") ∷ name ∷ text (codes "_p") ∷ []))
       ++ (pieces_text c.named.prefix (letters_in c c.layout.kept)
       ++ (pieces_text c.named.prefix
       (text (codes " i; i.a = s->value; i.b = ") ∷ reg k ∷ text (codes ".v; s->value = ") ∷ [])
       ++ (leaf_call_text c r (text (codes "&i") ∷ [])
       ++ pieces_text c.named.prefix
       (text (codes "; ") ∷ d.value ∷ text (codes ".is = true; ") ∷ d.value
-      ∷ text (codes ".v = s->value; }\n") ∷ [])))))
+      ∷ text (codes ".v = s->value; }\n") ∷ []))))
 
   -- the line that declares a value as that of statement r's action, which is one expression
   abbrev pub declaration_text : Declared → ℕ → Action → List ℕ

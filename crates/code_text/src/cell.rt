@@ -4,8 +4,8 @@ ghost use Rattle.std.specs.Prelude.{◌≡◌, ◌++◌, IfOk, string_bytes};
 ghost use Rattle.code_text.specs.{Piece.pieces_text, PieceView.piece_of};
 ghost use Rattle.code_text.specs.CellText.{after_pieces, declared_in, delay_pieces, hold_pieces, i_pre_pieces, integral_pieces, repeatedly_pieces, time_pieces};
 
-use crate::declared::Declared;
-use crate::piece::{Piece, push};
+use crate::declared::{Declared, push_begins, push_ended, push_zeros};
+use crate::piece::Piece;
 use sample_core::Memory;
 
 /// `iPre`.
@@ -19,16 +19,11 @@ pub(crate) fn push_i_pre<'a>(
     ensures { IfOk result (λ _. string_bytes text.new ≡ string_bytes text.old
         ++ pieces_text prefix.now (i_pre_pieces (declared_in declared.entry) (piece_of c.entry) (piece_of x.entry))) }
 {
-    push(
+    push_begins(
         text,
         prefix,
+        declared,
         &[
-            Piece::Text(declared.indent),
-            Piece::Text("const "),
-            Piece::Type(declared.ty),
-            Piece::Text(" "),
-            declared.name,
-            Piece::Text(" = "),
             Piece::Text("(dt == 0) ? "),
             c,
             Piece::Text(" : s->value;\n"),
@@ -37,8 +32,7 @@ pub(crate) fn push_i_pre<'a>(
             x,
             Piece::Text(";\n"),
         ],
-    )?;
-    Ok(())
+    )
 }
 
 /// `hold`.
@@ -52,9 +46,10 @@ pub(crate) fn push_hold<'a>(
     ensures { IfOk result (λ _. string_bytes text.new ≡ string_bytes text.old
         ++ pieces_text prefix.now (hold_pieces (declared_in declared.entry) (piece_of c.entry) (piece_of x.entry))) }
 {
-    push(
+    push_ended(
         text,
         prefix,
+        declared,
         &[
             Piece::Text(declared.indent),
             Piece::Text("if (dt == 0) { s->value = "),
@@ -66,16 +61,9 @@ pub(crate) fn push_hold<'a>(
             Piece::Text(".is) { s->value = "),
             x,
             Piece::Text(".v; }\n"),
-            Piece::Text(declared.indent),
-            Piece::Text("const "),
-            Piece::Type(declared.ty),
-            Piece::Text(" "),
-            declared.name,
-            Piece::Text(" = "),
-            Piece::Text("s->value;\n"),
         ],
-    )?;
-    Ok(())
+        &[Piece::Text("s->value;\n")],
+    )
 }
 
 /// `after`.
@@ -89,19 +77,11 @@ pub(crate) fn push_after<'a>(
     ensures { IfOk result (λ _. string_bytes text.new ≡ string_bytes text.old
         ++ pieces_text prefix.now (after_pieces (declared_in declared.entry) q (piece_of c.entry))) }
 {
-    push(
+    push_zeros(
         text,
         prefix,
+        declared,
         &[
-            Piece::Text(declared.indent),
-            Piece::Type(declared.ty),
-            Piece::Text(" "),
-            declared.name,
-            Piece::Text("; memset(&"),
-            declared.name,
-            Piece::Text(", 0, sizeof "),
-            declared.name,
-            Piece::Text(");\n"),
             Piece::Text(declared.indent),
             Piece::Text("if (dt == 0) { s->over = false; s->left = INT64_C("),
             Piece::Number(q),
@@ -115,8 +95,7 @@ pub(crate) fn push_after<'a>(
             declared.name,
             Piece::Text(".v = s->value; }\n"),
         ],
-    )?;
-    Ok(())
+    )
 }
 
 /// `repeatedly`.
@@ -130,19 +109,11 @@ pub(crate) fn push_repeatedly<'a>(
     ensures { IfOk result (λ _. string_bytes text.new ≡ string_bytes text.old
         ++ pieces_text prefix.now (repeatedly_pieces (declared_in declared.entry) q (piece_of c.entry))) }
 {
-    push(
+    push_zeros(
         text,
         prefix,
+        declared,
         &[
-            Piece::Text(declared.indent),
-            Piece::Type(declared.ty),
-            Piece::Text(" "),
-            declared.name,
-            Piece::Text("; memset(&"),
-            declared.name,
-            Piece::Text(", 0, sizeof "),
-            declared.name,
-            Piece::Text(");\n"),
             Piece::Text(declared.indent),
             Piece::Text("if (dt == 0) { s->left = INT64_C("),
             Piece::Number(q),
@@ -162,8 +133,7 @@ pub(crate) fn push_repeatedly<'a>(
             Piece::Text(declared.indent),
             Piece::Text("else { s->left -= dt; }\n"),
         ],
-    )?;
-    Ok(())
+    )
 }
 
 /// `time`.
@@ -175,24 +145,18 @@ pub(crate) fn push_time<'a>(
     ensures { IfOk result (λ _. string_bytes text.new ≡ string_bytes text.old
         ++ pieces_text prefix.now (time_pieces (declared_in declared.entry))) }
 {
-    push(
+    push_ended(
         text,
         prefix,
+        declared,
         &[
             Piece::Text(declared.indent),
             Piece::Text("s->time = (dt == 0) ? 0 : "),
             Piece::Name,
             Piece::Text("_add(s->time, dt);\n"),
-            Piece::Text(declared.indent),
-            Piece::Text("const "),
-            Piece::Type(declared.ty),
-            Piece::Text(" "),
-            declared.name,
-            Piece::Text(" = "),
-            Piece::Text("s->time;\n"),
         ],
-    )?;
-    Ok(())
+        &[Piece::Text("s->time;\n")],
+    )
 }
 
 /// `integral`.
@@ -205,9 +169,10 @@ pub(crate) fn push_integral<'a>(
     ensures { IfOk result (λ _. string_bytes text.new ≡ string_bytes text.old
         ++ pieces_text prefix.now (integral_pieces (declared_in declared.entry) (piece_of x.entry))) }
 {
-    push(
+    push_ended(
         text,
         prefix,
+        declared,
         &[
             Piece::Text(declared.indent),
             Piece::Text("s->sum = (dt == 0) ? 0 : "),
@@ -219,16 +184,9 @@ pub(crate) fn push_integral<'a>(
             Piece::Text("s->before = "),
             x,
             Piece::Text(";\n"),
-            Piece::Text(declared.indent),
-            Piece::Text("const "),
-            Piece::Type(declared.ty),
-            Piece::Text(" "),
-            declared.name,
-            Piece::Text(" = "),
-            Piece::Text("s->sum;\n"),
         ],
-    )?;
-    Ok(())
+        &[Piece::Text("s->sum;\n")],
+    )
 }
 
 /// `delay`: a queue of the samples that are younger than q.
@@ -243,9 +201,10 @@ pub(crate) fn push_delay<'a>(
     ensures { IfOk result (λ _. string_bytes text.new ≡ string_bytes text.old
         ++ pieces_text prefix.now (delay_pieces (declared_in declared.entry) q (piece_of c.entry) (piece_of x.entry))) }
 {
-    push(
+    push_ended(
         text,
         prefix,
+        declared,
         &[
             Piece::Text(declared.indent),
             Piece::Text("if (dt == 0) { s->now = 0; s->head = 0; s->size = 0; s->out = "),
@@ -267,14 +226,7 @@ pub(crate) fn push_delay<'a>(
             Piece::Text(" : s->head + s->size; s->at[i] = s->now; s->value[i] = "),
             x,
             Piece::Text("; s->size++; }\n"),
-            Piece::Text(declared.indent),
-            Piece::Text("const "),
-            Piece::Type(declared.ty),
-            Piece::Text(" "),
-            declared.name,
-            Piece::Text(" = "),
-            Piece::Text("s->out;\n"),
         ],
-    )?;
-    Ok(())
+        &[Piece::Text("s->out;\n")],
+    )
 }

@@ -5,10 +5,9 @@ ghost use Rattle.code_text.specs.Piece.{pieces_text};
 ghost use Rattle.code_text.specs.{CellText.declared_in, ScopeText.caller_in};
 ghost use Rattle.code_text.specs.CollectionText.{beginning_text, case_call, case_text, cases_text, choice_text, collection_text, default_call, default_text, kept_type, letters_pieces, moved_pieces, started_pieces, turns_head, turns_text, written_text};
 
-use crate::declared::Declared;
+use crate::declared::{Declared, push_zeros};
 use crate::piece::{Piece, push};
 use crate::scope::{Call, Caller, members_of, push_call, push_leaf_call};
-use crate::statement::push_zeros;
 use net_code::Scope;
 use sample_core::Memory;
 
@@ -23,11 +22,10 @@ pub(crate) fn push_collection(
     ensures { IfOk result (λ _. string_bytes text.new ≡ string_bytes text.old
         ++ collection_text (caller_in caller.entry) (declared_in declared.entry) declared.entry.index t k) }
 {
-    push_zeros(text, caller.named.prefix, declared)?;
+    push_zeros(text, caller.named.prefix, declared, &[])?;
     push_beginning(text, caller, declared)?;
     push_choice(text, caller, declared, k)?;
-    push_turns(text, caller, declared, t, k)?;
-    Ok(())
+    push_turns(text, caller, declared, t, k)
 }
 
 /// At the first sample the written members run.
@@ -60,8 +58,7 @@ fn push_beginning(
             Piece::Text(declared.indent),
             Piece::Text("uint32_t kept = s->count;\n"),
         ],
-    )?;
-    Ok(())
+    )
 }
 
 /// The first so many members are the written ones.
@@ -118,8 +115,7 @@ fn push_choice(
         &[Piece::Text("&"), Piece::Reg(k), Piece::Text(".b.v")],
     )?;
     push_moved(text, caller, declared)?;
-    push_started(text, caller, declared)?;
-    Ok(())
+    push_started(text, caller, declared)
 }
 
 /// The letters of the type of the values by which members are made.
@@ -171,8 +167,7 @@ fn push_moved(text: &mut String, caller: Caller<'_>, declared: Declared<'_>) -> 
             indent,
             Piece::Text("    }\n"),
         ],
-    )?;
-    Ok(())
+    )
 }
 
 /// Others start behind them.
@@ -204,8 +199,7 @@ fn push_started(text: &mut String, caller: Caller<'_>, declared: Declared<'_>) -
             indent,
             Piece::Text("}\n"),
         ],
-    )?;
-    Ok(())
+    )
 }
 
 /// Each member's answer: of those that start now at the moment 0.
@@ -232,8 +226,7 @@ fn push_turns(
             Piece::Text(declared.indent),
             Piece::Text("}\n"),
         ],
-    )?;
-    Ok(())
+    )
 }
 
 /// The beginning of the loop over members.
@@ -266,8 +259,7 @@ fn push_turns_head(
             indent,
             Piece::Text("    switch (m->origin) {\n"),
         ],
-    )?;
-    Ok(())
+    )
 }
 
 /// The answers of the written members.
@@ -311,8 +303,7 @@ fn push_case(
         ],
     )?;
     push_case_call(text, caller, member, k)?;
-    push(text, caller.named.prefix, &[Piece::Text("; break;\n")])?;
-    Ok(())
+    push(text, caller.named.prefix, &[Piece::Text("; break;\n")])
 }
 
 /// The call of a written member, by its number and its function.
@@ -336,8 +327,7 @@ fn push_case_call(
             scope: Scope::Same,
             by: "&m->by",
         },
-    )?;
-    Ok(())
+    )
 }
 
 /// The answer of a member of function t, by its own value.
@@ -362,8 +352,7 @@ fn push_default(
         ],
     )?;
     push_default_call(text, caller, t, k)?;
-    push(text, caller.named.prefix, &[Piece::Text("; break;\n")])?;
-    Ok(())
+    push(text, caller.named.prefix, &[Piece::Text("; break;\n")])
 }
 
 /// The call of a member of function t, by its own value.
@@ -388,6 +377,5 @@ fn push_default_call(
             scope: Scope::Value,
             by: "&m->by",
         },
-    )?;
-    Ok(())
+    )
 }

@@ -1,9 +1,9 @@
 // The C of a network.
 
-ghost use Rattle.std.specs.Prelude.{◌≡◌, ◌++◌, IfOk, slice_get, string_bytes};
+ghost use Rattle.std.specs.Prelude.{◌≡◌, ◌++◌, IfOk, MatchOption, None, Some, slice_get, string_bytes};
 ghost use Rattle.sample_core.specs.TypeView.{type_of};
-ghost use Rattle.code_text.specs.{Piece.pieces_text, ScopeText.caller_in, ScopeText.named_in};
-ghost use Rattle.code_text.specs.FileText.{about_text, all_functions, all_kept, c_of, declarations_text, definitions_text, figures_pieces, file_of, file_text, filtered_text, function_at, kept_at, kept_struct, kept_text, last_at, options_in, plain_text, posix_pieces, printed_text, state_text, stored_pieces, type_name, types_pieces};
+ghost use Rattle.code_text.specs.{FunctionText.function_text, Piece.pieces_text, ScopeText.caller_in, ScopeText.named_in};
+ghost use Rattle.code_text.specs.FileText.{about_text, all_functions, all_kept, c_of, caller, declarations_text, definitions_text, figures_pieces, file_of, file_text, filtered_text, kept_struct, kept_text, options_in, plain_text, posix_pieces, printed_text, state_text, stored_pieces, text_at, type_name, types_pieces};
 
 use crate::file_text::{FILTER_INCLUDES, PLAIN_INCLUDES, POSIX};
 use crate::filter::push_filter;
@@ -73,6 +73,23 @@ fn push_program(
     Ok(())
 }
 
+/// Function k with its layout, if it has one.
+fn caller_at<'a>(named: Named<'a>, k: usize, function: &'a Function) -> Option<Caller<'a>>
+    ensures { MatchOption result (slice_get named.entry.program.now.layouts.items k ≡ None)
+        (λ c. (slice_get named.entry.program.now.layouts.items k ≡ Some c.layout.now)
+        × (caller_in c ≡ caller (named_in named.entry) k function.now c.layout.now)) }
+{
+    match named.program.layouts.as_slice().get(k) {
+        Some(layout) => Some(Caller {
+            named,
+            number: k,
+            function,
+            layout,
+        }),
+        None => None,
+    }
+}
+
 /// The file of a program, whose last function is this one, by its number.
 fn push_last<'a>(
     alloc: Global,
@@ -82,24 +99,13 @@ fn push_last<'a>(
     options: Options<'_>,
 ) -> Result<(), Memory>
     ensures { IfOk result (λ _. string_bytes text.new ≡ string_bytes text.old
-        ++ last_at (named_in named.entry) (options_in options.entry) last.entry.0 last.entry.1.now
+        ++ text_at (named_in named.entry) (λ c. file_text c (options_in options.entry)) last.entry.0 last.entry.1.now
         (slice_get named.entry.program.now.layouts.items last.entry.0)) }
 {
-    let (number, function) = last;
-    if let Some(layout) = named.program.layouts.as_slice().get(number) {
-        push_file(
-            alloc,
-            text,
-            Caller {
-                named,
-                number,
-                function,
-                layout,
-            },
-            options,
-        )?;
+    match caller_at(named, last.0, last.1) {
+        Some(caller) => push_file(alloc, text, caller, options),
+        None => Ok(()),
     }
-    Ok(())
 }
 
 /// The file of a program, whose last function this is.
@@ -113,8 +119,7 @@ fn push_file(
         ≡ string_bytes text.old ++ file_text (caller_in last.entry) (options_in options.entry)) }
 {
     push_declarations(text, last, options)?;
-    push_printed(alloc, text, last, options)?;
-    Ok(())
+    push_printed(alloc, text, last, options)
 }
 
 /// What stands behind the declarations.
@@ -146,8 +151,7 @@ fn push_plain(
         ≡ string_bytes text.old ++ plain_text (caller_in last.entry) (options_in options.entry)) }
 {
     push(text, options.prefix, &[Piece::Text(PLAIN_INCLUDES)])?;
-    push_definitions(alloc, text, last, options)?;
-    Ok(())
+    push_definitions(alloc, text, last, options)
 }
 
 /// The same with a filter.
@@ -165,8 +169,7 @@ fn push_filtered(
     let output = last.named.ty(last.layout.output);
     push(text, options.prefix, &[Piece::Text(FILTER_INCLUDES)])?;
     push_definitions(alloc, text, last, options)?;
-    push_filter(text, options.prefix, types, input, output, options.most)?;
-    Ok(())
+    push_filter(text, options.prefix, types, input, output, options.most)
 }
 
 /// The comment, types and structs, and what a program calls.
@@ -189,8 +192,7 @@ fn push_declarations(
     )?;
     push_all_kept(text, last.named)?;
     push_state(text, last, options)?;
-    push_prototypes(text, options.prefix)?;
-    Ok(())
+    push_prototypes(text, options.prefix)
 }
 
 /// What POSIX has, where there is a filter.
@@ -213,8 +215,7 @@ fn push_about(text: &mut String, last: Caller<'_>, options: Options<'_>) -> Resu
     push_types(text, last, options)?;
     push_with_each(text, '\n', "\n * ", options.network)?;
     push_use(text, options.prefix)?;
-    push_figures(text, last, options)?;
-    Ok(())
+    push_figures(text, last, options)
 }
 
 /// Its first line.
@@ -236,8 +237,7 @@ fn push_types(text: &mut String, last: Caller<'_>, options: Options<'_>) -> Resu
             Piece::Spelt(output),
             Piece::Text(". By `yampa compile`, of the network\n *\n * "),
         ],
-    )?;
-    Ok(())
+    )
 }
 
 /// Its figures.
@@ -257,8 +257,7 @@ fn push_figures(text: &mut String, last: Caller<'_>, options: Options<'_>) -> Re
             Piece::Number(options.most),
             Piece::Text(" elements. */\n"),
         ],
-    )?;
-    Ok(())
+    )
 }
 
 /// What the functions keep.
@@ -281,20 +280,12 @@ fn push_kept_at<'a>(
     function: &'a Function,
 ) -> Result<(), Memory>
     ensures { IfOk result (λ _. string_bytes text.new ≡ string_bytes text.old
-        ++ kept_at (named_in named.entry) k function.now (slice_get named.entry.program.now.layouts.items k)) }
+        ++ text_at (named_in named.entry) kept_text k function.now (slice_get named.entry.program.now.layouts.items k)) }
 {
-    if let Some(layout) = named.program.layouts.as_slice().get(k) {
-        push_kept_of(
-            text,
-            Caller {
-                named,
-                number: k,
-                function,
-                layout,
-            },
-        )?;
+    match caller_at(named, k, function) {
+        Some(caller) => push_kept_of(text, caller),
+        None => Ok(()),
     }
-    Ok(())
 }
 
 /// What a function keeps, if it keeps something.
@@ -315,8 +306,7 @@ fn push_kept_struct(text: &mut String, caller: Caller<'_>) -> Result<(), Memory>
 {
     push(text, caller.named.prefix, &[Piece::Text("\n")])?;
     push_comment(text, caller)?;
-    push_kept(text, caller)?;
-    Ok(())
+    push_kept(text, caller)
 }
 
 /// The types of input and output, and the struct of all that is kept.
@@ -338,8 +328,7 @@ fn push_state(text: &mut String, last: Caller<'_>, options: Options<'_>) -> Resu
         ],
     )?;
     push_stored(text, last, options)?;
-    push(text, options.prefix, &[Piece::Text("};\n")])?;
-    Ok(())
+    push(text, options.prefix, &[Piece::Text("};\n")])
 }
 
 /// What the last function keeps, if it keeps something.
@@ -358,8 +347,7 @@ fn push_stored(text: &mut String, last: Caller<'_>, options: Options<'_>) -> Res
             Piece::Number(last.number),
             Piece::Text(" s;\n"),
         ],
-    )?;
-    Ok(())
+    )
 }
 
 /// A name for a type.
@@ -385,8 +373,7 @@ fn push_type_name<'a>(
             Piece::Spelt(ty),
             Piece::Text(" */"),
         ],
-    )?;
-    Ok(())
+    )
 }
 
 /// The functions.
@@ -406,8 +393,7 @@ fn push_definitions(
         last.named.program.types.trees.as_slice(),
     )?;
     push_all_functions(alloc, text, last.named)?;
-    push_entries(text, options.prefix, last.number, last.layout.keeps)?;
-    Ok(())
+    push_entries(text, options.prefix, last.number, last.layout.keeps)
 }
 
 /// Each function.
@@ -431,19 +417,10 @@ fn push_function_at<'a>(
     function: &'a Function,
 ) -> Result<(), Memory>
     ensures { IfOk result (λ _. string_bytes text.new ≡ string_bytes text.old
-        ++ function_at (named_in named.entry) k function.now (slice_get named.entry.program.now.layouts.items k)) }
+        ++ text_at (named_in named.entry) function_text k function.now (slice_get named.entry.program.now.layouts.items k)) }
 {
-    if let Some(layout) = named.program.layouts.as_slice().get(k) {
-        push_function(
-            alloc,
-            text,
-            Caller {
-                named,
-                number: k,
-                function,
-                layout,
-            },
-        )?;
+    match caller_at(named, k, function) {
+        Some(caller) => push_function(alloc, text, caller),
+        None => Ok(()),
     }
-    Ok(())
 }

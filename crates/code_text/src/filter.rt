@@ -27,8 +27,7 @@ pub(crate) fn push_filter(
     push_readers(text, prefix, types, input, most)?;
     push_writers(text, prefix, types, output)?;
     push_sample(text, prefix, input, output)?;
-    push_named(text, prefix, TAIL)?;
-    Ok(())
+    push_named(text, prefix, TAIL)
 }
 
 /// How a sample's input is read, and its output written.
@@ -65,8 +64,7 @@ fn push_sample<'a>(
             Piece::Letters(output),
             Piece::Text("(output);\n}\n"),
         ],
-    )?;
-    Ok(())
+    )
 }
 
 /// Whether two types are the same.
@@ -154,8 +152,7 @@ fn push_reader(text: &mut String, prefix: &str, ty: &Ty, most: usize) -> Result<
         ],
     )?;
     push_reading(text, prefix, ty, most)?;
-    push(text, prefix, &[Piece::Text("}\n")])?;
-    Ok(())
+    push(text, prefix, &[Piece::Text("}\n")])
 }
 
 /// The lines of a reader.
@@ -214,8 +211,7 @@ fn push_reading_pair<'a>(
             Piece::Name,
             Piece::Text("_byte(r, ')');\n"),
         ],
-    )?;
-    Ok(())
+    )
 }
 
 /// The lines of a reader of events.
@@ -241,8 +237,7 @@ fn push_reading_event(text: &mut String, prefix: &str, a: &Ty) -> Result<(), Mem
             Piece::Name,
             Piece::Text("_word(r, 'E', \"none\", 4);\n"),
         ],
-    )?;
-    Ok(())
+    )
 }
 
 /// The lines of a reader of lists.
@@ -272,8 +267,7 @@ fn push_reading_list(text: &mut String, prefix: &str, a: &Ty, most: usize) -> Re
                 "(r, &v->e[v->n])) {\n            return false;\n        }\n    }\n    r->at++;\n    return true;\n",
             ),
         ],
-    )?;
-    Ok(())
+    )
 }
 
 /// The writers of the types that the output has.
@@ -317,8 +311,7 @@ fn push_writer(text: &mut String, prefix: &str, ty: &Ty) -> Result<(), Memory>
         ],
     )?;
     push_writing(text, prefix, ty)?;
-    push(text, prefix, &[Piece::Text("}\n")])?;
-    Ok(())
+    push(text, prefix, &[Piece::Text("}\n")])
 }
 
 /// The lines of a writer.
@@ -375,8 +368,7 @@ fn push_writing_pair<'a>(
             Piece::Name,
             Piece::Text("_put(\")\", 1);\n"),
         ],
-    )?;
-    Ok(())
+    )
 }
 
 /// The lines of a writer of events.
@@ -400,8 +392,7 @@ fn push_writing_event(text: &mut String, prefix: &str, a: &Ty) -> Result<(), Mem
             Piece::Name,
             Piece::Text("_put(\"none\", 4);\n    }\n"),
         ],
-    )?;
-    Ok(())
+    )
 }
 
 /// The lines of a writer of lists.
@@ -425,6 +416,5 @@ fn push_writing_list(text: &mut String, prefix: &str, a: &Ty) -> Result<(), Memo
             Piece::Name,
             Piece::Text("_put(\")\", 1);\n"),
         ],
-    )?;
-    Ok(())
+    )
 }

@@ -28,8 +28,7 @@ pub(crate) fn push_use(text: &mut String, prefix: &str) -> Result<(), Memory>
                 "_step(&state, dt, &input, &output);      at each sample: dt is the time since the sample before, at least 1; at the first sample\n *                                           it is not looked at\n",
             ),
         ],
-    )?;
-    Ok(())
+    )
 }
 
 /// The beginning of the declarations.
@@ -47,8 +46,7 @@ pub(crate) fn push_opening(text: &mut String, prefix: &str) -> Result<(), Memory
             Piece::Name,
             Piece::Text("_h\n\n#include <stdbool.h>\n#include <stdint.h>\n\n"),
         ],
-    )?;
-    Ok(())
+    )
 }
 
 /// What a program calls.
@@ -74,8 +72,7 @@ pub(crate) fn push_prototypes(text: &mut String, prefix: &str) -> Result<(), Mem
             Piece::Name,
             Piece::Text("_output *output);\n#ifdef __cplusplus\n}\n#endif\n\n#endif\n"),
         ],
-    )?;
-    Ok(())
+    )
 }
 
 /// Numbers, which wrap, without a conversion that C leaves to its compilers.
@@ -99,8 +96,7 @@ fn push_wrapped(text: &mut String, prefix: &str) -> Result<(), Memory>
             Piece::Name,
             Piece::Text("_wrapped(0U - (uint64_t)a);\n}\n"),
         ],
-    )?;
-    Ok(())
+    )
 }
 
 /// A fresh state.
@@ -118,8 +114,7 @@ fn push_init(text: &mut String, prefix: &str) -> Result<(), Memory>
             Piece::Name,
             Piece::Text("_state *state)\n{\n    memset(state, 0, sizeof *state);\n}\n"),
         ],
-    )?;
-    Ok(())
+    )
 }
 
 /// An operation on two numbers.
@@ -145,8 +140,7 @@ fn push_binary<'a>(
             Piece::Text(sign),
             Piece::Text(" (uint64_t)b);\n}\n"),
         ],
-    )?;
-    Ok(())
+    )
 }
 
 /// Numbers, and the operations on them.
@@ -156,8 +150,7 @@ pub(crate) fn push_numbers(text: &mut String, prefix: &str) -> Result<(), Memory
     push_wrapped(text, prefix)?;
     push_binary(text, prefix, "_add", "+")?;
     push_binary(text, prefix, "_sub", "-")?;
-    push_binary(text, prefix, "_mul", "*")?;
-    Ok(())
+    push_binary(text, prefix, "_mul", "*")
 }
 
 /// The two functions that a program calls; the last function of the code keeps something or not.
@@ -170,8 +163,7 @@ pub(crate) fn push_entries(
     ensures { IfOk result (λ _. string_bytes text.new ≡ string_bytes text.old ++ entries_text prefix.now last keeps) }
 {
     push_init(text, prefix)?;
-    push_step(text, prefix, last, keeps)?;
-    Ok(())
+    push_step(text, prefix, last, keeps)
 }
 
 /// What the last function is handed, if it keeps anything.
@@ -209,6 +201,5 @@ fn push_step(text: &mut String, prefix: &str, last: usize, keeps: bool) -> Resul
             Piece::Text(passed),
             Piece::Text("step, input);\n}\n"),
         ],
-    )?;
-    Ok(())
+    )
 }

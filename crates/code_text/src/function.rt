@@ -122,8 +122,7 @@ pub(crate) fn push_function(
     push_comment(text, caller)?;
     push_leaves(alloc, text, caller, statements)?;
     push_head(text, caller)?;
-    push_lines(text, caller, statements)?;
-    Ok(())
+    push_lines(text, caller, statements)
 }
 
 /// The head of a function.
@@ -146,8 +145,7 @@ fn push_head(text: &mut String, caller: Caller<'_>) -> Result<(), Memory>
         ],
     )?;
     push_arguments(text, caller)?;
-    push(text, caller.named.prefix, &[Piece::Text(")")])?;
-    Ok(())
+    push(text, caller.named.prefix, &[Piece::Text(")")])
 }
 
 /// A function's lines, between braces.
@@ -158,8 +156,7 @@ fn push_lines(text: &mut String, caller: Caller<'_>, body: &[Statement]) -> Resu
     push(text, caller.named.prefix, &[Piece::Text("\n{\n")])?;
     push_unused(text, caller)?;
     push_statements(text, caller, body)?;
-    push(text, caller.named.prefix, &[Piece::Text("}\n")])?;
-    Ok(())
+    push(text, caller.named.prefix, &[Piece::Text("}\n")])
 }
 
 /// The statements, each of which sets the next register, answers or keeps something.
@@ -266,8 +263,7 @@ fn push_set(
             Piece::Reg(at.1),
             Piece::Text(";\n"),
         ],
-    )?;
-    Ok(())
+    )
 }
 
 /// A statement that answers.
@@ -302,8 +298,7 @@ fn push_exit(
         caller.named.prefix,
         guarded,
         &[Piece::Text("    }\n")],
-    )?;
-    Ok(())
+    )
 }
 
 /// Whether a statement answers under a condition.
@@ -473,8 +468,7 @@ fn push_leaf_at(
             params: params.as_slice(),
             code: &code,
         },
-    )?;
-    Ok(())
+    )
 }
 
 /// The types of these numbers.

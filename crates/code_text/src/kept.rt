@@ -9,7 +9,7 @@ use crate::scope::Caller;
 use crate::statement::keeps_any;
 use cell_core::Form;
 use net_code::Function;
-use sample_core::Memory;
+use sample_core::{Memory, push_word};
 
 /// The structs of a function that keeps something.
 pub(crate) fn push_kept(text: &mut String, caller: Caller<'_>) -> Result<(), Memory>
@@ -19,8 +19,7 @@ pub(crate) fn push_kept(text: &mut String, caller: Caller<'_>) -> Result<(), Mem
     push_members(text, caller)?;
     push_head(text, caller, "_s")?;
     push_fields(text, caller)?;
-    push_line(text, "};\n")?;
-    Ok(())
+    push_word(text, "};\n")
 }
 
 /// The struct that stands in a function's own.
@@ -58,8 +57,7 @@ fn push_store_struct(text: &mut String, caller: Caller<'_>, members: &[usize]) -
 {
     push_head(text, caller, "_w")?;
     push_each(text, caller, members)?;
-    push_line(text, "};\n")?;
-    Ok(())
+    push_word(text, "};\n")
 }
 
 /// The struct of a member of a collection.
@@ -73,20 +71,11 @@ fn push_turn(
         ≡ string_bytes text.old ++ turn_struct (caller_in caller.entry) members.now t) }
 {
     push_head(text, caller, "_m")?;
-    push_line(text, "    uint32_t origin;\n")?;
+    push_word(text, "    uint32_t origin;\n")?;
     push_own(text, caller, "by;\n")?;
     push_each(text, caller, members)?;
     push_part(text, caller, t, "taker")?;
-    push_line(text, "};\n")?;
-    Ok(())
-}
-
-/// A line.
-fn push_line(text: &mut String, line: &str) -> Result<(), Memory>
-    ensures { IfOk result (λ _. string_bytes text.new ≡ string_bytes text.old ++ line.now) }
-{
-    write!(text, "{line}")?;
-    Ok(())
+    push_word(text, "};\n")
 }
 
 /// The beginning of a struct of the function.
@@ -104,8 +93,7 @@ fn push_head(text: &mut String, caller: Caller<'_>, kind: &str) -> Result<(), Me
             Piece::Number(caller.number),
             Piece::Text(" {\n"),
         ],
-    )?;
-    Ok(())
+    )
 }
 
 /// What each member keeps, which keeps something.
@@ -138,8 +126,7 @@ fn push_member(text: &mut String, caller: Caller<'_>, i: usize, member: usize) -
             Piece::Number(i),
             Piece::Text(";\n"),
         ],
-    )?;
-    Ok(())
+    )
 }
 
 /// What a called function keeps, if it keeps something.
@@ -161,8 +148,7 @@ fn push_part(text: &mut String, caller: Caller<'_>, k: usize, field: &str) -> Re
             Piece::Text(field),
             Piece::Text(";\n"),
         ],
-    )?;
-    Ok(())
+    )
 }
 
 /// The value that the function keeps itself, if there is one.
@@ -222,8 +208,7 @@ fn push_sequence(text: &mut String, caller: Caller<'_>, f: usize, g: usize) -> R
         ≡ string_bytes text.old ++ sequence_fields (caller_in caller.entry) f g) }
 {
     push_part(text, caller, f, "one")?;
-    push_part(text, caller, g, "other")?;
-    Ok(())
+    push_part(text, caller, g, "other")
 }
 
 /// What members keep, in one field.
@@ -242,8 +227,7 @@ fn push_store(text: &mut String, caller: Caller<'_>, field: &str) -> Result<(), 
             Piece::Text(" "),
             Piece::Text(field),
         ],
-    )?;
-    Ok(())
+    )
 }
 
 /// What is fed back, and the function in the loop.
@@ -252,8 +236,7 @@ fn push_loop(text: &mut String, caller: Caller<'_>, f: usize) -> Result<(), Memo
         ≡ string_bytes text.old ++ loop_fields (caller_in caller.entry) f) }
 {
     push_own(text, caller, "fed;\n")?;
-    push_part(text, caller, f, "looped")?;
-    Ok(())
+    push_part(text, caller, f, "looped")
 }
 
 /// Whether something has taken over, and by which value.
@@ -261,9 +244,8 @@ fn push_taken(text: &mut String, caller: Caller<'_>) -> Result<(), Memory>
     ensures { IfOk result (λ _. string_bytes text.new
         ≡ string_bytes text.old ++ taken_fields (caller_in caller.entry)) }
 {
-    push_line(text, "    bool taken;\n")?;
-    push_own(text, caller, "by;\n")?;
-    Ok(())
+    push_word(text, "    bool taken;\n")?;
+    push_own(text, caller, "by;\n")
 }
 
 /// A switch of f into t.
@@ -273,8 +255,7 @@ fn push_switch(text: &mut String, caller: Caller<'_>, f: usize, t: usize) -> Res
 {
     push_taken(text, caller)?;
     push_part(text, caller, f, "front")?;
-    push_part(text, caller, t, "taker")?;
-    Ok(())
+    push_part(text, caller, t, "taker")
 }
 
 /// `kSwitch` of f, e and t.
@@ -291,8 +272,7 @@ fn push_k_switch(
     push_freezing(text, caller)?;
     push_part(text, caller, f, "watched")?;
     push_part(text, caller, f, "frozen")?;
-    push_watcher(text, caller, e, t)?;
-    Ok(())
+    push_watcher(text, caller, e, t)
 }
 
 /// `pSwitch` of members, e and t.
@@ -308,8 +288,7 @@ fn push_p_switch(
 {
     push_freezing(text, caller)?;
     push_frozen(text, caller, members)?;
-    push_watcher(text, caller, e, t)?;
-    Ok(())
+    push_watcher(text, caller, e, t)
 }
 
 /// Whether something has taken over, by which value, and when something was frozen.
@@ -318,8 +297,7 @@ fn push_freezing(text: &mut String, caller: Caller<'_>) -> Result<(), Memory>
         ≡ string_bytes text.old ++ freezing_fields (caller_in caller.entry)) }
 {
     push_taken(text, caller)?;
-    push_line(text, "    int64_t frozen_at;\n")?;
-    Ok(())
+    push_word(text, "    int64_t frozen_at;\n")
 }
 
 /// The watcher e, and t, into which is switched.
@@ -328,8 +306,7 @@ fn push_watcher(text: &mut String, caller: Caller<'_>, e: usize, t: usize) -> Re
         ≡ string_bytes text.old ++ watcher_fields (caller_in caller.entry) e t) }
 {
     push_part(text, caller, e, "watcher")?;
-    push_part(text, caller, t, "resumer")?;
-    Ok(())
+    push_part(text, caller, t, "resumer")
 }
 
 /// What watched members keep, and kept when they were frozen, if one of them keeps anything.
@@ -349,8 +326,7 @@ fn push_watched(text: &mut String, caller: Caller<'_>) -> Result<(), Memory>
         ≡ string_bytes text.old ++ watched_fields (caller_in caller.entry)) }
 {
     push_store(text, caller, "watched;\n")?;
-    push_store(text, caller, "frozen;\n")?;
-    Ok(())
+    push_store(text, caller, "frozen;\n")
 }
 
 /// A collection: its members, on one of two sides.
@@ -368,8 +344,7 @@ fn push_collection(text: &mut String, caller: Caller<'_>) -> Result<(), Memory>
             Piece::Number(caller.number),
             Piece::Text(" m[2][64];\n"),
         ],
-    )?;
-    Ok(())
+    )
 }
 
 /// What a cell keeps.
@@ -381,8 +356,8 @@ fn push_cell(text: &mut String, caller: Caller<'_>, form: Form) -> Result<(), Me
         Form::IPre | Form::Hold | Form::AccumBy => push_own(text, caller, "value;\n")?,
         Form::After(_) => push_counted(text, caller, "    bool over;\n    int64_t left;\n")?,
         Form::Repeatedly(_) => push_counted(text, caller, "    int64_t left;\n")?,
-        Form::Time => push_line(text, "    int64_t time;\n")?,
-        Form::Integral => push_line(text, "    int64_t sum;\n    int64_t before;\n")?,
+        Form::Time => push_word(text, "    int64_t time;\n")?,
+        Form::Integral => push_word(text, "    int64_t sum;\n    int64_t before;\n")?,
         Form::Delay(q) => push_queue(text, caller, q as usize)?,
     }
     Ok(())
@@ -393,9 +368,8 @@ fn push_counted(text: &mut String, caller: Caller<'_>, counts: &str) -> Result<(
     ensures { IfOk result (λ _. string_bytes text.new
         ≡ string_bytes text.old ++ counted_fields (caller_in caller.entry) counts.now) }
 {
-    push_line(text, counts)?;
-    push_own(text, caller, "value;\n")?;
-    Ok(())
+    push_word(text, counts)?;
+    push_own(text, caller, "value;\n")
 }
 
 /// A queue with room for q values.
@@ -403,7 +377,7 @@ fn push_queue(text: &mut String, caller: Caller<'_>, q: usize) -> Result<(), Mem
     ensures { IfOk result (λ _. string_bytes text.new
         ≡ string_bytes text.old ++ queue_fields (caller_in caller.entry) q) }
 {
-    push_line(
+    push_word(
         text,
         "    uint64_t now;\n    uint32_t head;\n    uint32_t size;\n",
     )?;
@@ -422,6 +396,5 @@ fn push_queue(text: &mut String, caller: Caller<'_>, q: usize) -> Result<(), Mem
         text,
         caller.named.prefix,
         &[Piece::Number(q), Piece::Text("];\n")],
-    )?;
-    Ok(())
+    )
 }

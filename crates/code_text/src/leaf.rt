@@ -1,11 +1,11 @@
 // The C of an expression's code: a step a line.
 
-ghost use Rattle.std.specs.Prelude.{◌≡◌, ◌++◌, IfOk, map, string_bytes};
+ghost use Rattle.std.specs.Prelude.{◌≡◌, ◌++◌, IfOk, length, map, string_bytes};
 ghost use Rattle.sample_core.specs.{TypeTree.unit_ty, TypeView.type_of};
 ghost use Rattle.leaf_code.specs.CodeView.{literal_in, operation_of, step_of};
 ghost use Rattle.leaf_code.specs.Operation as O;
 ghost use Rattle.code_text.specs.{Piece.letter, Piece.pieces_text, Piece.ty, PieceView.piece_of};
-ghost use Rattle.code_text.specs.LeafText.{between, call_two, declared_text, elements_text, input_pieces, leaf_in, leaf_text, list_text, params_text, register_type, step_text, steps_text, unit_pieces, unused_params_text, unused_text, value_pieces, zeros};
+ghost use Rattle.code_text.specs.LeafText.{between, call_two, declared_text, elements_text, input_pieces, leaf_in, leaf_text, list_text, param_pieces, params_text, register_type, step_text, steps_text, unit_pieces, unused_params, unused_text, value_pieces, zeros};
 
 use crate::piece::{Piece, push};
 use leaf_code::{LeafCode, Operation, Step};
@@ -82,8 +82,7 @@ pub(crate) fn push_leaf(text: &mut String, prefix: &str, leaf: Leaf<'_>) -> Resu
             Piece::Reg(leaf.code.answer),
             Piece::Text(";\n}\n"),
         ],
-    )?;
-    Ok(())
+    )
 }
 
 /// The first argument: the input; a constant's is a unit.
@@ -113,29 +112,36 @@ fn push_params(text: &mut String, prefix: &str, params: &[Ty]) -> Result<(), Mem
         ≡ string_bytes text.old ++ params_text prefix.now 0 (map type_of params.now)) }
 {
     for (k, ty) in params.iter().enumerate() {
-        push(
-            text,
-            prefix,
-            &[
-                Piece::Text(", const "),
-                Piece::Type(ty),
-                Piece::Text(" *p"),
-                Piece::Number(k),
-            ],
-        )?;
+        push_param(text, prefix, k, ty)?;
     }
     Ok(())
+}
+
+/// A parameter as an argument.
+pub(crate) fn push_param(text: &mut String, prefix: &str, k: usize, ty: &Ty) -> Result<(), Memory>
+    ensures { IfOk result (λ _. string_bytes text.new
+        ≡ string_bytes text.old ++ pieces_text prefix.now (param_pieces k (type_of ty.now))) }
+{
+    push(
+        text,
+        prefix,
+        &[
+            Piece::Text(", const "),
+            Piece::Type(ty),
+            Piece::Text(" *p"),
+            Piece::Number(k),
+        ],
+    )
 }
 
 /// The beginning of the lines: a constant's input, and what may stay unused.
 fn push_unused(text: &mut String, prefix: &str, leaf: Leaf<'_>) -> Result<(), Memory>
     ensures { IfOk result (λ _. string_bytes text.new ≡ string_bytes text.old
-        ++ unused_text prefix.now leaf.entry.is_constant (map type_of leaf.entry.params.now)) }
+        ++ unused_text prefix.now leaf.entry.is_constant (length (map type_of leaf.entry.params.now))) }
 {
     push_unit(text, prefix, leaf.is_constant)?;
-    push_unused_params(text, prefix, leaf.params)?;
-    push(text, prefix, &[Piece::Text("\n")])?;
-    Ok(())
+    push_unused_params(text, prefix, leaf.params.len())?;
+    push(text, prefix, &[Piece::Text("\n")])
 }
 
 /// The beginning of the first line.
@@ -155,12 +161,16 @@ fn push_unit(text: &mut String, prefix: &str, is_constant: bool) -> Result<(), M
     Ok(())
 }
 
-/// Parameters that may stay unused.
-fn push_unused_params(text: &mut String, prefix: &str, params: &[Ty]) -> Result<(), Memory>
+/// The first so many parameters, which may stay unused.
+pub(crate) fn push_unused_params(
+    text: &mut String,
+    prefix: &str,
+    count: usize,
+) -> Result<(), Memory>
     ensures { IfOk result (λ _. string_bytes text.new
-        ≡ string_bytes text.old ++ unused_params_text prefix.now 0 (map type_of params.now)) }
+        ≡ string_bytes text.old ++ unused_params prefix.now count) }
 {
-    for (k, _) in params.iter().enumerate() {
+    for k in 0..count {
         push(
             text,
             prefix,
@@ -198,8 +208,7 @@ fn push_step(
         text,
         prefix,
         &[Piece::Text("; (void)"), Piece::Reg(k), Piece::Text(";\n")],
-    )?;
-    Ok(())
+    )
 }
 
 /// The declaration of the register k that a step sets.
@@ -290,8 +299,7 @@ fn push_zeros(text: &mut String, prefix: &str, k: usize, ty: &Ty) -> Result<(), 
             Piece::Reg(k),
             Piece::Text(")"),
         ],
-    )?;
-    Ok(())
+    )
 }
 
 /// The list in register k.
@@ -309,8 +317,7 @@ fn push_list(text: &mut String, prefix: &str, k: usize, all: &[usize]) -> Result
             Piece::Number(all.len()),
         ],
     )?;
-    push_elements(text, prefix, k, all)?;
-    Ok(())
+    push_elements(text, prefix, k, all)
 }
 
 /// The elements of the list in register k.
@@ -420,8 +427,7 @@ fn push_same(
             Piece::At(j),
             Piece::Text(")"),
         ],
-    )?;
-    Ok(())
+    )
 }
 
 /// What an event in a register carries.
@@ -440,8 +446,7 @@ fn push_carried(text: &mut String, prefix: &str, leaf: Leaf<'_>, i: usize) -> Re
             Piece::At(i),
             Piece::Text(")"),
         ],
-    )?;
-    Ok(())
+    )
 }
 
 /// The element of a list in a register at a number, or another value.
@@ -471,8 +476,7 @@ fn push_nth(
             Piece::At(d),
             Piece::Text(")"),
         ],
-    )?;
-    Ok(())
+    )
 }
 
 /// A literal.
@@ -516,8 +520,7 @@ fn push_call_two(
             Piece::Reg(j),
             Piece::Text(")"),
         ],
-    )?;
-    Ok(())
+    )
 }
 
 /// Two registers with a sign between.
@@ -529,6 +532,5 @@ fn push_infix(text: &mut String, prefix: &str, i: usize, sign: &str, j: usize) -
         text,
         prefix,
         &[Piece::Reg(i), Piece::Text(sign), Piece::Reg(j)],
-    )?;
-    Ok(())
+    )
 }

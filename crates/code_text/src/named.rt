@@ -10,8 +10,7 @@ pub(crate) fn push_named(text: &mut String, prefix: &str, constant: &str) -> Res
     ensures { IfOk result (λ _. string_bytes text.new
         ≡ string_bytes text.old ++ named_text prefix.now constant.now) }
 {
-    push_with_each(text, '@', prefix, constant)?;
-    Ok(())
+    push_with_each(text, '@', prefix, constant)
 }
 
 /// Adds a text, with another in place of each mark.

@@ -3,8 +3,9 @@
 ghost use Rattle.std.specs.Prelude.{◌≡◌, ◌++◌, IfOk, map, string_bytes};
 ghost use Rattle.sample_core.specs.TypeView.{type_of};
 ghost use Rattle.code_text.specs.{LeafText.params_text, PieceView.piece_of};
-ghost use Rattle.code_text.specs.ScopeText.{arguments_text, call_in, call_text, caller_in, first_params, first_scope, frozen_member, frozen_members, frozen_of, frozen_text, frozen_watched, keeps, leaf_call_text, members, named_in, old_argument, old_arguments, passed_old, passed_olds, same_scope, scope_text, taken_scope, type_at, unused_line, unused_old, unused_olds, unused_params};
+ghost use Rattle.code_text.specs.ScopeText.{arguments_text, call_in, call_text, caller_in, first_params, first_scope, frozen_member, frozen_members, frozen_of, frozen_text, frozen_watched, keeps, leaf_call_text, members, named_in, old_argument, old_arguments, passed_old, passed_olds, same_scope, scope_text, taken_scope, type_at, unused_line, unused_old, unused_olds};
 
+use crate::leaf::{push_param, push_unused_params};
 use crate::piece::{Piece, push, push_if};
 use code_fits::{Layout, Program};
 use net_code::{Function, Scope};
@@ -101,8 +102,7 @@ pub(crate) fn push_arguments(text: &mut String, caller: Caller<'_>) -> Result<()
         ],
     )?;
     push_param_arguments(text, caller.named, caller.layout.params.as_slice())?;
-    push_old_arguments(text, caller.named, caller.layout.olds.as_slice())?;
-    Ok(())
+    push_old_arguments(text, caller.named, caller.layout.olds.as_slice())
 }
 
 /// The parameters as arguments.
@@ -112,16 +112,7 @@ fn push_param_arguments(text: &mut String, named: Named<'_>, params: &[usize]) -
 {
     for (k, param) in params.iter().enumerate() {
         let ty = named.ty(*param);
-        push(
-            text,
-            named.prefix,
-            &[
-                Piece::Text(", const "),
-                Piece::Type(ty),
-                Piece::Text(" *p"),
-                Piece::Number(k),
-            ],
-        )?;
+        push_param(text, named.prefix, k, ty)?;
     }
     Ok(())
 }
@@ -168,8 +159,7 @@ fn push_old_argument(
             Piece::Number(k),
             Piece::Text("_at"),
         ],
-    )?;
-    Ok(())
+    )
 }
 
 /// A line for what may stay unused.
@@ -188,23 +178,7 @@ pub(crate) fn push_unused(text: &mut String, caller: Caller<'_>) -> Result<(), M
     push(text, prefix, &[Piece::Text("(void)dt; (void)x;")])?;
     push_unused_params(text, prefix, caller.layout.params.as_slice().len())?;
     push_unused_olds(text, caller.named, caller.layout.olds.as_slice())?;
-    push(text, prefix, &[Piece::Text("\n")])?;
-    Ok(())
-}
-
-/// The first so many parameters, which may stay unused.
-fn push_unused_params(text: &mut String, prefix: &str, count: usize) -> Result<(), Memory>
-    ensures { IfOk result (λ _. string_bytes text.new
-        ≡ string_bytes text.old ++ unused_params prefix.now count) }
-{
-    for k in 0..count {
-        push(
-            text,
-            prefix,
-            &[Piece::Text(" (void)p"), Piece::Number(k), Piece::Text(";")],
-        )?;
-    }
-    Ok(())
+    push(text, prefix, &[Piece::Text("\n")])
 }
 
 /// Frozen networks that may stay unused.
@@ -237,8 +211,7 @@ fn push_unused_old(text: &mut String, named: Named<'_>, k: usize, old: usize) ->
             Piece::Number(k),
             Piece::Text("_at;"),
         ],
-    )?;
-    Ok(())
+    )
 }
 
 /// A call.
@@ -263,8 +236,7 @@ pub(crate) fn push_call(text: &mut String, caller: Caller<'_>, call: Call<'_>) -
     push(text, prefix, &[Piece::Text(call.moment), Piece::Text(", ")])?;
     push(text, prefix, call.input)?;
     push_scope(text, caller, call.scope, call.by)?;
-    push(text, prefix, &[Piece::Text(")")])?;
-    Ok(())
+    push(text, prefix, &[Piece::Text(")")])
 }
 
 /// What a called function has in scope; `by` is the value that has taken over.
@@ -290,8 +262,7 @@ fn push_same(text: &mut String, caller: Caller<'_>) -> Result<(), Memory>
         caller.named.prefix,
         caller.layout.params.as_slice().len(),
     )?;
-    push_olds(text, caller.named, caller.layout.olds.as_slice())?;
-    Ok(())
+    push_olds(text, caller.named, caller.layout.olds.as_slice())
 }
 
 /// The first so many parameters and frozen networks.
@@ -306,8 +277,7 @@ fn push_first(
 {
     let olds = caller.layout.olds.as_slice();
     push_params(text, caller.named.prefix, params)?;
-    push_olds(text, caller.named, &olds[..frozen.min(olds.len())])?;
-    Ok(())
+    push_olds(text, caller.named, &olds[..frozen.min(olds.len())])
 }
 
 /// All that is in scope, with the value that has taken over, and what the function itself has frozen.
@@ -326,8 +296,7 @@ fn push_taken(text: &mut String, caller: Caller<'_>, scope: Scope, by: &str) -> 
         &[Piece::Text(", "), Piece::Text(by)],
     )?;
     push_olds(text, caller.named, caller.layout.olds.as_slice())?;
-    push_frozen(text, caller, scope)?;
-    Ok(())
+    push_frozen(text, caller, scope)
 }
 
 /// The first so many parameters.
@@ -367,8 +336,7 @@ fn push_old(text: &mut String, named: Named<'_>, k: usize, old: usize) -> Result
         text,
         named.prefix,
         &[Piece::Text(", o"), Piece::Number(k), Piece::Text("_at")],
-    )?;
-    Ok(())
+    )
 }
 
 /// What the function itself has frozen.
@@ -407,8 +375,7 @@ fn push_frozen_watched(text: &mut String, named: Named<'_>, watched: usize) -> R
         named.keeps(watched),
         &[Piece::Text(", &s->frozen")],
     )?;
-    push(text, named.prefix, &[Piece::Text(", s->frozen_at")])?;
-    Ok(())
+    push(text, named.prefix, &[Piece::Text(", s->frozen_at")])
 }
 
 /// Members, frozen.
@@ -438,8 +405,7 @@ fn push_frozen_member(
         named.keeps(member),
         &[Piece::Text(", &s->frozen.m"), Piece::Number(k)],
     )?;
-    push(text, named.prefix, &[Piece::Text(", s->frozen_at")])?;
-    Ok(())
+    push(text, named.prefix, &[Piece::Text(", s->frozen_at")])
 }
 
 /// A call of the leaf of a statement.
@@ -467,6 +433,5 @@ pub(crate) fn push_leaf_call(
     )?;
     push(text, prefix, input)?;
     push_params(text, prefix, caller.layout.params.as_slice().len())?;
-    push(text, prefix, &[Piece::Text(")")])?;
-    Ok(())
+    push(text, prefix, &[Piece::Text(")")])
 }

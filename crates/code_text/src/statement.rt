@@ -1,8 +1,8 @@
 // The C of a function's statements.
 
-ghost use Rattle.std.specs.Prelude.{◌≡◌, ◌++◌, IfOk, [], length, map, string_bytes};
+ghost use Rattle.std.specs.Prelude.{◌≡◌, ◌++◌, IfOk, length, map, string_bytes};
 ghost use Rattle.sample_core.specs.TypeView.{type_of};
-ghost use Rattle.code_text.specs.{CellText.declared_in, CellText.zeros_pieces, Piece.pieces_text, Piece.reg, PieceView.piece_of};
+ghost use Rattle.code_text.specs.{CellText.declared_in, Piece.pieces_text, Piece.reg, PieceView.piece_of};
 ghost use Rattle.code_text.specs.ScopeText.{caller_in, members, named_in};
 ghost use Rattle.code_text.specs.StatementText.{accumulation_text, action_text, answers_text, cell_pieces, declaration_text, each_text, each_texts, effect_text, freezing_text, going_text, guard_pieces, input_of, letters_in, letters_of, member_call_text, moment_text, pair_pieces, part_call_text, part_text, resumption_text, routed_text, routed_texts, value_text};
 ghost use Rattle.code_text.specs.StatementText.{keeps_any as any_keeps, keeps_watched as watched_keeps};
@@ -11,7 +11,7 @@ use crate::cell::{
     push_after, push_delay, push_hold, push_i_pre, push_integral, push_repeatedly, push_time,
 };
 use crate::collection::push_collection;
-use crate::declared::Declared;
+use crate::declared::{Declared, push_begins, push_zeros};
 use crate::piece::{Piece, push, push_if};
 use crate::scope::{Call, Caller, Named, members_of, push_call, push_leaf_call};
 use cell_core::Form;
@@ -83,21 +83,9 @@ fn push_declaration(
     ensures { IfOk result (λ _. string_bytes text.new ≡ string_bytes text.old
         ++ declaration_text (caller_in caller.entry) (declared_in declared.entry) declared.entry.index action.now) }
 {
-    push(
-        text,
-        caller.named.prefix,
-        &[
-            Piece::Text(declared.indent),
-            Piece::Text("const "),
-            Piece::Type(declared.ty),
-            Piece::Text(" "),
-            declared.name,
-            Piece::Text(" = "),
-        ],
-    )?;
+    push_begins(text, caller.named.prefix, declared, &[])?;
     push_value(text, caller, declared.index, action)?;
-    push(text, caller.named.prefix, &[Piece::Text(";\n")])?;
-    Ok(())
+    push(text, caller.named.prefix, &[Piece::Text(";\n")])
 }
 
 /// An action that is one expression.
@@ -174,8 +162,7 @@ fn push_part_call(
             scope,
             by: "&s->by",
         },
-    )?;
-    Ok(())
+    )
 }
 
 /// What goes on: t by the value that has taken over, or f.
@@ -204,8 +191,7 @@ fn push_going_on(
         (f, Part::Front, When::Now),
         Scope::Same,
         &[Piece::At(k)],
-    )?;
-    Ok(())
+    )
 }
 
 /// The lines of a cell, which begins as register j, at register k.
@@ -263,35 +249,7 @@ fn push_pair(
             Piece::Reg(k),
             Piece::Text(";\n"),
         ],
-    )?;
-    Ok(())
-}
-
-/// A declared value, all of whose bytes are 0.
-pub(crate) fn push_zeros(
-    text: &mut String,
-    prefix: &str,
-    declared: Declared<'_>,
-) -> Result<(), Memory>
-    ensures { IfOk result (λ _. string_bytes text.new ≡ string_bytes text.old
-        ++ pieces_text prefix.now (zeros_pieces (declared_in declared.entry) [])) }
-{
-    push(
-        text,
-        prefix,
-        &[
-            Piece::Text(declared.indent),
-            Piece::Type(declared.ty),
-            Piece::Text(" "),
-            declared.name,
-            Piece::Text("; memset(&"),
-            declared.name,
-            Piece::Text(", 0, sizeof "),
-            declared.name,
-            Piece::Text(");\n"),
-        ],
-    )?;
-    Ok(())
+    )
 }
 
 /// A list with room for so many answers.
@@ -304,10 +262,10 @@ fn push_answers(
     ensures { IfOk result (λ _. string_bytes text.new ≡ string_bytes text.old
         ++ answers_text prefix.now (declared_in declared.entry) count) }
 {
-    push_zeros(text, prefix, declared)?;
-    push(
+    push_zeros(
         text,
         prefix,
+        declared,
         &[
             Piece::Text(declared.indent),
             declared.name,
@@ -315,8 +273,7 @@ fn push_answers(
             Piece::Number(count),
             Piece::Text(";\n"),
         ],
-    )?;
-    Ok(())
+    )
 }
 
 /// The answers of the members, each at register k.
@@ -333,8 +290,7 @@ fn push_each(
 {
     let members = members_of(caller.function);
     push_answers(text, caller.named.prefix, declared, members.len())?;
-    push_each_of(text, caller, declared, (part, k), members)?;
-    Ok(())
+    push_each_of(text, caller, declared, (part, k), members)
 }
 
 /// The answers of these members.
@@ -377,8 +333,7 @@ fn push_each_at(
         ],
     )?;
     push_member_call(text, caller, at.0, member, &[Piece::At(at.1)])?;
-    push(text, caller.named.prefix, &[Piece::Text(";\n")])?;
-    Ok(())
+    push(text, caller.named.prefix, &[Piece::Text(";\n")])
 }
 
 /// The call of a member with its number.
@@ -408,8 +363,7 @@ fn push_member_call(
             scope: Scope::Same,
             by: "&s->by",
         },
-    )?;
-    Ok(())
+    )
 }
 
 /// The answers of the members, each at the leaf's value at register k and its number.
@@ -426,8 +380,7 @@ fn push_routed(
 {
     let members = members_of(caller.function);
     push_answers(text, caller.named.prefix, declared, members.len())?;
-    push_routed_of(text, caller, declared, (part, k), members)?;
-    Ok(())
+    push_routed_of(text, caller, declared, (part, k), members)
 }
 
 /// The routed answers of these members.
@@ -492,8 +445,7 @@ fn push_routed_at<'a>(
         ],
     )?;
     push_member_call(text, caller, at.0, member, &[Piece::Text("&z")])?;
-    push(text, prefix, &[Piece::Text("; }\n")])?;
-    Ok(())
+    push(text, prefix, &[Piece::Text("; }\n")])
 }
 
 /// The type of a function's input.
@@ -518,10 +470,10 @@ fn push_accumulation(
         ++ accumulation_text (caller_in caller.entry) (declared_in declared.entry) declared.entry.index j k) }
 {
     let prefix = caller.named.prefix;
-    push_zeros(text, prefix, declared)?;
-    push(
+    push_zeros(
         text,
         prefix,
+        declared,
         &[
             Piece::Text(declared.indent),
             Piece::Text("if (dt == 0) { s->value = "),
@@ -556,8 +508,7 @@ fn push_accumulation(
             declared.name,
             Piece::Text(".v = s->value; }\n"),
         ],
-    )?;
-    Ok(())
+    )
 }
 
 /// The letters of the type that is accumulated, and of what the event carries.
@@ -649,8 +600,7 @@ fn push_freezing(text: &mut String, caller: Caller<'_>) -> Result<(), Memory>
         caller.named.prefix,
         keeps_watched(caller),
         &[Piece::Text("    s->frozen = s->watched;\n")],
-    )?;
-    Ok(())
+    )
 }
 
 /// Whether what is watched keeps anything.
@@ -700,8 +650,7 @@ fn push_resumption(text: &mut String, caller: Caller<'_>, k: usize) -> Result<()
             Piece::Text(";"),
         ],
     )?;
-    push(text, prefix, &[Piece::Text(" }\n")])?;
-    Ok(())
+    push(text, prefix, &[Piece::Text(" }\n")])
 }
 
 /// When a function answers, as the beginning of a block.

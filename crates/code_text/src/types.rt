@@ -112,8 +112,7 @@ fn push_helper(text: &mut String, prefix: &str, ty: &Ty) -> Result<(), Memory>
         ≡ string_bytes text.old ++ helper_text prefix.now (type_of ty.now)) }
 {
     push_same(text, prefix, ty)?;
-    push_access(text, prefix, ty)?;
-    Ok(())
+    push_access(text, prefix, ty)
 }
 
 /// Whether two values of a type are the same.
@@ -137,8 +136,7 @@ fn push_same(text: &mut String, prefix: &str, ty: &Ty) -> Result<(), Memory>
         ],
     )?;
     push_same_body(text, prefix, ty)?;
-    push(text, prefix, &[Piece::Text("}\n")])?;
-    Ok(())
+    push(text, prefix, &[Piece::Text("}\n")])
 }
 
 /// The lines of that function.

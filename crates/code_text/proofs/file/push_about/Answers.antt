@@ -3,8 +3,8 @@ use Rattle.code_text.proofs.file.push_about.Goals as goal
 
 pub returns : goal.returns
 returns c =
-    joined_four _ _ _ _ _ _ _ _ _
+    joined_four _ _ _ _ _ _ _ _ _ _
     c.in_ok-push_types.ensures
     c.in_ok-push_with_each.ensures
     c.in_ok-push_use.ensures
-    c.in_ok-push_figures.ensures
+    c.push_figures.ensures

@@ -3,8 +3,8 @@ use Rattle.code_text.proofs.file.push_definitions.Goals as goal
 
 pub returns : goal.returns
 returns c =
-    joined_four _ _ _ _ _ _ _ _ _
+    joined_four _ _ _ _ _ _ _ _ _ _
     c.in_ok-push_numbers.ensures
     (rw c.as_slice.ensures.value at c.in_ok-push_helpers.ensures)
     c.in_ok-push_all_functions.ensures
-    c.in_ok-push_entries.ensures
+    c.push_entries.ensures

@@ -3,7 +3,7 @@ use Rattle.code_text.proofs.file.push_filtered.Goals as goal
 
 pub returns : goal.returns
 returns c =
-    joined_three _ _ _ _ _ _ _
+    joined_three _ _ _ _ _ _ _ _
     c.in_ok-push.ensures
     c.in_ok-push_definitions.ensures
-    (rw (c.as_slice-types.ensures.value, c.ty-input.ensures, c.ty-output.ensures) at c.in_ok-push_filter.ensures)
+    (rw (c.as_slice-types.ensures.value, c.ty-input.ensures, c.ty-output.ensures) at c.push_filter.ensures)

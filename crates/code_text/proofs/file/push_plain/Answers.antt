@@ -3,6 +3,6 @@ use Rattle.code_text.proofs.file.push_plain.Goals as goal
 
 pub returns : goal.returns
 returns c =
-    joined_two _ _ _ _ _
+    joined_two _ _ _ _ _ _
     c.in_ok-push.ensures
-    c.in_ok-push_definitions.ensures
+    c.push_definitions.ensures

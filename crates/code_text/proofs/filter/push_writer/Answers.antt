@@ -3,7 +3,7 @@ use Rattle.code_text.proofs.filter.push_writer.Goals as goal
 
 pub returns : goal.returns
 returns c =
-    joined_three _ _ _ _ _ _ _
+    joined_three _ _ _ _ _ _ _ _
     c.in_ok-push.ensures
     c.in_ok-push_writing.ensures
-    c.in_ok-push-2.ensures
+    c.push-2.ensures

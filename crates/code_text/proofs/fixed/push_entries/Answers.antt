@@ -3,6 +3,6 @@ use Rattle.code_text.proofs.fixed.push_entries.Goals as goal
 
 pub returns : goal.returns
 returns c =
-    joined_two _ _ _ _ _
+    joined_two _ _ _ _ _ _
     c.in_ok-push_init.ensures
-    c.in_ok-push_step.ensures
+    c.push_step.ensures

@@ -1,4 +1,4 @@
 use Rattle.code_text.proofs.fixed.push_step.Goals as goal
 
 pub returns : goal.returns
-returns c = rw c.passed-passed.ensures at c.in_ok-push.ensures
+returns c = rw c.passed-passed.ensures at c.push.ensures

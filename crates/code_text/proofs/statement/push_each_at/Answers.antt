@@ -3,5 +3,5 @@ use Rattle.code_text.proofs.statement.push_each_at.Goals as goal
 
 pub returns : goal.returns
 returns c =
-    joined_three _ _ _ _ _ _ _ c.in_ok-push.ensures c.in_ok-push_member_call.ensures
-    c.in_ok-push-2.ensures
+    joined_three _ _ _ _ _ _ _ _ c.in_ok-push.ensures c.in_ok-push_member_call.ensures
+    c.push-2.ensures

@@ -2,4 +2,4 @@ use Rattle.code_text.proofs.statement.push_part_call.Goals as goal
 
 pub returns : goal.returns
 returns c =
-    rw (c.address_of-part.ensures, c.moment_of-moment.ensures) at c.in_ok-push_call.ensures
+    rw (c.address_of-part.ensures, c.moment_of-moment.ensures) at c.push_call.ensures

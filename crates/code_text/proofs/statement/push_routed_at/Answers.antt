@@ -3,7 +3,7 @@ use Rattle.code_text.proofs.statement.push_routed_at.Goals as goal
 
 pub returns : goal.returns
 returns c =
-    joined_five _ _ _ _ _ _ _ _ _ _ _
+    joined_five _ _ _ _ _ _ _ _ _ _ _ _
     (rw (c.ty-input.ensures, c.input_type-routed.ensures) at c.in_ok-push.ensures)
     c.in_ok-push_leaf_call.ensures c.in_ok-push-2.ensures c.in_ok-push_member_call.ensures
-    c.in_ok-push-3.ensures
+    c.push-3.ensures

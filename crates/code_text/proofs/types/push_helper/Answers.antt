@@ -4,4 +4,4 @@ use Rattle.code_text.proofs.types.push_helper.Goals as goal
 
 pub returns : goal.returns
 unfolding helper_text
-returns c = joined_two _ _ _ _ _ c.in_ok-push_same.ensures c.in_ok-push_access.ensures
+returns c = joined_two _ _ _ _ _ _ c.in_ok-push_same.ensures c.push_access.ensures

@@ -1,6 +1,0 @@
-use Rattle.code_text.proofs.Joined.{joined_two}
-use Rattle.code_text.proofs.statement.push_answers.Goals as goal
-
-pub returns : goal.returns
-returns c =
-    joined_two _ _ _ _ _ c.in_ok-push_zeros.ensures c.in_ok-push.ensures
