@@ -6,6 +6,11 @@ use Rattle.net_meaning.specs.TypedNetwork.{TypedNetwork}
 use Rattle.net_tree.specs.LawStep.{Step}
 use Rattle.cert_check.specs.Derives.{Derives}
 use Rattle.net_opt.specs.Optimising.{Optimised}
+use Rattle.net_opt.specs.declared.optimiser.TheConstants.{MOST_TAKEN}
+
+-- how many steps are taken at most
+abbrev pub MostTakenIs : Type 0
+MostTakenIs = MOST_TAKEN ≡ 1000
 
 -- what is optimised, with its source's input type, is derived from the source by the steps
 abbrev pub OptimisedDerivesLaw : Type 0

@@ -17,5 +17,5 @@ mod search;
 mod step;
 mod walk;
 
-pub use laws::optimised_laws;
+pub use laws::{limit_laws, optimised_laws};
 pub use optimiser::optimise;

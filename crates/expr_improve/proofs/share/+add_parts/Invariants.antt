@@ -1,4 +1,0 @@
-use Rattle.expr_improve.proofs.share.+add_parts.Given as goal
-
-abbrev pub decreases-add_parts : goal.decreases-add_parts
-decreases-add_parts l = l.depth

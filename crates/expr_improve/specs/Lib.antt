@@ -1,1 +1,0 @@
--- Nothing is promised of a search, so nothing is defined for it.
