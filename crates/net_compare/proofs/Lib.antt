@@ -1,4 +1,0 @@
-pub mod Differing
-pub mod Counting
-pub mod Falling
-pub mod Numbered

@@ -1,2 +1,0 @@
--- Where two networks differ.
-pub mod Difference

@@ -1,5 +1,0 @@
-pub mod Restored
-pub mod PutBack
-pub mod Undone
-pub mod Leading
-pub mod Found
