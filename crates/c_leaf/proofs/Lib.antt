@@ -1,0 +1,8 @@
+-- Proofs, a file a line.
+pub mod Values
+pub mod Same
+pub mod Typed
+pub mod Operations
+pub mod Steps
+pub mod Emitted
+pub mod LeafC

@@ -1,0 +1,4 @@
+-- Values and expressions as C, a file a line.
+pub mod Representing
+pub mod LeafC
+pub mod LeafCLaw
