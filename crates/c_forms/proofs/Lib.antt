@@ -1,0 +1,22 @@
+-- Proofs, a file a line.
+pub mod Reading
+pub mod Ring
+pub mod Lines
+pub mod Forms
+pub mod Cells
+pub mod Delay
+pub mod DelayLaw
+pub mod Switches
+pub mod Restarts
+pub mod Freezing
+pub mod Olds
+pub mod Members
+pub mod Routing
+pub mod Loops
+pub mod Turns
+pub mod Sides
+pub mod Beginning
+pub mod Choosing
+pub mod Turning
+pub mod Collection
+pub mod Checked
