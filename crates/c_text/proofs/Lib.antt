@@ -1,0 +1,4 @@
+-- Lemmas, a file a line.
+pub mod Names
+pub mod Rows
+pub mod Joined

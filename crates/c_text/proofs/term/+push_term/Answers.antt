@@ -1,0 +1,15 @@
+use Rattle.std.proofs.Common.{◌++◌, codes, string_bytes, sym, ap, ◌∙◌}
+use Rattle.c_text.specs.TermText.{elements_text, term_text}
+use Rattle.c_text.proofs.Rows.{braced_text}
+use Rattle.c_text.proofs.term.+push_term.Goals as goal
+
+pub push_term-returns-in_ok-push_braced-in-Braced :
+    goal.push_term-returns-in_ok-push_braced-in-Braced
+push_term-returns-in_ok-push_braced-in-Braced t c =
+    let P = c.args.scope.prefix.now in
+    let L = c.args.scope.locals.now in
+    let o = string_bytes c.args.text.now in
+    let is = ap (term_text P L) c.in-Braced.is ∙ braced_text P L c.in-Braced.all c.in-Braced.field-1 in
+    c.in_ok-push_braced-in-Braced.ensures
+    ∙ (ap (λ xs. o ++ (codes "{" ++ (elements_text P L 0 xs ++ codes "}"))) c.as_slice.ensures.value
+    ∙ ap (λ s. o ++ s) (sym is))

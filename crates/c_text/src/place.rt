@@ -1,0 +1,53 @@
+// Finds the types of places.
+
+ghost use Rattle.std.specs.Prelude.{◌≡◌};
+ghost use Rattle.c_text.specs.CommandText.{element_type, local_type, member_type, place_type};
+
+use crate::tree::{Base, CType, Local, Struct, Term};
+
+/// The type of a local.
+fn local_type(locals: &[Local], k: usize) -> CType
+    ensures { result ≡ local_type locals.now k }
+{
+    match locals.get(k) {
+        Some(local) => local.ty,
+        None => CType::One(Base::Bool),
+    }
+}
+
+/// The type of a member of an object of this type.
+fn member_type(structs: &[Struct], ty: CType, k: usize) -> CType
+    ensures { result ≡ member_type structs.now ty k }
+{
+    match ty {
+        CType::One(Base::Struct(j)) => match structs.get(j) {
+            Some(each) => match each.members.as_slice().get(k) {
+                Some(member) => *member,
+                None => CType::One(Base::Bool),
+            },
+            None => CType::One(Base::Bool),
+        },
+        _ => CType::One(Base::Bool),
+    }
+}
+
+/// The type of an element.
+fn element_type(ty: CType) -> CType
+    ensures { result ≡ element_type ty }
+{
+    match ty {
+        CType::Array(_, base) | CType::One(base) => CType::One(base),
+    }
+}
+
+/// The type of what a term designates.
+pub(crate) fn place_type(structs: &[Struct], locals: &[Local], place: &Term) -> CType
+    ensures { result ≡ place_type structs.now locals.now place.now }
+{
+    match place {
+        Term::Local(k) => local_type(locals, *k),
+        Term::Dot(e, k) => member_type(structs, place_type(structs, locals, e), *k),
+        Term::At(e, _) => element_type(place_type(structs, locals, e)),
+        _ => CType::One(Base::Bool),
+    }
+}
