@@ -9,9 +9,14 @@ use Rattle.net_tree.specs.LawStep.{Step}
 use Rattle.cert_check.specs.declared.answer.Accepted.{Accepted}
 use Rattle.cert_check.specs.declared.answer.CheckFault.{CheckFault}
 use Rattle.cert_check.specs.declared.answer.CheckFault.TheVariants.{Memory}
+use Rattle.cert_check.specs.declared.derivation.TheConstants.{MOST_STEPS}
 use Rattle.cert_check.specs.Derives.{Next, Derives, standing_tree}
 use Rattle.cert_check.specs.CheckAnswer.{CheckAnswer}
 use Rattle.cert_check.specs.StepAnswers.{ApplyAnswer}
+
+-- how many steps a certificate may have
+abbrev pub MostStepsIs : Type 0
+MostStepsIs = MOST_STEPS ≡ 10000
 
 -- a network that is derived from another outputs the same in alike environments
 abbrev pub DerivedSameLaw : Type 0

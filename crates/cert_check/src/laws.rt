@@ -8,6 +8,7 @@ ghost use Rattle.cert_check.specs.Laws.{
   OneCheckAnswerLaw,
   AppliedLaw,
   AnswerStandsLaw,
+  MostStepsIs,
 };
 
 /// What is derived from a network has its types and outputs the same: in alike environments, and
@@ -24,6 +25,11 @@ pub fn derivation_laws()
 pub fn one_answer_laws()
     ensures one_next { OneNextLaw }
     ensures one_answer { OneCheckAnswerLaw }
+{}
+
+/// How many steps a certificate may have, as a number.
+pub fn limit_laws()
+    ensures { MostStepsIs }
 {}
 
 /// What `apply_steps` answers is derived by the steps, so a check of it as the target accepts them;

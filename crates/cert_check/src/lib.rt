@@ -18,5 +18,5 @@ mod step;
 
 pub use answer::{Accepted, CheckFault};
 pub use derivation::{MOST_STEPS, apply_steps, check};
-pub use laws::{applied_laws, derivation_laws, one_answer_laws};
+pub use laws::{applied_laws, derivation_laws, limit_laws, one_answer_laws};
 pub use step::{answer_at, place_in, take_step};

@@ -6,4 +6,5 @@ pub mod Functions
 pub mod Links
 pub mod RuleTests
 pub mod Folds
+pub mod Room
 pub mod Programs

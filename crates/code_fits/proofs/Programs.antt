@@ -14,6 +14,7 @@ use Rattle.code_fits.specs.Tables.{layout_of, bound_of, trees_at}
 use Rattle.code_fits.specs.Programs.{IsWhole, ProgramOutputs, ProgramStands}
 use Rattle.code_fits.proofs.RuleTests.{callee-goes}
 use Rattle.code_fits.proofs.Links.{fit_law}
+use Rattle.code_fits.proofs.Room.{samples-fit}
 
 code-length : (fs : List Function) → length (code_in fs) ≡ length fs
 code-length [] = refl
@@ -24,7 +25,7 @@ pub last-there : (fs : List Function) (Ls : List N.Layout) (k : ℕ) (L : N.Layo
 last-there fs Ls k L e q = subst (λ j. slice_get Ls j ≡ Some L) (q ∙ ap (λ n. n - 1) (sym (code-length fs))) e
 
 pub outputs : ProgramOutputs
-outputs t p typed h types s xs =
+outputs t most p typed h types s xs =
     let same : tree h.code.0 ≡ t.net = h.code.1 in
     let it : NetTyped [] [] (tree h.code.0) t.input t.output = subst (λ n. NetTyped [] [] n t.input t.output) (sym same) typed in
     ap (λ c. run_code (leaf_in types) c s xs) h.code.2
@@ -32,9 +33,9 @@ outputs t p typed h types s xs =
     ∙ ap (λ n. stream_of n xs) same
 
 pub stands : ProgramStands
-stands t p h s xs x =
+stands t most p h s xs x =
     let w : IsWhole t p.types h.whole.layout = h.whole.whole in
     fit_law (bound_of p.types p.bounds.items) p.functions.items (map (layout_of p.types) p.layouts.items) (layout_of p.types h.whole.layout) h.layouts
     (callee-goes p.types p.layouts.items (latest (code_in p.functions.items)) h.whole.layout h.whole.last)
     (ap (trees_at p.types) w.params) w.olds s xs
-    (subst (λ A. SamplesFit (bound_of p.types p.bounds.items) A false xs) (sym w.input) x)
+    (subst (λ A. SamplesFit (bound_of p.types p.bounds.items) A false xs) (sym w.input) (samples-fit (bound_of p.types p.bounds.items) most t.input false xs h.room x))

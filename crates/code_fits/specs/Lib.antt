@@ -6,4 +6,5 @@ pub mod FitLaw
 pub mod CodeOfNet
 pub mod Tables
 pub mod Parts
+pub mod Room
 pub mod Programs

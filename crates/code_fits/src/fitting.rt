@@ -1,12 +1,13 @@
 // Whether the functions of a program fit their layouts.
 
-ghost use Rattle.std.specs.Prelude.{◌≡◌, IfOk, Some};
+ghost use Rattle.std.specs.Prelude.{◌≡◌, ◌^◌, IfOk, Some};
 ghost use Rattle.sample_core.specs.TypeView.{type_of};
 ghost use Rattle.net_code.specs.Running.{AllBelow};
 ghost use Rattle.code_fits.specs.Programs.{HasWhole};
-ghost use Rattle.code_fits.specs.Tables.{LayoutsFit, TableHolds, entry_tree, tree_at};
+ghost use Rattle.code_fits.specs.Room.{HasRoom};
+ghost use Rattle.code_fits.specs.Tables.{LayoutsFit, TableHolds, bound_of, entry_tree, tree_at};
 
-use crate::around::{Around, equal, layout_at, type_at};
+use crate::around::{Around, equal, layout_at, may_have, type_at};
 use crate::layout::Layout;
 use crate::rules::function_fits;
 use crate::types::{TypeEntry, Types};
@@ -16,25 +17,65 @@ use net_syntax::TypedNet;
 use sample_core::{Ty, same_type};
 use std::alloc::Global;
 
+/// What the greatest length of lists is below: it has 32 bits.
+const BOUND: usize = 4_294_967_296;
+
+/// How long lists may be, by their types.
+#[derive(Clone, Copy)]
+pub(crate) struct Lengths<'a> {
+    pub(crate) types: &'a Types,
+    pub(crate) bounds: &'a [usize],
+    /// Those of the input.
+    pub(crate) most: usize,
+}
+
 /// Tests that each entry of the table is the tree at its number, that functions fit their layouts by the
-/// rules of `specs/Rules`, and that the last goes from the network's input to its output with nothing
-/// in scope: `Untyped` where they don't.
+/// rules of `specs/Rules`, that the last goes from the network's input to its output with nothing in
+/// scope, that the input's lists have room, and that the greatest lengths have 32 bits: `Untyped` where
+/// they don't.
 pub(crate) fn test_program(
     alloc: Global,
     net: &TypedNet,
     functions: &[Function],
     layouts: &[Layout],
-    types: &Types,
-    bounds: &[usize],
+    lengths: Lengths<'_>,
 ) -> Result<(), Unlaid>
-    ensures table { IfOk result (λ _. TableHolds types.now) }
-    ensures layouts { IfOk result
-        (λ _. LayoutsFit types.now bounds.now functions.now layouts.now) }
-    ensures whole { IfOk result (λ _. HasWhole net.now types.now functions.now layouts.now) }
+    ensures table { IfOk result (λ _. TableHolds lengths.entry.types.now) }
+    ensures layouts { IfOk result (λ _. LayoutsFit lengths.entry.types.now lengths.entry.bounds.now
+        functions.now layouts.now) }
+    ensures whole { IfOk result
+        (λ _. HasWhole net.now lengths.entry.types.now functions.now layouts.now) }
+    ensures room { IfOk result
+        (λ _. HasRoom (bound_of lengths.entry.types.now lengths.entry.bounds.now)
+        lengths.entry.most net.now.input) }
+    ensures small { IfOk result (λ _. AllBelow (2 ^ 32) lengths.entry.bounds.now) }
 {
-    test_table(types)?;
-    test_layouts(alloc, functions, layouts, types, bounds)?;
-    test_whole(net, functions, layouts, types)
+    all_below(BOUND, lengths.bounds)?;
+    test_table(lengths.types)?;
+    test_layouts(alloc, functions, layouts, lengths.types, lengths.bounds)?;
+    test_whole(net, functions, layouts, lengths.types)?;
+    test_room(lengths, net.input())
+}
+
+/// Each list in a value of the type may have as many elements as the input's lists.
+fn test_room(lengths: Lengths<'_>, ty: &Ty) -> Result<(), Unlaid>
+    ensures { IfOk result
+        (λ _. HasRoom (bound_of lengths.entry.types.now lengths.entry.bounds.now)
+        lengths.entry.most (type_of ty.now)) }
+{
+    match ty {
+        Ty::Unit | Ty::Bool | Ty::Int => Ok(()),
+        Ty::Pair(a, b) => {
+            test_room(lengths, a.get())?;
+            test_room(lengths, b.get())
+        }
+        Ty::Event(a) => test_room(lengths, a.get()),
+        Ty::List(a) => {
+            let known = lengths.types.trees.as_slice();
+            may_have(known, lengths.bounds, ty, lengths.most)?;
+            test_room(lengths, a.get())
+        }
+    }
 }
 
 /// The last function has nothing in scope, and goes from the network's input to its output.
@@ -128,11 +169,11 @@ fn test_layouts(
 }
 
 /// Each number is below k.
-fn all_below(k: usize, olds: &[usize]) -> Result<(), Unlaid>
-    ensures { IfOk result (λ _. AllBelow k olds.now) }
+fn all_below(k: usize, numbers: &[usize]) -> Result<(), Unlaid>
+    ensures { IfOk result (λ _. AllBelow k numbers.now) }
 {
-    for old in olds {
-        if *old >= k {
+    for number in numbers {
+        if *number >= k {
             return Err(Unlaid::Untyped);
         }
     }

@@ -6,26 +6,31 @@ ghost use Rattle.code_fits.specs.Programs.{IsProgramOf};
 
 use crate::bounds::bounds_of;
 use crate::bytes::{kept_bytes, value_bytes};
-use crate::fitting::test_program;
+use crate::fitting::{Lengths, test_program};
 use crate::layout::{Layout, Program};
 use crate::types::Types;
 use crate::walk::{Layouts, Unlaid, lay_out};
 use net_code::{Function, compile};
 use net_syntax::TypedNet;
+use net_tree::Position;
 use sample_core::{Memory, OutOfMemory};
 use std::alloc::Global;
+use thiserror::Error;
 
 /// How many bytes the state of a network has at most.
 pub const MOST_STATE: u64 = 67_108_864;
 
 /// Why there is no program.
-#[derive(Drop)]
+#[derive(Debug, Drop, Error)]
 pub enum Refused {
     /// What is kept at this position is over `MOST_STATE`.
-    State(Vec<u32>),
+    #[error("state too large at {0}")]
+    State(Position),
     /// A part has not the type that it must have: never of a typed network.
+    #[error("no layout")]
     Untyped,
     /// Allocation failed.
+    #[error("memory")]
     Memory,
 }
 
@@ -43,10 +48,10 @@ fn refusal(unlaid: Unlaid) -> Refused {
     }
 }
 
-/// The program of a network, whose input's lists have at most `most` elements; or the first function
-/// that keeps too much.
+/// The program of a network, which has room for `most` elements in lists of the input; or the first
+/// function that keeps too much.
 pub fn program_of(alloc: Global, net: &TypedNet, most: usize) -> Result<Program, Refused>
-    ensures { IfOk result (λ p. IsProgramOf net.now p) }
+    ensures { IfOk result (IsProgramOf net.now most) }
 {
     let layouts = match lay_out(alloc, net) {
         Ok(layouts) => layouts,
@@ -70,7 +75,7 @@ fn tested(
     most: usize,
 ) -> Result<Program, Refused>
     requires { IsCodeOf net.now functions.items }
-    ensures { IfOk result (λ p. IsProgramOf net.now p) }
+    ensures { IfOk result (IsProgramOf net.now most) }
 {
     let mut layouts = layouts;
     let bounds = bounds_of(
@@ -81,14 +86,12 @@ fn tested(
         &mut layouts.types,
     )?;
     let Layouts { types, all } = layouts;
-    let fits = test_program(
-        alloc,
-        net,
-        functions.as_slice(),
-        all.as_slice(),
-        &types,
-        bounds.as_slice(),
-    );
+    let lengths = Lengths {
+        types: &types,
+        bounds: bounds.as_slice(),
+        most,
+    };
+    let fits = test_program(alloc, net, functions.as_slice(), all.as_slice(), lengths);
     if let Err(unlaid) = fits {
         return Err(refusal(unlaid));
     }
@@ -128,11 +131,9 @@ fn state_bytes(
 }
 
 /// Where the node of a function stands.
-fn position_of(alloc: Global, layouts: &[Layout], k: usize) -> Result<Vec<u32>, Memory> {
-    let mut position = Vec::new(alloc);
+fn position_of(alloc: Global, layouts: &[Layout], k: usize) -> Result<Position, Memory> {
     match layouts.get(k) {
-        Some(layout) => position.extend_from_slice(layout.position.as_slice())?,
-        None => {}
+        Some(layout) => Position::of_node(alloc, layout.position.as_slice()),
+        None => Position::of_node(alloc, &[]),
     }
-    Ok(position)
 }

@@ -12,13 +12,16 @@ use net_syntax::TypedNet;
 use net_tree::{Members, Net, NetChild};
 use sample_core::{Memory, OutOfMemory, Ty};
 use std::alloc::Global;
+use thiserror::Error;
 
 /// Why there are no layouts.
-#[derive(Drop)]
+#[derive(Debug, Drop, Error)]
 pub enum Unlaid {
     /// A part has not the type that it must have: never of a typed network.
+    #[error("no layout")]
     Untyped,
     /// Allocation failed.
+    #[error("memory")]
     Memory,
 }
 

@@ -6,7 +6,7 @@ pub(crate) const HEAD: &str = r#"
 
 enum { @_LINE = 65536, @_SAMPLES = 1000000, @_IN = 4 * @_LINE, @_OUT = @_LINE, @_SPARE = 64 };
 
-static unsigned char @_in[@_IN + @_SPARE], @_out[@_OUT];
+static unsigned char @_in[@_IN + @_SPARE], @_out[@_OUT + @_SPARE];
 static size_t @_out_size;
 
 static void @_flush(void)
@@ -41,18 +41,31 @@ static inline void @_put(const char *text, size_t size)
     @_out_size += size;
 }
 
+/* The digits of a number stand at the end of the first 20 bytes: all 20 from there on are copied, and the others left. */
 static inline void @_put_i(const int64_t *v)
 {
-    char text[20], *p = text + 20;
+    static const char pairs[] =
+        "0001020304050607080910111213141516171819202122232425262728293031323334353637383940414243444546474849"
+        "5051525354555657585960616263646566676869707172737475767778798081828384858687888990919293949596979899";
+    char text[40], *p = text + 20;
     uint64_t rest = (*v < 0) ? 0U - (uint64_t)*v : (uint64_t)*v;
-    do {
-        *--p = (char)('0' + (char)(rest % 10));
-        rest /= 10;
-    } while (rest > 0);
+    while (rest >= 10) {
+        p -= 2;
+        memcpy(p, pairs + rest % 100 * 2, 2);
+        rest /= 100;
+    }
+    if (rest > 0 || p == text + 20) {
+        *--p = (char)('0' + (char)rest);
+    }
     if (*v < 0) {
         *--p = '-';
     }
-    @_put(p, (size_t)(text + 20 - p));
+    const size_t size = (size_t)(text + 20 - p);
+    if (@_out_size + size > @_OUT) {
+        @_flush();
+    }
+    memcpy(@_out + @_out_size, p, 20);
+    @_out_size += size;
 }
 
 static inline void @_put_b(const bool *v)
@@ -81,9 +94,10 @@ static inline bool @_is_digit(unsigned char c)
     return c >= '0' && c <= '9';
 }
 
+/* What stands behind most words, a blank, a parenthesis or a line feed, is below these. */
 static inline bool @_is_of_word(unsigned char c)
 {
-    return @_is_digit(c) || (c >= 'a' && c <= 'z') || (c >= 'A' && c <= 'Z') || c == '-';
+    return c >= '-' && (@_is_digit(c) || (c >= 'a' && c <= 'z') || (c >= 'A' && c <= 'Z') || c == '-');
 }
 
 /* Whether these bytes, which are a word, are a number in its one spelling, of whatever size. */
@@ -151,28 +165,38 @@ static inline bool @_byte(struct @_reader *r, unsigned char c)
     return true;
 }
 
-/* The digits here, modulo 2^64. */
-static inline uint64_t @_digits(struct @_reader *r)
+/* Where the digits that begin there end, and what they are modulo 2^64. */
+static inline const unsigned char *@_digits(const unsigned char *at, uint64_t *n)
 {
-    uint64_t n = 0;
-    for (; @_is_digit(*r->at); r->at++) {
-        n = n * 10U + (uint64_t)(*r->at - '0');
+    uint64_t sum = 0;
+    for (unsigned digit = *at - (unsigned)'0'; digit < 10; digit = *++at - (unsigned)'0') {
+        sum = sum * 10 + digit;
     }
-    return n;
+    *n = sum;
+    return at;
+}
+
+/* Whether there are digits, with a sign before them or without, which are a number of 64 bits in its one spelling. */
+static bool @_fits(const unsigned char *start, const unsigned char *first, const unsigned char *end, uint64_t n)
+{
+    return end > first && end - first <= 19 && (*first != '0' || end - start == 1) && n <= (uint64_t)INT64_MAX + (uint64_t)(first - start);
 }
 
 static inline bool @_read_i(struct @_reader *r, int64_t *v)
 {
     const unsigned char *const start = r->at;
     const bool negative = *start == '-';
-    r->at += negative ? 1 : 0;
-    const unsigned char *const first = r->at;
-    const uint64_t n = @_digits(r);
-    if (r->at == first || @_is_of_word(*r->at) || r->at - first > 19 || (*first == '0' && r->at - start > 1)
-        || n > (uint64_t)INT64_MAX + (negative ? 1U : 0U)) {
-        r->at = start;
+    const unsigned char *const first = start + (negative ? 1 : 0);
+    uint64_t n;
+    const unsigned char *const end = @_digits(first, &n);
+    /* 1 to 18 digits without a 0 at first always fit. */
+    if (((size_t)(end - first) - 1 >= 18 || *first == '0') && !@_fits(start, first, end, n)) {
         return @_wrong(r, 'I');
     }
+    if (@_is_of_word(*end)) {
+        return @_wrong(r, 'I');
+    }
+    r->at = end;
     *v = @_wrapped(negative ? 0U - n : n);
     return true;
 }
@@ -198,92 +222,108 @@ static inline bool @_is_same(const struct @_reader *r)
     return *r->at == '=' && r->at[1] == '\n';
 }
 
-/* The step of a line behind the first, and the space behind it. */
-static int64_t @_read_step(struct @_reader *r, unsigned long line)
+/* Tells the fault of a line, unless the line is too long: then that. */
+static void @_fail_line(const unsigned char *at, unsigned long line, const char *fault)
 {
-    const unsigned char *const first = r->at + 1;
-    uint64_t n = 0;
-    if (*r->at == '+' && *first != '0') {
-        r->at++;
-        n = @_digits(r);
+    const unsigned char *const end = (const unsigned char *)memchr(at, '\n', @_LINE + 1);
+    @_fail(line, (end == NULL) ? "too long" : fault);
+}
+
+/* The step of a line behind the first, which begins there, and the blank behind it. */
+static inline int64_t @_read_step(struct @_reader *r, unsigned long line)
+{
+    const unsigned char *const start = r->at, *const first = start + 1;
+    uint64_t n;
+    const unsigned char *const end = @_digits(first, &n);
+    if (*start != '+' || *end != ' ' || *first == '0' || !@_fits(first, first, end, n)) {
+        @_fail_line(start, line, "step");
     }
-    if (n == 0 || *r->at != ' ' || r->at - first > 19 || n > (uint64_t)INT64_MAX) {
-        @_fail(line, "step");
-    }
-    r->at++;
+    r->at = end + 1;
     return @_wrapped(n);
 }
 
-/* The value of a line, up to its end. */
-static void @_read_value(struct @_reader *r, unsigned long line, const unsigned char *end, @_input *input)
+/* The value of the line that begins at `start`, up to its end. */
+static inline void @_read_value(struct @_reader *r, const unsigned char *start, unsigned long line, @_input *input)
 {
     const unsigned char *const value = r->at;
-    if (!@_read_input(r, input) || (r->at != end && !@_faulty(r, "no value"))) {
+    if (!@_read_input(r, input) || (*r->at != '\n' && !@_faulty(r, "no value"))) {
         char fault[64];
         snprintf(fault, sizeof fault, "%s at %ld", r->fault, (long)(r->faulty - value));
-        @_fail(line, fault);
+        @_fail_line(start, line, fault);
     }
 }
 
-/* Reads a line, which ends there. Answers its step, 0 of the first. */
-static int64_t @_read_line(const unsigned char *at, const unsigned char *end, unsigned long line, @_input *input)
+/* Reads a line, behind which a line feed stands. Answers its step, 0 of the first. */
+static inline int64_t @_read_line(struct @_reader *r, unsigned long line, @_input *input)
 {
-    struct @_reader r = { at, at, "" };
+    const unsigned char *const start = r->at;
     int64_t dt = 0;
-    if (line > @_SAMPLES) {
-        @_fail(line, "too many samples");
-    }
-    if (end - at > @_LINE) {
-        @_fail(line, "too long");
-    }
     if (line > 1) {
-        dt = @_read_step(&r, line);
-    } else if (*at == '+') {
-        @_fail(line, "step");
-    } else if (@_is_same(&r)) {
+        dt = @_read_step(r, line);
+    } else if (*start == '+') {
+        @_fail_line(start, line, "step");
+    } else if (@_is_same(r)) {
         @_fail(line, "nothing before");
     }
-    if (!@_is_same(&r)) {
-        @_read_value(&r, line, end, input);
+    if (@_is_same(r)) {
+        r->at++;
+    } else {
+        @_read_value(r, start, line, input);
+    }
+    if (r->at - start > @_LINE) {
+        @_fail(line, "too long");
     }
     return dt;
 }
 
-/* What is read and not yet used, and whether there is no more. */
-struct @_source { unsigned char *at, *end; bool ended; };
+/* What is read and not yet used: up to `whole` lines with their line feeds, behind it a part of one; and whether there is no more. */
+struct @_source { const unsigned char *at, *whole; unsigned char *end; bool ended; };
 
 static void @_read_more(struct @_source *s)
 {
     const size_t kept = (size_t)(s->end - s->at);
     memmove(@_in, s->at, kept);
-    s->at = @_in;
-    s->end = @_in + kept;
-    const ssize_t n = read(0, s->end, @_IN - kept);
-    if (n > 0) {
-        s->end += n;
-    } else if (n == 0) {
+    const ssize_t n = read(0, @_in + kept, @_IN - kept);
+    if (n == 0) {
         s->ended = true;
-    } else if (errno != EINTR) {
+    } else if (n < 0 && errno != EINTR) {
         fputs("stream: cannot be read\n", stderr);
         exit(3);
     }
+    size_t size = kept + (size_t)((n > 0) ? n : 0);
+    s->at = @_in;
+    s->end = @_in + size;
+    while (size > kept && @_in[size - 1] != '\n') {
+        size--;
+    }
+    s->whole = @_in + ((size > kept) ? size : 0);
 }
 
-/* Where the next line ends, or NULL where there is none. What is written so far is out before more is read. */
-static unsigned char *@_line_end(struct @_source *s)
+/* Whether there is a line of this number, behind which a line feed stands then. What is written so far is out before more is read. */
+static bool @_find_line(struct @_source *s, unsigned long line)
 {
-    for (;;) {
-        unsigned char *const end = (unsigned char *)memchr(s->at, '\n', (size_t)(s->end - s->at));
-        if (end != NULL || s->end - s->at > @_LINE) {
-            return (end != NULL) ? end : s->end;
+    while (s->at == s->whole) {
+        if (s->at < s->end && line > @_SAMPLES) {
+            @_fail(line, "too many samples");
+        }
+        if (s->end - s->at > @_LINE) {
+            @_fail(line, "too long");
+        }
+        if (s->ended && s->at == s->end) {
+            return false;
         }
         if (s->ended) {
-            *s->end = '\n';
-            return (s->at < s->end) ? s->end : NULL;
+            *s->end++ = '\n';
+            s->whole = s->end;
+        } else {
+            @_flush();
+            @_read_more(s);
         }
-        @_flush();
-        @_read_more(s);
     }
+    if (line > @_SAMPLES) {
+        @_fail(line, "too many samples");
+    }
+    return true;
 }
 
 int main(void)
@@ -291,17 +331,17 @@ int main(void)
     static struct @_state state;
     static @_input input;
     static @_output output;
-    struct @_source source = { @_in, @_in, false };
-    unsigned long line = 0;
+    struct @_source source = { @_in, @_in, @_in, false };
+    unsigned long line = 1;
     signal(SIGPIPE, SIG_IGN);
     @_init(&state);
-    for (unsigned char *end = @_line_end(&source); end != NULL; end = @_line_end(&source)) {
-        line++;
-        const int64_t dt = @_read_line(source.at, end, line, &input);
+    for (; @_find_line(&source, line); line++) {
+        struct @_reader r = { source.at, source.at, "" };
+        const int64_t dt = @_read_line(&r, line, &input);
         @_step(&state, dt, &input, &output);
         @_put_output(&output);
         @_put("\n", 1);
-        source.at = (end < source.end) ? end + 1 : source.end;
+        source.at = r.at + 1;
     }
     @_flush();
     return 0;

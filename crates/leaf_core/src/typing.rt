@@ -17,18 +17,23 @@ use crate::literal::Literal;
 use crate::scope::TypeScope;
 use sample_core::{Memory, Ty, TyChild, same_type};
 use std::alloc::Global;
+use thiserror::Error;
 
 /// Why an expression has no type.
-#[derive(Drop)]
+#[derive(Debug, Drop, Error)]
 pub enum ExprFault {
     /// A type is not as wanted.
+    #[error("mismatch")]
     Mismatch,
     /// There is no parameter of that number.
+    #[error("no parameter")]
     NoParam,
     /// The expression's height is over 256, or it has more than 100,000 nodes; or a type has a
     /// depth over 32, or more than 256 nodes.
+    #[error("expression too deep")]
     TooDeep,
     /// Allocation failed.
+    #[error("memory")]
     Memory,
 }
 

@@ -8,6 +8,7 @@ pub mod ReadLaws
 pub mod Grammar
 pub mod Printing
 pub mod Text
+pub mod Limits
 pub mod TextRows
 pub mod Lexeme
 pub mod Front

@@ -31,7 +31,7 @@ pub use number_reader::{MOST_INDEX, natural_named, read_index, read_natural};
 pub use print::{print_expr, push_expr, push_last_expr, push_next_expr, push_open};
 pub use text_fault::ExprTextFault;
 pub use text_laws::{
-    grammar_rows, number_laws, printing_laws, reading_laws, sugar_laws, whole_text_laws,
+    grammar_rows, limit_laws, number_laws, printing_laws, reading_laws, sugar_laws, whole_text_laws,
 };
 pub use token::{Lexeme, lexeme_at, token_at};
 pub use tree_front::{Read, TreeFront, closing_at, form_end, form_head, front_at};

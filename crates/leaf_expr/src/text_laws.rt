@@ -1,6 +1,6 @@
 // What texts of types and expressions mean, as laws of the definitions.
 
-ghost use Rattle.leaf_expr.specs.{Grammar.leaf, WordReading.NumberLaw, WordReading.NaturalLaw};
+ghost use Rattle.leaf_expr.specs.{Grammar.leaf, Limits.TextLimitsAre, WordReading.NumberLaw, WordReading.NaturalLaw};
 ghost use Rattle.leaf_expr.specs.ReadLaws.{FoundLaw, OnlyLaw, OneReadingLaw, TokenFaultLaw, OneFaultLaw};
 ghost use Rattle.leaf_expr.specs.Text.{ReadTextLaw, OneTextLaw, TextFaultLaw, PrintedLaw, PrintedTypeLaw, PrintedTextLaw};
 ghost use Rattle.leaf_expr.specs.TextRows.{TypeRows, WordRows, UnaryRows, BinaryRows, LongRows, MergeIs, GateIs, TagIs, AttachIs, FaultRows};
@@ -34,6 +34,11 @@ pub fn printing_laws()
 pub fn number_laws()
     ensures integers { NumberLaw }
     ensures naturals { NaturalLaw }
+{}
+
+/// How much a text may have of what is counted, as numbers.
+pub fn limit_laws()
+    ensures { TextLimitsAre }
 {}
 
 /// Each form of the grammar, read once.

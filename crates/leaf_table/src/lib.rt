@@ -13,12 +13,14 @@
 #![tactic(auto)]
 
 mod fault;
+mod laws;
 mod leaf;
 mod part;
 mod run;
 mod table;
 
 pub use fault::TableFault;
+pub use laws::limit_laws;
 pub use leaf::{Leaf, Run};
 pub use run::{
     run_affine, run_again, run_below, run_constant, run_general, run_identity, run_left, run_right,

@@ -12,10 +12,15 @@ use Rattle.net_syntax.specs.Placed.{bound, bound_behind, bound_in}
 use Rattle.net_meaning.specs.Typing.{members}
 use Rattle.net_meaning.proofs.NetMembers.{members-trees, member-there, member-missing}
 use Rattle.net_tree.specs.declared.net.Net.{Net}
+use Rattle.net_syntax.specs.LeafWalk.{few}
+use Rattle.std.proofs.lemmas.Bool.{le-leb, lt-leb}
 
--- by a name that an attribute can cite
-pub counted : (all : List (Net Expr)) → members (trees (members_of all)) ≡ length all
-counted = members-trees
+-- up to 64 members are few
+pub few_passed : (all : List (Net Expr)) → length all ≤ 64 → few (trees (members_of all)) ≡ Some (length all)
+few_passed all h = rw (members-trees all, le-leb (length all) 64 h) refl
+
+pub few_failed : (all : List (Net Expr)) → 64 < length all → few (trees (members_of all)) ≡ None
+few_failed all h = rw (members-trees all, lt-leb (length all) 64 h) refl
 
 pub member_found : (all : List (Net Expr)) (fs : Networks Expr) (k : ℕ) (r : Option (Bor (Net Expr))) → members_of all ≡ fs
     → IfSome r (λ x. x.now ≡ get_or all k x.now) → MatchOption r (length all ≤ k) (λ x. (k < length all) × HoldsAt (λ y. x.now ≡ y) all k)

@@ -23,13 +23,13 @@ use Rattle.net_syntax.specs.StandingWalk.{taking, under, freezing, left_of, carr
 use Rattle.net_meaning.proofs.TypingMap.{map_typed, map_all_typed}
 
 -- where there is something, the next step is taken
-onward : {X Y : Type 0} {o : Option X} {x : X} {r : Option Y} (k : X → Option Y) → o ≡ Some x → k x ≡ r → (o >>= k) ≡ r
+pub onward : {X Y : Type 0} {o : Option X} {x : X} {r : Option Y} (k : X → Option Y) → o ≡ Some x → k x ≡ r → (o >>= k) ≡ r
 onward k is js = ap (λ o. o >>= k) is ∙ js
 
 leaf_found : (S : Standing) (A : TypeTree) (e : Expression) (B : TypeTree) → ExpressionTypedWithin e S.params A B → leaf_type S A e ≡ Some B
 leaf_found S A e B h = ap result_ok ((type_answer-exact S.params A e B).1 h)
 
-old_found : (Os : List Arrow) (k : ℕ) (A B : TypeTree) → OldAt Os k (arrow A B) → old_output Os k ≡ Some B
+pub old_found : (Os : List Arrow) (k : ℕ) (A B : TypeTree) → OldAt Os k (arrow A B) → old_output Os k ≡ Some B
 old_found Os k A B old_here = refl
 old_found Os k A B (old_after o) = old_found _ _ A B o
 

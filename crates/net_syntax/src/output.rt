@@ -7,11 +7,12 @@ ghost use Rattle.leaf_core.specs.ExpressionView.{expression_of};
 ghost use Rattle.net_syntax.specs.{ArrowView.arrow_of, FoundType.Finds};
 ghost use Rattle.net_tree.specs.Network.{first as first_of, loop_pre};
 ghost use Rattle.net_tree.specs.NetworkView.{tree, tree_of, trees};
-ghost use Rattle.net_syntax.specs.StandingWalk.{carried_of, collection_output, first_output, leaf_type, left_of, old_output, output_in, right_carried_of, right_listed_of, routed, standing_of, taking};
+ghost use Rattle.net_syntax.specs.StandingWalk.{carried_of, collection_output, first_output, leaf_type, left_of, old_output, output_in, right_carried_of, right_listed_of, routed, standing_of, taking, type_in};
 ghost use Rattle.net_syntax.specs.declared.output.Untyped.TheVariants as U;
 
 use crate::arrow::Arrow;
 use crate::part_types::{event_with, list_of, pair_of, pair_under};
+use crate::scope::ScopeTypes;
 use crate::standing::Standing;
 use leaf_core::{Expr, ExprFault, type_of_expr};
 use net_tree::{Members, Net, NetChild};
@@ -46,7 +47,7 @@ pub(crate) fn output_in(
         (output_in (taking (standing_of at.now) (type_of input.now)) (tree_of net.now)) }
 {
     match net {
-        Net::Arr(e) => leaf_type(alloc, at, input, e),
+        Net::Arr(e) => leaf_type(alloc, &at.scope, input, e),
         Net::Seq(f, g) => {
             let between = output_in(alloc, at, input, f.get())?;
             let output = output_in(alloc, at, &between, g.get());
@@ -62,7 +63,7 @@ pub(crate) fn output_in(
         Net::IPre(_) | Net::Delay(..) => Ok(input.try_copy(alloc)?),
         Net::Hold(_) => carried_in(alloc, input),
         Net::AccumBy(_, c) | Net::After(_, c) | Net::Repeatedly(_, c) => {
-            let value = leaf_type(alloc, at, &Ty::Unit, c)?;
+            let value = leaf_type(alloc, &at.scope, &Ty::Unit, c)?;
             Ok(event_with(alloc, value)?)
         }
         Net::Time | Net::Integral => Ok(Ty::Int),
@@ -121,7 +122,7 @@ fn output_fed_back(
         (output_in (taking (standing_of at.now) (type_of input.now))
         (loop_pre (expression_of c.now) (tree f.now))) }
 {
-    let start = leaf_type(alloc, at, &Ty::Unit, c)?;
+    let start = leaf_type(alloc, &at.scope, &Ty::Unit, c)?;
     let both = pair_under(alloc, input, start)?;
     let output = output_in(alloc, at, &both, f.get());
     drop(both);
@@ -194,17 +195,22 @@ pub(crate) fn route_type(alloc: Global, at: &Standing, input: &Ty, r: &Expr) -> 
         (expression_of r.now)) }
 {
     let numbered = pair_under(alloc, input, Ty::Int)?;
-    let given = leaf_type(alloc, at, &numbered, r);
+    let given = leaf_type(alloc, &at.scope, &numbered, r);
     drop(numbered);
     given
 }
 
 /// The type of an expression that is a child of a network.
-pub(crate) fn leaf_type(alloc: Global, at: &Standing, input: &Ty, e: &Expr) -> Result<Ty, Untyped>
+pub(crate) fn leaf_type(
+    alloc: Global,
+    scope: &ScopeTypes,
+    input: &Ty,
+    e: &Expr,
+) -> Result<Ty, Untyped>
     ensures { Finds type_of result
-        (leaf_type (standing_of at.now) (type_of input.now) (expression_of e.now)) }
+        (type_in scope.now (type_of input.now) (expression_of e.now)) }
 {
-    match type_of_expr(alloc, at.scope.params(), input, e) {
+    match type_of_expr(alloc, scope.params(), input, e) {
         Ok(found) => Ok(found),
         Err(ExprFault::Memory) => Err(Untyped::Memory),
         Err(_) => Err(Untyped::NoType),
@@ -264,7 +270,7 @@ pub(crate) fn right_listed_in(alloc: Global, ty: &Ty) -> Result<Ty, Untyped>
 
 /// The output type of frozen network k.
 #[tactic(auto, using(std::proofs::lemmas::Grind::common_steps, crate::proofs::FoundOutputs::old_there, crate::proofs::FoundOutputs::old_missing))]
-fn old_output(alloc: Global, olds: &[Arrow], k: u32) -> Result<Ty, Untyped>
+pub(crate) fn old_output(alloc: Global, olds: &[Arrow], k: u32) -> Result<Ty, Untyped>
     ensures { Finds type_of result (old_output (map arrow_of olds.now) k) }
 {
     match olds.get(k as usize) {

@@ -4,9 +4,8 @@ ghost use Rattle.std.specs.Prelude.{◌≡◌, option_map};
 ghost use Rattle.leaf_core.specs.ExpressionView.{expression_of};
 ghost use Rattle.net_tree.specs.NetworkView.{tree, tree_of, trees};
 ghost use Rattle.net_tree.specs.Place.{a_network, child, child_network, collection_child, member, p_switch_child};
-ghost use Rattle.net_tree.specs.FormParts.{parts_of};
 ghost use Rattle.net_tree.specs.LawStep.{seen};
-ghost use Rattle.net_syntax.specs.{BehindRoute.behind_of, ChildParts.child_count, ChildParts.seen_place, Placed.bound, Placed.bound_in, Placed.placed_at, Placed.FewBound};
+ghost use Rattle.net_syntax.specs.{BehindRoute.behind_of, ChildParts.seen_place, Placed.bound, Placed.bound_in, Placed.placed_at, Placed.FewBound};
 
 use leaf_core::{Expr, part_at};
 use net_tree::{Members, Net, NetChild, Parts, Position, TreeRef, parts_inside};
@@ -112,22 +111,6 @@ pub fn child(net: &Net<Expr>, k: u32) -> Option<TreeRef<'_>>
         },
         Parts::Collection(fs, m, t) => in_collection(fs, m, t, k),
         Parts::Nothing | Parts::Index(_) => None,
-    }
-}
-
-/// How many children the network has.
-#[tactic(auto, using(std::proofs::lemmas::Grind::common_steps, crate::proofs::ChildNumbers::counted))]
-pub(crate) fn child_count(net: &Net<Expr>) -> usize
-    ensures { result ≡ child_count (parts_of (tree_of net.now)) }
-{
-    match parts_inside(net) {
-        Parts::Leaf(_) | Parts::Timed(..) | Parts::One(_) => 1,
-        Parts::Leaves(..) | Parts::Fed(..) | Parts::Two(..) => 2,
-        Parts::Three(..) => 3,
-        Parts::Many(fs) => fs.as_slice().len(),
-        Parts::Routed(_, fs, _, _) => fs.as_slice().len() + 3,
-        Parts::Collection(fs, _, _) => fs.as_slice().len() + 2,
-        Parts::Nothing | Parts::Index(_) => 0,
     }
 }
 

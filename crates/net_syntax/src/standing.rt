@@ -173,7 +173,7 @@ fn child_input(alloc: Global, at: &Standing, net: &Net<Expr>, k: u32) -> Result<
 fn fed_input(alloc: Global, at: &Standing, c: &Expr) -> Result<Ty, Untyped>
     ensures { Finds type_of result (fed_input (standing_of at.now) (expression_of c.now)) }
 {
-    let start = leaf_type(alloc, at, &Ty::Unit, c)?;
+    let start = leaf_type(alloc, &at.scope, &Ty::Unit, c)?;
     Ok(pair_under(alloc, &at.input, start)?)
 }
 
@@ -184,7 +184,7 @@ fn step_input(alloc: Global, at: &Standing, z: &Expr) -> Result<Ty, Untyped>
     let Ty::Event(value) = &at.input else {
         return Err(Untyped::NoType);
     };
-    let start = leaf_type(alloc, at, &Ty::Unit, z)?;
+    let start = leaf_type(alloc, &at.scope, &Ty::Unit, z)?;
     Ok(pair_of(alloc, start, value.get())?)
 }
 
@@ -298,7 +298,7 @@ fn started_type(alloc: Global, at: &Standing, m: &Expr) -> Result<Ty, Untyped>
     ensures { Finds type_of result (started_type (standing_of at.now) (expression_of m.now)) }
 {
     let event = right_carried_in(alloc, &at.input)?;
-    let chosen = leaf_type(alloc, at, &event, m);
+    let chosen = leaf_type(alloc, &at.scope, &event, m);
     drop(event);
     let chosen = chosen?;
     let started = right_listed_in(alloc, &chosen);

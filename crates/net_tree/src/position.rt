@@ -11,6 +11,7 @@ ghost use Rattle.net_tree.specs.Position.{position_spelling};
 use itoa::Buffer;
 use sample_core::Memory;
 use std::alloc::Global;
+use std::fmt;
 use std::marker::Model;
 
 /// Where a part of a network stands: the child numbers, from 0, that lead to it from the root.
@@ -66,6 +67,16 @@ impl Position {
         ensures { result.now ≡ self.now }
     {
         &self.path
+    }
+}
+
+impl fmt::Display for Position {
+    fn fmt<W: fmt::Write>(&self, f: &mut fmt::Formatter<W>) -> fmt::Result {
+        f.write_str("(at")?;
+        for child in self.path() {
+            write!(f, " {child}")?;
+        }
+        f.write_str(")")
     }
 }
 

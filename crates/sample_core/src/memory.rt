@@ -1,9 +1,11 @@
 // `Memory`, the one refusal that every call which allocates has.
 
 use std::alloc::{AllocError, AllocFailed};
+use thiserror::Error;
 
 /// `Memory`: allocation failed, or a count of references is full.
-#[derive(Clone, Copy, PartialEq, Eq, Debug)]
+#[derive(Clone, Copy, PartialEq, Eq, Debug, Error)]
+#[error("memory")]
 pub struct Memory;
 
 impl From<AllocError> for Memory {

@@ -2,7 +2,7 @@
 
 ghost use Rattle.std.specs.Prelude.{◌≡◌, IfOk, IfErr, OnOk, map};
 ghost use Rattle.leaf_table.specs.Rows.{rows_of};
-ghost use Rattle.net_syntax.specs.NeedView.{need_of};
+ghost use Rattle.net_syntax.specs.{NeedView.need_of, Leaves.LeavesOf};
 ghost use Rattle.state_core.specs.RowsView.{row_number};
 ghost use Rattle.step_core.specs.{Binding.FitsTable, RowTyping.network_by};
 ghost use Rattle.step_core.specs.Lookup.{AddsRows, FindsAll, Misses, MissesIn, Names};
@@ -26,8 +26,27 @@ pub fn bind(alloc: Global, net: &TypedNet, table: &LeafTable) -> Result<Bound, B
     ensures missing { IfErr result (λ fault. MissesIn (rows_of table.now) net.now fault) }
 {
     let needs = leaves(alloc, net)?;
+    let bound = bind_needs(alloc, net, &needs, table);
+    drop(needs);
+    bound
+}
+
+/// What `bind` answers, where the network's `leaves` are known: these needs.
+pub fn bind_needs(
+    alloc: Global,
+    net: &TypedNet,
+    needs: &[LeafNeed],
+    table: &LeafTable,
+) -> Result<Bound, BindFault>
+    requires { LeavesOf net.now (map need_of needs.now) }
+    ensures input { IfOk result (λ b. b.input ≡ net.now.input) }
+    ensures network { IfOk result (λ b. network_by (rows_of table.now) b.rows ≡ net.now.net) }
+    ensures fits { IfOk result (λ b. FitsTable (rows_of table.now) b) }
+    ensures found { OnOk result (FindsAll (rows_of table.now) net.now) }
+    ensures missing { IfErr result (λ fault. MissesIn (rows_of table.now) net.now fault) }
+{
     let mut rows = Vec::new(alloc);
-    add_rows(alloc, table, &needs, &mut rows)?;
+    add_rows(alloc, table, needs, &mut rows)?;
     let input = net.input().try_copy(alloc)?;
     let (lowered, _) = lower(alloc, net.net(), &rows)?;
     Ok(Bound {

@@ -29,7 +29,7 @@ mod rows;
 mod run;
 mod runner;
 
-pub use binding::bind;
+pub use binding::{bind, bind_needs};
 pub use bound::Bound;
 pub use fault::BindFault;
 pub use laws::{binding_laws, scope_laws, visit_examples, visit_laws};

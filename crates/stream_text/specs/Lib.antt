@@ -17,3 +17,5 @@ pub mod LineLaws
 pub mod LineAhead
 pub mod LineFaults
 pub mod WrittenStreams
+pub mod Limits
+pub mod HeldView

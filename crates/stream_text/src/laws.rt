@@ -3,9 +3,15 @@
 ghost use Rattle.stream_text.specs.Hearing.{BeginLaw, MoreLaw, EndLaw, FaultyLaw, UnreadLaw, TurnsLaw};
 ghost use Rattle.stream_text.specs.LineFaults.{LineFaultLaw};
 ghost use Rattle.stream_text.specs.LineLaws.{LineLaw, StepLaw, WholeValueLaw};
+ghost use Rattle.stream_text.specs.Limits.{StreamLimitsAre};
 ghost use Rattle.stream_text.specs.WrittenStreams.{WrittenLaw};
 
 use sample_core::reading_laws;
+
+/// How much is read of what is counted, as numbers.
+pub fn limit_laws()
+    ensures { StreamLimitsAre }
+{}
 
 /// Successive calls answer the samples of the text in order; where one answers that there is none
 /// more, these are all, and where one answers a line's fault, these are those before it. Where one

@@ -9,11 +9,13 @@
 //! as what was read settles it. `Read` comes only where the reader's failures rose.
 //!
 //! First `specs/StreamText`, which says what a line holds, then `src/reader.rt`; faults are
-//! `src/fault.rt` and `specs/LineFaults`, devices `src/device.rt`.
+//! `src/fault.rt` and `specs/LineFaults`, devices `src/device.rt`, output that is held back
+//! `src/held.rt`.
 #![tactic(auto)]
 
 mod device;
 mod fault;
+mod held;
 mod kept;
 mod laws;
 mod line;
@@ -23,6 +25,7 @@ mod step_text;
 
 pub use device::{Counted, Device, has_failed};
 pub use fault::StreamFault;
-pub use laws::stream_laws;
+pub use held::{Asking, Held, Printer, ROOM, is_given};
+pub use laws::{limit_laws, stream_laws};
 pub use line::{MOST_BYTES, MOST_SAMPLES};
 pub use reader::{LineReader, LineState};

@@ -3,5 +3,5 @@ use Rattle.net_code.specs.Running.{AllBelow}
 use Rattle.code_fits.proofs.fitting.all_below.Given as goal
 
 -- where those to come are, all are
-abbrev pub invariant-loop-old : goal.invariant-loop-old
-invariant-loop-old l = AllBelow l.k (drop l.old-index l.olds) → AllBelow l.k l.olds
+abbrev pub invariant-loop-number : goal.invariant-loop-number
+invariant-loop-number l = AllBelow l.k (drop l.number-index l.numbers) → AllBelow l.k l.numbers
