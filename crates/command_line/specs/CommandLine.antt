@@ -74,7 +74,6 @@ abbrev pub command_taking : Takes → List ℕ → App
 command_taking T.Network name = file_command name
 command_taking T.Wanted name = wanted_command name
 command_taking T.Place name = placed_command name
-command_taking T.Pair name = pair_command name
 command_taking T.Derivation name = derivation_command name
 command_taking T.Steps name = leading_command name
 command_taking T.Printing name = with_printing (file_command name)
@@ -91,17 +90,14 @@ abbrev pub and_command : App → Takes → List ℕ → App
 and_command above takes name = with_subcommand above (command_taking takes name).top
 
 -- a command line with the subcommands that rewrite networks, or show how they may be rewritten:
--- `outline NET`, `laws NET [--at P]`, `apply SRC CERT [--first N] [--steps]`, `optimise NET` and
--- `improve NET`, which take the flag `--certificate` too, and `certify SRC TGT`
+-- `outline NET`, `laws NET [--at P]`, `apply SRC CERT [--first N] [--steps]`, and `optimise NET`, which
+-- takes the flag `--certificate` too
 abbrev pub and_rewriting : App → App
 and_rewriting above =
     and_command
     (and_command
-    (and_command
-    (and_command
     (and_command (and_command above T.Network (codes "outline")) T.Place (codes "laws")) T.Steps
-    (codes "apply")) T.Wanted (codes "optimise")) T.Wanted (codes "improve")) T.Pair
-    (codes "certify")
+    (codes "apply")) T.Wanted (codes "optimise")
 
 -- a command line with the subcommands that print C: `compile NET` and
 -- `compile-checked SRC TGT CERT`
@@ -149,21 +145,18 @@ pub record PrintingWords : Type 0 where
 
 -- what a command line asks for: the types of the network in the file of that name, or a run of it;
 -- what stands where in it; the steps that may be taken in it, at the place of a word and below;
--- the network that the optimiser makes of it, or the certificate that leads there, and the same of
--- the stronger one; whether a certificate leads from its source to its target, or that and a run of
--- the target; where steps lead; a certificate from a source to a target; or the network as C, or the
--- target of a certificate
+-- the network that the optimiser makes of it, or the certificate that leads there; whether a
+-- certificate leads from its source to its target, or that and a run of the target; where steps lead;
+-- or the network as C, or the target of a certificate
 pub data RequestTree : Type 0 where
   types : List ℕ → RequestTree
   run : List ℕ → RequestTree
   outline : List ℕ → RequestTree
   laws : Option (List ℕ) → List ℕ → RequestTree
   optimise : Wanted → List ℕ → RequestTree
-  improve : Wanted → List ℕ → RequestTree
   check : DerivationNames → RequestTree
   run_checked : DerivationNames → RequestTree
   apply : LeadingNames → RequestTree
-  certify : List ℕ → List ℕ → RequestTree
   compile : PrintingWords → List ℕ → RequestTree
   compile_checked : PrintingWords → DerivationNames → RequestTree
 
@@ -180,7 +173,7 @@ derivation_in rows = option_and_then (λ source.
 abbrev pub is_given : List ℕ → List Row → Bool
 is_given id rows = option_map_or (λ value. bytes_eq value (codes "true")) (first_of id rows) false
 
--- what is wanted of an optimiser: the certificate where the flag for it is given, else the network
+-- what is wanted of the optimiser: the certificate where the flag for it is given, else the network
 abbrev pub wanted_in : List Row → Wanted
 wanted_in rows = if is_given (codes "certificate") rows then W.Certificate else W.Network
 
@@ -200,12 +193,6 @@ apply_in rows = option_and_then (λ source. option_map (λ certificate. apply (r
   first = first_of (codes "N") rows;
   shows = is_given (codes "steps") rows;
 })) (first_of (codes "CERT") rows)) (first_of (codes "SRC") rows)
-
--- what the subcommand `certify` asks for, by its matches
-abbrev pub certify_in : List Row → Option RequestTree
-certify_in rows =
-    option_and_then (λ source. option_map (certify source) (first_of (codes "TGT") rows))
-    (first_of (codes "SRC") rows)
 
 -- how C is printed, by a subcommand's matches
 abbrev pub printing_in : List Row → PrintingWords
@@ -236,11 +223,9 @@ request_on command rows =
     else (if bytes_eq command (codes "laws") then laws_in rows
     else (if bytes_eq command (codes "apply") then apply_in rows
     else (if bytes_eq command (codes "optimise") then wanted_by optimise rows
-    else (if bytes_eq command (codes "improve") then wanted_by improve rows
-    else (if bytes_eq command (codes "certify") then certify_in rows
     else (if bytes_eq command (codes "compile") then compile_in rows
     else (if bytes_eq command (codes "compile-checked") then compile_checked_in rows
-    else None)))))))))))
+    else None)))))))))
 
 -- what the subcommand and its matches ask for
 abbrev pub request_by : Option (List ℕ × List Row) → Option RequestTree
@@ -301,11 +286,9 @@ request_view (Q.Run net) = run net.now
 request_view (Q.Outline net) = outline net.now
 request_view (Q.Laws net at) = laws (option_map (λ s. s.now) at) net.now
 request_view (Q.Optimise net wanted) = optimise wanted net.now
-request_view (Q.Improve net wanted) = improve wanted net.now
 request_view (Q.Check d) = check (derivation_view d)
 request_view (Q.RunChecked d) = run_checked (derivation_view d)
 request_view (Q.Apply l) = apply (leading_view l)
-request_view (Q.Certify source target) = certify source.now target.now
 request_view (Q.Compile net printing) = compile (printing_view printing) net.now
 request_view (Q.CompileChecked names printing) =
     compile_checked (printing_view printing) (derivation_view names)

@@ -1,6 +1,6 @@
 -- Command lines, word for word, and what they ask for.
 use Rattle.std.specs.Prelude.{◌≡◌, [], ◌∷◌, Some, None, true, false, codes}
-use Rattle.command_line.specs.CommandLine.{AsksHelp, AsksNothing, DerivationNames, PrintingWords, apply, certify, check, compile, compile_checked, improve, laws, optimise, outline, request_in, run, run_checked, types}
+use Rattle.command_line.specs.CommandLine.{AsksHelp, AsksNothing, DerivationNames, PrintingWords, apply, check, compile, compile_checked, laws, optimise, outline, request_in, run, run_checked, types}
 use Rattle.command_line.specs.declared.command.Wanted.TheVariants as W
 
 -- what is asked for
@@ -11,7 +11,7 @@ RequestRows =
     × (request_in (codes "yampa" ∷ codes "run" ∷ codes "--" ∷ codes "-net" ∷ [])
     ≡ Some (run (codes "-net")))
 
--- what is asked of the optimisers: the flag stands behind the file's name or before it
+-- what is asked of the optimiser: the flag stands behind the file's name or before it
 abbrev pub OptimiseRows : Type 0
 OptimiseRows =
     (request_in (codes "yampa" ∷ codes "optimise" ∷ codes "net" ∷ [])
@@ -22,9 +22,6 @@ OptimiseRows =
     × (request_in
     (codes "yampa" ∷ codes "optimise" ∷ codes "--certificate" ∷ codes "net" ∷ [])
     ≡ Some (optimise W.Certificate (codes "net")))
-    × (request_in
-    (codes "yampa" ∷ codes "improve" ∷ codes "net" ∷ codes "--certificate" ∷ [])
-    ≡ Some (improve W.Certificate (codes "net")))
 
 -- the three files of one derivation
 abbrev pub three_files : DerivationNames
@@ -50,7 +47,7 @@ PlaceRows =
     (codes "yampa" ∷ codes "laws" ∷ codes "net" ∷ codes "--at" ∷ codes "(at 1 0)" ∷ [])
     ≡ Some (laws (Some (codes "(at 1 0)")) (codes "net")))
 
--- where steps lead, and which lead from one network to another: the source stands first
+-- where steps lead: the source stands first
 abbrev pub StepsRows : Type 0
 StepsRows = (request_in (codes "yampa" ∷ codes "apply" ∷ codes "a" ∷ codes "c" ∷ [])
     ≡ Some (apply (record {
@@ -67,8 +64,6 @@ StepsRows = (request_in (codes "yampa" ∷ codes "apply" ∷ codes "a" ∷ codes
       first = Some (codes "3");
       shows = true;
     })))
-    × (request_in (codes "yampa" ∷ codes "certify" ∷ codes "a" ∷ codes "b" ∷ [])
-    ≡ Some (certify (codes "a") (codes "b")))
 
 -- words on C: none, and all
 abbrev pub no_words : PrintingWords
@@ -111,8 +106,8 @@ NothingRows = AsksNothing (codes "yampa" ∷ []) × AsksNothing (codes "yampa" �
     × AsksNothing
     (codes "yampa" ∷ codes "run-checked" ∷ codes "a" ∷ codes "b" ∷ codes "c" ∷ codes "d" ∷ [])
 
--- what asks for nothing of the optimisers: no file, two, the flag alone, twice or with a value, and
--- a flag that isn't there
+-- what asks for nothing of the optimiser: no file, two, the flag alone, twice or with a value, a flag
+-- that isn't there, and a search beside the program
 abbrev pub NoOptimiseRows : Type 0
 NoOptimiseRows = AsksNothing (codes "yampa" ∷ codes "optimise" ∷ [])
     × AsksNothing (codes "yampa" ∷ codes "optimise" ∷ codes "net" ∷ codes "net" ∷ [])
@@ -124,7 +119,7 @@ NoOptimiseRows = AsksNothing (codes "yampa" ∷ codes "optimise" ∷ [])
     (codes "yampa" ∷ codes "optimise" ∷ codes "net" ∷ codes "--certificate=true" ∷ [])
     × AsksNothing (codes "yampa" ∷ codes "optimise" ∷ codes "net" ∷ codes "--fast" ∷ [])
     × AsksNothing (codes "yampa" ∷ codes "run" ∷ codes "net" ∷ codes "--certificate" ∷ [])
-    × AsksNothing (codes "yampa" ∷ codes "improve" ∷ codes "--certificate" ∷ [])
+    × AsksNothing (codes "yampa" ∷ codes "improve" ∷ codes "net" ∷ [])
 
 -- what asks for nothing of the commands on places and steps: no file, one too few, an option without
 -- its value or given twice
@@ -135,7 +130,7 @@ NoStepsRows = AsksNothing (codes "yampa" ∷ codes "outline" ∷ [])
     × AsksNothing
     (codes "yampa" ∷ codes "apply" ∷ codes "a" ∷ codes "c" ∷ codes "--first" ∷ codes "1"
     ∷ codes "--first" ∷ codes "2" ∷ [])
-    × AsksNothing (codes "yampa" ∷ codes "certify" ∷ codes "a" ∷ [])
+    × AsksNothing (codes "yampa" ∷ codes "certify" ∷ codes "a" ∷ codes "b" ∷ [])
 
 -- what asks for nothing of the commands that print C: no file, a file too few, an option without its
 -- value or given twice, and an option of C elsewhere

@@ -1,10 +1,10 @@
 // The command line.
 
-ghost use Rattle.std.specs.Prelude.{◌≡◌, IfOk, codes, map, option_map, false};
+ghost use Rattle.std.specs.Prelude.{◌≡◌, ℕ, List, Err, IfOk, codes, map, option_map, false};
 ghost use Rattle.clap.specs.Words.{app_of, first_of, found_of, kind_of, rows_of, rule_of, subcommand_rows_of, with_rule};
 ghost use Rattle.clap.specs.declared.builder.command.Command.TheViews.{out-Command};
 ghost use Rattle.command_line.specs.CommandRows.{RequestRows, OptimiseRows, DerivationRows, PlaceRows, StepsRows, CompileRows, HelpRows, VersionRows, NothingRows, NoOptimiseRows, NoStepsRows, NoCompileRows};
-ghost use Rattle.command_line.specs.CommandLine.{IsNothing, ReadsWords, RepliesTo, and_command, and_compiling, and_rewriting, and_running, apply_in, certify_in, command_line, command_taking, compile_checked_in, compile_in, derivation_in, derivation_view, file_name, flag, is_given, printing_in, printing_view, laws_in, request_by, request_on, request_view, valued, wanted_by, wanted_in, with_printing, types, run, outline, optimise, improve, check, run_checked};
+ghost use Rattle.command_line.specs.CommandLine.{IsNothing, ReadsWords, RepliesTo, and_command, and_compiling, and_rewriting, and_running, apply_in, command_line, command_taking, compile_checked_in, compile_in, derivation_in, derivation_view, file_name, flag, is_given, printing_in, printing_view, laws_in, request_by, request_on, request_view, valued, wanted_by, wanted_in, with_printing, types, run, outline, optimise, check, run_checked};
 
 use crate::help::{self, HelpText};
 use clap::error::{Error, ErrorKind};
@@ -35,7 +35,7 @@ pub struct Leading<'a> {
     pub shows: bool,
 }
 
-/// What is wanted of an optimiser.
+/// What is wanted of the optimiser.
 #[derive(Clone, Copy)]
 pub enum Wanted {
     /// The network that it finds.
@@ -84,22 +84,12 @@ pub enum Request<'a> {
         net: &'a str,
         wanted: Wanted,
     },
-    /// What the stronger optimiser makes of it.
-    Improve {
-        net: &'a str,
-        wanted: Wanted,
-    },
     /// Whether a certificate leads from its source to its target.
     Check(Derivation<'a>),
     /// A check, and then a run of the target.
     RunChecked(Derivation<'a>),
     /// Where steps lead.
     Apply(Leading<'a>),
-    /// A certificate from a source to a target.
-    Certify {
-        source: &'a str,
-        target: &'a str,
-    },
     /// The network in a file as C.
     Compile {
         net: &'a str,
@@ -121,8 +111,6 @@ enum Takes {
     Wanted,
     /// A network file, and a place in it.
     Place,
-    /// The files of a source and a target.
-    Pair,
     /// The files of a derivation.
     Derivation,
     /// The files of a source and a certificate, how many steps, and a flag for the steps.
@@ -227,7 +215,6 @@ fn command_taking<'a>(
         Takes::Place => {
             and_file(alloc, command, "NET", help::NET)?.arg(valued(alloc, "P", "at", help::AT))
         }
-        Takes::Pair => and_pair(alloc, command),
         Takes::Derivation => and_derivation(alloc, command),
         Takes::Steps => and_steps(alloc, command),
         Takes::Printing => with_printing(alloc, and_file(alloc, command, "NET", help::NET)?),
@@ -342,9 +329,7 @@ fn and_rewriting<'a>(alloc: Global, command: Command<'a>) -> Result<Command<'a>,
     let command = and_command(alloc, command, Takes::Network, "outline", help::OUTLINE)?;
     let command = and_command(alloc, command, Takes::Place, "laws", help::LAWS)?;
     let command = and_command(alloc, command, Takes::Steps, "apply", help::APPLY)?;
-    let command = and_command(alloc, command, Takes::Wanted, "optimise", help::OPTIMISE)?;
-    let command = and_command(alloc, command, Takes::Wanted, "improve", help::IMPROVE)?;
-    and_command(alloc, command, Takes::Pair, "certify", help::CERTIFY)
+    and_command(alloc, command, Takes::Wanted, "optimise", help::OPTIMISE)
 }
 
 /// The command with the subcommands that print C.
@@ -382,8 +367,6 @@ fn request_named<'a>(name: &str, matches: &ArgMatches<'a>) -> Option<Request<'a>
         "laws" => laws_of(matches),
         "apply" => apply_of(matches),
         "optimise" => optimise_of(matches),
-        "improve" => improve_of(matches),
-        "certify" => certify_of(matches),
         "compile" => compile_of(matches),
         "compile-checked" => compile_checked_of(matches),
         _ => None,
@@ -435,14 +418,6 @@ fn apply_of<'a>(matches: &ArgMatches<'a>) -> Option<Request<'a>>
     }))
 }
 
-fn certify_of<'a>(matches: &ArgMatches<'a>) -> Option<Request<'a>>
-    ensures { option_map request_view result ≡ certify_in (rows_of (found_of matches.now)) }
-{
-    let source = value_of(matches, "SRC")?;
-    let target = value_of(matches, "TGT")?;
-    Some(Request::Certify { source, target })
-}
-
 fn optimise_of<'a>(matches: &ArgMatches<'a>) -> Option<Request<'a>>
     ensures { option_map request_view result ≡ wanted_by optimise (rows_of (found_of matches.now)) }
 {
@@ -451,15 +426,7 @@ fn optimise_of<'a>(matches: &ArgMatches<'a>) -> Option<Request<'a>>
     Some(Request::Optimise { net, wanted })
 }
 
-fn improve_of<'a>(matches: &ArgMatches<'a>) -> Option<Request<'a>>
-    ensures { option_map request_view result ≡ wanted_by improve (rows_of (found_of matches.now)) }
-{
-    let net = value_of(matches, "NET")?;
-    let wanted = wanted_of(matches);
-    Some(Request::Improve { net, wanted })
-}
-
-/// What is wanted of an optimiser: the certificate where the flag for it is given.
+/// What is wanted of the optimiser: the certificate where the flag for it is given.
 fn wanted_of(matches: &ArgMatches<'_>) -> Wanted
     ensures { result ≡ wanted_in (rows_of (found_of matches.now)) }
 {
@@ -583,8 +550,32 @@ pub fn parse<'a>(alloc: Global, words: &'a [&'a str]) -> Result<Request<'a>, Rep
         Err(error) => {
             let reply = reply_to(alloc, &error);
             drop(error);
-            Err(reply)
+            Err(or_beside(alloc, words, reply))
         }
+    }
+}
+
+/// The reply to words that are refused; where they call a search, which stands beside the program, that
+/// is what is wrong with them.
+fn or_beside(alloc: Global, words: &[&str], reply: Reply) -> Reply
+    ensures { (asked : List (List ℕ)) → ReadsWords asked (Err reply) → ReadsWords asked (Err result) }
+{
+    match (&reply, words.get(1)) {
+        (Reply::Wrong(_), Some(&("improve" | "certify"))) => {
+            drop(reply);
+            searches_beside(alloc)
+        }
+        _ => reply,
+    }
+}
+
+/// What is answered to words that call a search.
+fn searches_beside(alloc: Global) -> Reply
+    ensures { IsNothing result }
+{
+    match String::from_str(alloc, help::BESIDE) {
+        Ok(line) => Reply::Wrong(line),
+        Err(_) => Reply::Memory,
     }
 }
 

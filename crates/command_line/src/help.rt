@@ -26,11 +26,11 @@ A network is a text file: the type of its input, and a signal function, which ma
 timed stream to an output. `yampa types NET` prints its types, `yampa run NET < STREAM` runs it.
 `yampa check SRC TGT CERT` checks a certificate, a list of rewrite steps from one network to another:
 if it is accepted, both output the same on every stream. `yampa optimise NET` rewrites a network by
-itself and can print the certificate too; `yampa improve NET` does the same by more laws, and makes
-more networks faster. `yampa certify SRC TGT` looks for the steps between two networks. To write
-steps by hand, `yampa outline NET` prints the position of each part, `yampa laws NET` the steps that
-are possible, and `yampa apply SRC CERT` the network that steps lead to. `yampa compile NET` prints it
-as C. Only `run` and `run-checked` read a stream.
+itself and can print the certificate too. To write steps by hand, `yampa outline NET` prints the
+position of each part, `yampa laws NET` the steps that are possible, and `yampa apply SRC CERT` the
+network that steps lead to. `yampa compile NET` prints it as C. Only `run` and `run-checked` read a
+stream. `improve`, which finds more steps, and `certify`, which finds those between two networks, are
+commands of `./yampa`: a search beside this program finds them, and this program accepts them.
 The pages are in the folder `docs` of the repository: LANGUAGE.md teaches the language, LAWS.md the
 laws, C.md what `compile` prints, and TOOLS.md the tools that `./yampa` adds to these commands. A small
 file NET, which outputs 0, and then each number plus one, one sample late:
@@ -41,11 +41,14 @@ file NET, which outputs 0, and then each number plus one, one sample late:
 
 Exit status:
   0  success, or help was asked for
-  1  a file, a step or the stream is rejected, no certificate is found, the network has no position
-     P, the network to run has more than 4,096 different expressions, or the C would be too large
+  1  a file, a step or the stream is rejected, the network has no position P, the network to run has more than 4,096 different expressions, or the C would be too large
   2  the command line is wrong; this includes a P that is no position and an N that is no number
   3  something can't be read or written, or there is not enough memory
 If it isn't 0, standard error says why.";
+
+/// What is told of a command that isn't the program's own.
+pub const BESIDE: &str =
+    "`improve` and `certify` are commands of `./yampa`, which asks a search beside this program";
 
 /// Help on NET.
 pub const NET: &str =
@@ -109,29 +112,6 @@ Example: if the file `net` holds `yampa 1 input Int (>>> (arr (add x 1)) (arr (m
   $ yampa optimise net --certificate
   laws 1
   (step L4 forward (at))
-
-`yampa --help` lists the exit statuses.",
-};
-
-/// Help on `improve`.
-pub const IMPROVE: HelpText<'static> = HelpText {
-    usage: "yampa improve [OPTIONS] <NET>",
-    does: "Rewrites a network by more laws than `optimise`, and prints the result",
-    more: "\
-It tries more laws than `optimise`, in both directions, and estimates the cost of a sample. It takes
-at most 10,000 steps. If it finds nothing cheaper, it prints the network as it is, and no step.
-To have network and certificate of one run, print the certificate, and let `yampa apply` make the
-network of it, as below: then `yampa check` accepts it, so both networks output the same on every
-stream. The result is meant to be faster, but that isn't promised.
-
-Example: if the file `net` holds
-`yampa 1 input (Pair Int Int) (>>> (first (arr (add x 1))) (arr (fst x)))`,
-
-  $ yampa improve --certificate net > steps
-  $ yampa apply net steps
-  yampa 1
-  input (Pair Int Int)
-  (arr (add (fst x) 1))
 
 `yampa --help` lists the exit statuses.",
 };
@@ -266,34 +246,6 @@ the file `steps` holds `laws 1 (step L4 forward (at))`,
   (step L4 forward (at))
   - (>>> (arr (add x 1)) (arr (mul x 2)))
   + (arr (then (add x 1) (mul x 2)))
-
-`yampa --help` lists the exit statuses.",
-};
-
-/// Help on `certify`.
-pub const CERTIFY: HelpText<'static> = HelpText {
-    usage: "yampa certify <SRC> <TGT>",
-    does: "Looks for a certificate that leads from one network to another",
-    more: "\
-It rewrites both networks until they are the same, in the end to a normal form. Then it prints the
-steps of SRC, and after them those of TGT undone: `yampa check` accepts them from SRC to TGT, so both
-output the same on every stream. If it finds none, both may still output the same. It prints
-
-  (at 0)                               the first position at which their normal forms differ,
-  - (mul x 2)                          what SRC's has there, and what TGT's has;
-  + (add x x)
-  too long: 10120 steps, 902115 bytes  that there are steps, but over a certificate's limits;
-  gave up: 15000000 nodes visited      or that it found no steps to a normal form, then the first
-                                       position at which SRC and TGT differ, and what they have there.
-
-Long trees are cut as by `yampa laws`.
-
-Example: if the file `source` holds `yampa 1 input Int (>>> (arr (add x 1)) (arr (mul x 2)))`,
-and the file `target` holds `yampa 1 input Int (arr (then (add x 1) (mul x 2)))`,
-
-  $ yampa certify source target > steps
-  $ printf '5\\n' | yampa run-checked source target steps
-  12
 
 `yampa --help` lists the exit statuses.",
 };

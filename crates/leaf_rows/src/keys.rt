@@ -2,8 +2,8 @@
 
 use crate::found::{Probe, all_are_found};
 use leaf_expr::{Expr, LeafKey};
-use row_texts::texts::{expr_in, number_in, parted, say};
-use sample_core::{Memory, Ty};
+use row_texts::texts::{expr_in, number_in, parted, say, say_shown};
+use sample_core::Ty;
 use std::alloc::Global;
 
 /// Says whether the copy of a key is equal to it: that of the expression at an input that is a
@@ -40,7 +40,7 @@ fn told(alloc: Global, key: &LeafKey, out: &mut String) {
             say(out, if copy == *key { "equal" } else { "another" });
             drop(copy);
         }
-        Err(Memory) => say(out, "memory"),
+        Err(memory) => say_shown(out, &memory),
     }
 }
 

@@ -4,7 +4,7 @@
 use crate::found::{Probe, all_are_found};
 use leaf_core::{Expr, ExprChild, Exprs, same_expr, type_fits};
 use leaf_expr::{ExprTextFault, push_expr, read_expr, read_expr_at, read_type_at};
-use row_texts::texts::{bytes_in, expr_in, number_in, numbered, parted, say, say_at};
+use row_texts::texts::{bytes_in, expr_in, number_in, numbered, parted, say, say_at, say_shown};
 use sample_core::{Memory, Ty, TyChild, push_type, same_type};
 use std::alloc::Global;
 
@@ -26,7 +26,7 @@ pub fn reading_told(
             expr_printed(alloc, &expr, text, out);
             drop(expr);
         }
-        Err(fault) => fault_told(fault, out),
+        Err(fault) => say_shown(out, &fault),
     }
 }
 
@@ -40,7 +40,7 @@ pub fn expr_at_told(alloc: Global, given: &str, out: &mut String) {
             drop(expr);
             say_at(out, " to", end)
         }
-        Err(fault) => fault_told(fault, out),
+        Err(fault) => say_shown(out, &fault),
     }
 }
 
@@ -54,18 +54,7 @@ pub fn type_at_told(alloc: Global, given: &str, out: &mut String) {
             drop(ty);
             say_at(out, " to", end)
         }
-        Err(fault) => fault_told(fault, out),
-    }
-}
-
-/// Says why no expression or type is read.
-fn fault_told(fault: ExprTextFault, out: &mut String) {
-    match fault {
-        ExprTextFault::Syntax { at } => say_at(out, "syntax at", at),
-        ExprTextFault::Number { at } => say_at(out, "number at", at),
-        ExprTextFault::TooDeep { at } => say_at(out, "nesting at", at),
-        ExprTextFault::TooLong => say(out, "too long"),
-        ExprTextFault::Memory => say(out, "memory"),
+        Err(fault) => say_shown(out, &fault),
     }
 }
 
@@ -212,52 +201,52 @@ false => false
 (none(Event;Bool␤Int)) => (none (Event Int))
 x;x␍x => x
 § Texts that are refused, and so. The last has a word of bytes that are no text.
-(add x 01) => number at 7
-(add x -0) => number at 7
-(add x -01) => number at 7
-(p 65536) => number at 3
-(p -1) => number at 3
-(p 00) => number at 3
-9223372036854775808 => number at 0
--9223372036854775809 => number at 0
-(add 1 99999999999999999999 => number at 7
-(1 2) => syntax at 1
-(none 5) => syntax at 6
-(none 05) => syntax at 6
-(none x) => syntax at 6
-(list 1) => syntax at 6
-(list (Pair Int) 1) => syntax at 15
-(none (Maybe Int)) => syntax at 7
-(p x) => syntax at 3
-(p (p 0)) => syntax at 3
-(p) => syntax at 2
-+1 => syntax at 0
-- => syntax at 0
-1x => syntax at 0
-X => syntax at 0
-add => syntax at 0
-Int => syntax at 0
-(x) => syntax at 1
-(arr x) => syntax at 1
-() => syntax at 1
-((add x 1)) => syntax at 1
-) => syntax at 0
-(add x) => syntax at 6
-(add x => syntax at 6
-(add x 1;) => syntax at 10
- => syntax at 0
- ; x => syntax at 4
-x x => syntax at 2
-(add x 1)) => syntax at 9
-(add x 1 2) => syntax at 9
-(add x ␀␋␌~ 1) => syntax at 7
+(add x 01) => number at byte 7
+(add x -0) => number at byte 7
+(add x -01) => number at byte 7
+(p 65536) => number at byte 3
+(p -1) => number at byte 3
+(p 00) => number at byte 3
+9223372036854775808 => number at byte 0
+-9223372036854775809 => number at byte 0
+(add 1 99999999999999999999 => number at byte 7
+(1 2) => syntax at byte 1
+(none 5) => syntax at byte 6
+(none 05) => syntax at byte 6
+(none x) => syntax at byte 6
+(list 1) => syntax at byte 6
+(list (Pair Int) 1) => syntax at byte 15
+(none (Maybe Int)) => syntax at byte 7
+(p x) => syntax at byte 3
+(p (p 0)) => syntax at byte 3
+(p) => syntax at byte 2
++1 => syntax at byte 0
+- => syntax at byte 0
+1x => syntax at byte 0
+X => syntax at byte 0
+add => syntax at byte 0
+Int => syntax at byte 0
+(x) => syntax at byte 1
+(arr x) => syntax at byte 1
+() => syntax at byte 1
+((add x 1)) => syntax at byte 1
+) => syntax at byte 0
+(add x) => syntax at byte 6
+(add x => syntax at byte 6
+(add x 1;) => syntax at byte 10
+ => syntax at byte 0
+ ; x => syntax at byte 4
+x x => syntax at byte 2
+(add x 1)) => syntax at byte 9
+(add x 1 2) => syntax at byte 9
+(add x ␀␋␌~ 1) => syntax at byte 7
 § Long texts, and texts with many open parentheses: the 601st is refused, also where none fits.
-{600*(neg } => syntax at 3000
-{600*(neg }01 => number at 3000
-{600*(neg }( => nesting at 3000
-{601*(neg } => nesting at 3000
-{599*(neg }(p ( => nesting at 2998
-{598*(neg }(p ( => syntax at 2993
+{600*(neg } => syntax at byte 3000
+{600*(neg }01 => number at byte 3000
+{600*(neg }( => nesting at byte 3000
+{601*(neg } => nesting at byte 3000
+{599*(neg }(p ( => nesting at byte 2998
+{598*(neg }(p ( => syntax at byte 2993
 {600*(then x }x{600*)} => {600*(then x }x{600*)}
 x{1048575* } => x
 x{1048576* } => too long
@@ -279,11 +268,11 @@ static EXPRESSIONS_AT: &str = "
 0 0 | 12 13 => 12 to 2
 1 0 | 12 13 => 2 to 2
 0 599 | (neg x) => (neg x) to 7
-8 1 | (add x 1) => syntax at 8
-9 0 | (add x 1) => syntax at 9
-7 1 | (add x 01) => number at 7
-0 600 | (add x 1) => nesting at 0
-0 599 | (add (neg x) 1) => nesting at 5
+8 1 | (add x 1) => syntax at byte 8
+9 0 | (add x 1) => syntax at byte 9
+7 1 | (add x 01) => number at byte 7
+0 600 | (add x 1) => nesting at byte 0
+0 599 | (add (neg x) 1) => nesting at byte 5
 ";
 
 /// A byte and how many parentheses are open, a text, and what type is read from there. A type of
@@ -295,12 +284,12 @@ static TYPES_AT: &str = "
 0 1 | Unit) => Unit to 4
 0 599 | (Event Int) => (Event Int) to 11
 1 600 | XInt => Int to 4
-5 0 | input 5 => syntax at 6
-0 0 | (Pair Int Int Int) => syntax at 14
-0 0 | (Event 05) => syntax at 7
-0 0 | (List Int => syntax at 9
-0 600 | (List Int) => nesting at 0
-0 599 | (List (Event Int)) => nesting at 6
+5 0 | input 5 => syntax at byte 6
+0 0 | (Pair Int Int Int) => syntax at byte 14
+0 0 | (Event 05) => syntax at byte 7
+0 0 | (List Int => syntax at byte 9
+0 600 | (List Int) => nesting at byte 0
+0 599 | (List (Event Int)) => nesting at byte 6
 0 0 | Unit => Unit to 4
 0 0 | Bool => Bool to 4
 0 0 | Int => Int to 3
@@ -310,7 +299,7 @@ static TYPES_AT: &str = "
 0 0 | {31*(List }Int{31*)} => {31*(List }Int{31*)} to 220
 0 0 | {32*(List }Int{32*)} => too deep {32*(List }Int{32*)} to 227
 0 0 | {600*(List }Int{600*)} => too deep {600*(List }Int{600*)} to 4203
-0 0 | {601*(List }Int{601*)} => nesting at 3600
+0 0 | {601*(List }Int{601*)} => nesting at byte 3600
 ";
 
 #[test]

@@ -92,7 +92,7 @@ fn calls_ending(told: &str, whole: &str) -> Ending {
 fn all_ended(told: &str) -> bool {
     let mut all = true;
     for answer in told.split(';') {
-        all = all && (answer == "ended" || answer == "");
+        all = all && (answer == "stream: ended" || answer == "");
     }
     all
 }

@@ -5,8 +5,8 @@ use crate::reading::reading_told;
 use crate::values::reading_told as value_reading_told;
 use leaf_expr::{Expr, eval, push_expr, read_expr};
 use row_texts::ballast::{Ballast, ROOM, TRIES, Tally, spare_at, take_all};
-use row_texts::texts::{answer_told, expr_in, say, type_in, value_in, written};
-use sample_core::{Memory, Sample, Ty, read_value};
+use row_texts::texts::{answer_told, expr_in, say, say_shown, type_in, value_in, written};
+use sample_core::{Sample, Ty, read_value};
 use std::alloc::Global;
 
 /// What the calls are given, with the spelling of the value and of the expression.
@@ -58,7 +58,7 @@ fn expr_copied(alloc: Global, trees: Trees<'_>, ballast: Option<Ballast>, out: &
             drop(push_expr(out, &expr));
             drop(expr);
         }
-        Err(Memory) => say(out, "memory"),
+        Err(memory) => say_shown(out, &memory),
     }
 }
 

@@ -6,11 +6,11 @@ ghost use Rattle.stream_text.specs.{LineReaderView.stream_state, StreamText.IsBe
 use crate::found::{Probe, all_are_found};
 use row_texts::ballast::take_all;
 use row_texts::devices::Pieces;
-use row_texts::texts::{parted, say, say_at, type_in};
+use row_texts::texts::{parted, say, say_at, say_shown, type_in};
 use sample_core::{Sample, Ty, push_value};
 use std::alloc::Global;
 use std::io::Read;
-use stream_text::{Counted, Device, LineReader, StreamFault};
+use stream_text::{Counted, Device, LineReader};
 
 /// Says the first five answers of a reader of lines over the stream, `TYPE | STREAM`, which it gets
 /// in pieces of 4,096 bytes; and `differs`, where smaller pieces lead to others.
@@ -54,7 +54,10 @@ pub fn scant_calls_told(alloc: Global, given: &str, out: &mut String) {
 
 fn scant_told(alloc: Global, ty: &Ty, stream: &str, out: &mut String) {
     // Room for what is told, so that saying it doesn't allocate.
-    say(out, "five answers, and what stands between them");
+    say(
+        out,
+        "five answers, which are samples, an end or faults, and what stands between them",
+    );
     out.clear();
     match LineReader::new(
         alloc,
@@ -89,7 +92,10 @@ fn answer_told<R: Read + Device + Drop>(reader: &mut LineReader<R>, ty: &Ty, out
     match reader.next(ty) {
         Ok(Some((step, sample))) => sample_told(step, sample, out),
         Ok(None) => say(out, "end;"),
-        Err(fault) => fault_told(&fault, out),
+        Err(fault) => {
+            say_shown(out, &fault);
+            say(out, ";");
+        }
     }
 }
 
@@ -101,18 +107,6 @@ fn sample_told(step: u64, sample: Sample, out: &mut String) {
     say(out, ";");
 }
 
-fn fault_told(fault: &StreamFault, out: &mut String) {
-    match fault {
-        StreamFault::Step { line } => say_at(out, "step", *line as usize),
-        StreamFault::Value { line, .. } => say_at(out, "value", *line as usize),
-        StreamFault::NothingBefore { line } => say_at(out, "nothing before", *line as usize),
-        StreamFault::Memory => say(out, "memory"),
-        StreamFault::Ended => say(out, "ended"),
-        _ => say(out, "another fault"),
-    }
-    say(out, ";");
-}
-
 /// Types, streams, and what five calls answer.
 static CALLS: &str = "
 § Samples, and then the end again and again.
@@ -121,14 +115,14 @@ Int | 5␤+1 6␤+1 7␤ => + 0 5;+ 1 6;+ 1 7;end;end;
 Int | => end;end;end;end;end;
 Int | 5␤+3 =␤+9223372036854775807 = => + 0 5;+ 3 5;+ 9223372036854775807 5;end;end;
 § A fault once, and then that it has ended.
-Int | 5␤+1 6␤+0 7␤+1 8 => + 0 5;+ 1 6;step 3;ended;ended;
-Int | =␤+1 5 => nothing before 1;ended;ended;ended;ended;
-Int | true␤+1 5 => value 1;ended;ended;ended;ended;
-Int | 9223372036854775808 => value 1;ended;ended;ended;ended;
-Int | 007 => value 1;ended;ended;ended;ended;
-Int | -0 => value 1;ended;ended;ended;ended;
-Int | 5  => value 1;ended;ended;ended;ended;
-(Pair Int (Event Int)) | (pair 5 no => value 1;ended;ended;ended;ended;
+Int | 5␤+1 6␤+0 7␤+1 8 => + 0 5;+ 1 6;stream: line 3: step;stream: ended;stream: ended;
+Int | =␤+1 5 => stream: line 1: nothing before;stream: ended;stream: ended;stream: ended;stream: ended;
+Int | true␤+1 5 => stream: line 1: other type at 0;stream: ended;stream: ended;stream: ended;stream: ended;
+Int | 9223372036854775808 => stream: line 1: number range at 0;stream: ended;stream: ended;stream: ended;stream: ended;
+Int | 007 => stream: line 1: no value at 0;stream: ended;stream: ended;stream: ended;stream: ended;
+Int | -0 => stream: line 1: no value at 0;stream: ended;stream: ended;stream: ended;stream: ended;
+Int | 5  => stream: line 1: no value at 1;stream: ended;stream: ended;stream: ended;stream: ended;
+(Pair Int (Event Int)) | (pair 5 no => stream: line 1: no value at 8;stream: ended;stream: ended;stream: ended;stream: ended;
 (Pair Int (Event Int)) | (pair 5 none)␤+2 (pair 6 (event 9)) => + 0 (pair 5 none);+ 2 (pair 6 (event 9));end;end;end;
 ";
 
@@ -136,7 +130,7 @@ Int | 5  => value 1;ended;ended;ended;ended;
 static SCANT_CALLS: &str = "
 § Numbers are answered where every allocation fails.
 Int | 5␤+1 6␤+1 7 => + 0 5;+ 1 6;+ 1 7;end;end;
-Int | 5␤+1 6␤+0 7 => + 0 5;+ 1 6;step 3;ended;ended;
+Int | 5␤+1 6␤+0 7 => + 0 5;+ 1 6;stream: line 3: step;stream: ended;stream: ended;
 ";
 
 #[test]

@@ -2,7 +2,7 @@
 
 use crate::found::{Probe, all_are_found};
 use leaf_core::{Expr, ExprFault, expr_fits, type_of_expr};
-use row_texts::texts::{expr_in, parted, say, type_in};
+use row_texts::texts::{expr_in, parted, say, say_shown, type_in};
 use sample_core::{Ty, push_type};
 use std::alloc::Global;
 
@@ -69,13 +69,10 @@ pub fn type_told(alloc: Global, input: &Ty, expr: &Expr, out: &mut String) {
 
 /// Says why the expression, which is or isn't within the limits, has no type.
 fn fault_told(fault: ExprFault, fits: bool, out: &mut String) {
-    match (fault, fits) {
-        (ExprFault::Mismatch, _) => say(out, "mismatch"),
-        (ExprFault::NoParam, _) => say(out, "no parameter"),
-        (ExprFault::TooDeep, true) => say(out, "type too deep"),
-        (ExprFault::TooDeep, false) => say(out, "expression too deep"),
-        (ExprFault::Memory, _) => say(out, "memory"),
+    if !fits {
+        say(out, "over the limits: ");
     }
+    say_shown(out, &fault);
 }
 
 /// Expressions that have a type, and why others have none. An expression's height and nodes are
@@ -132,30 +129,30 @@ Int | (list Int (p 2) true) => no parameter
 Int | (list Int true (p 2)) => mismatch
 Int | (equal (p 2) (fst x)) => no parameter
 § Limits: a type's depth, 32, and nodes, 256; an expression's height, 256, and nodes, 100,000.
-{31*(Event }Int{31*)} | (event x) => type too deep
-{31*(Event }Int{31*)} | (pair x 1) => type too deep
-{31*(Event }Int{31*)} | (list Int (event x) (p 2)) => type too deep
-{31*(Event }Int{31*)} | (add (event x) 1) => type too deep
+{31*(Event }Int{31*)} | (event x) => expression too deep
+{31*(Event }Int{31*)} | (pair x 1) => expression too deep
+{31*(Event }Int{31*)} | (list Int (event x) (p 2)) => expression too deep
+{31*(Event }Int{31*)} | (add (event x) 1) => expression too deep
 {31*(Event }Int{31*)} | (on (none Int) (p 2) (p 2)) => no parameter
-{31*(Event }Int{31*)} | (on (none Int) 1 (p 2)) => type too deep
-{31*(Event }Int{31*)} | (on (none Int) 1 1) => type too deep
+{31*(Event }Int{31*)} | (on (none Int) 1 (p 2)) => expression too deep
+{31*(Event }Int{31*)} | (on (none Int) 1 1) => expression too deep
 Int | {7*(then (pair x x) }(event x){7*)} => typed
-Int | {7*(then (pair x x) }(event (event x)){7*)} => type too deep
-Int | {7*(then (pair x x) }(pair x 1){7*)} => type too deep
+Int | {7*(then (pair x x) }(event (event x)){7*)} => expression too deep
+Int | {7*(then (pair x x) }(pair x 1){7*)} => expression too deep
 Int | (none {30*(Event }Int{30*)}) => typed
-Int | (none {31*(Event }Int{31*)}) => type too deep
+Int | (none {31*(Event }Int{31*)}) => expression too deep
 Int | (list {30*(Event }Int{30*)}) => typed
-Int | (list {31*(Event }Int{31*)}) => type too deep
+Int | (list {31*(Event }Int{31*)}) => expression too deep
 Int | (list {31*(Event }Int{31*)} (p 2)) => no parameter
-Int | (list {32*(Event }Int{32*)} (p 2)) => type too deep
+Int | (list {32*(Event }Int{32*)} (p 2)) => expression too deep
 Int | {255*(neg }x{255*)} => typed
-Int | {256*(neg }x{256*)} => expression too deep
-Int | {256*(neg }(p 2){256*)} => expression too deep
+Int | {256*(neg }x{256*)} => over the limits: expression too deep
+Int | {256*(neg }(p 2){256*)} => over the limits: expression too deep
 Int | {255*(neg }(p 2){255*)} => no parameter
-Int | {256*(then true }(p 2){256*)} => expression too deep
-Int | {600*(then x }x{600*)} => expression too deep
+Int | {256*(then true }(p 2){256*)} => over the limits: expression too deep
+Int | {600*(then x }x{600*)} => over the limits: expression too deep
 Int | (list Int{99999* 0}) => typed
-Int | (list Int{100000* 0}) => expression too deep
+Int | (list Int{100000* 0}) => over the limits: expression too deep
 ";
 
 /// No parameter is in scope.

@@ -1,7 +1,7 @@
 // Values: what is read at a type, where reading stops, and what is printed and copied.
 
 use crate::found::{Probe, all_are_found};
-use row_texts::texts::{parted, say, say_at, type_in, value_in};
+use row_texts::texts::{parted, say, say_at, say_shown, type_in, value_in};
 use sample_core::{
     Memory, Sample, SampleChild, SamplePair, Samples, Ty, ValueFault, has_type, push_value,
     read_value, same,
@@ -37,16 +37,7 @@ pub fn reading_told(
             say_at(out, " to", length);
             drop(sample);
         }
-        Err(fault) => fault_told(fault, out),
-    }
-}
-
-fn fault_told(fault: ValueFault, out: &mut String) {
-    match fault {
-        ValueFault::NotAValue { at } => say_at(out, "no value at", at),
-        ValueFault::OtherType { at } => say_at(out, "other type at", at),
-        ValueFault::NumberRange { at } => say_at(out, "number range at", at),
-        ValueFault::Memory => say(out, "memory"),
+        Err(fault) => say_shown(out, &fault),
     }
 }
 

@@ -2,7 +2,6 @@
 
 use crate::found::{Probe, all_are_found};
 use crate::network_types::{arrow_told, checked_told};
-use crate::networks::text_fault_told;
 use leaf_expr::{Expr, Literal};
 use net_syntax::Arrow;
 use net_text::read_net;
@@ -10,7 +9,7 @@ use net_tree::{
     MOST_SIZE, Measures, Members, Net, NetChild, Position, height, measured, push_position, weight,
 };
 use net_types::check_types;
-use row_texts::texts::{numbered, parted, say, say_at};
+use row_texts::texts::{numbered, parted, say, say_at, say_shown};
 use sample_core::{Memory, Ty};
 use std::alloc::Global;
 
@@ -34,7 +33,7 @@ pub fn measured_told(alloc: Global, given: &str, out: &mut String) {
             measure_told(alloc, kind, &net, out);
             drop(net);
         }
-        Err(fault) => text_fault_told(fault, out),
+        Err(fault) => say_shown(out, &fault),
     }
 }
 
@@ -61,14 +60,14 @@ fn oversized_told(alloc: Global, net: &Net<Expr>, out: &mut String) {
     match measured(alloc, net, &most) {
         Ok(Some(_)) => say(out, "no"),
         Ok(None) => say(out, "yes"),
-        Err(Memory) => say(out, "memory"),
+        Err(memory) => say_shown(out, &memory),
     }
 }
 
 fn number_told(number: Result<u32, Memory>, out: &mut String) {
     match number {
         Ok(number) => drop(write!(out, "{number}")),
-        Err(Memory) => say(out, "memory"),
+        Err(memory) => say_shown(out, &memory),
     }
 }
 
@@ -161,7 +160,7 @@ fn copied_arrow_told(alloc: Global, out: &mut String) {
             arrow_told(&copy.input, &copy.output, out);
             drop(copy);
         }
-        Err(Memory) => say(out, "memory"),
+        Err(memory) => say_shown(out, &memory),
     }
     drop(types);
 }
@@ -207,25 +206,25 @@ height | yampa 2 input Int (rpSwitchB (col time (>>> time time)) x time) => 3
 /// Forms with numbers at the ends of their ranges and past them.
 static BUILT: &str = "
 § Numbers at the ends of their ranges, and some that no file can have, two levels deep.
-delay 0 => number (at 1 0)
+delay 0 => number at (at 1 0)
 delay 1 => Int -> Int weight 5 height 3
 delay 4096 => Int -> Int weight 5 height 3
-delay 4097 => number (at 1 0)
+delay 4097 => number at (at 1 0)
 after 0 => Int -> Int weight 5 height 3
 after 4611686018427387904 => Int -> Int weight 5 height 3
-after 4611686018427387905 => number (at 1 0)
-after 18446744073709551615 => number (at 1 0)
-repeatedly 0 => number (at 1 0)
+after 4611686018427387905 => number at (at 1 0)
+after 18446744073709551615 => number at (at 1 0)
+repeatedly 0 => number at (at 1 0)
 repeatedly 1 => Int -> Int weight 5 height 3
 repeatedly 4611686018427387904 => Int -> Int weight 5 height 3
-repeatedly 4611686018427387905 => number (at 1 0)
-old 0 => no old (at 1 0)
-old 4294967295 => no old (at 1 0)
+repeatedly 4611686018427387905 => number at (at 1 0)
+old 0 => no old at (at 1 0)
+old 4294967295 => no old at (at 1 0)
 § Members, two levels deep.
-parB 0 => members 0: members (at 1 0)
+parB 0 => members 0: members at (at 1 0)
 parB 1 => members 1: Int -> Int weight 6 height 4
 parB 64 => members 64: Int -> Int weight 69 height 4
-parB 65 => members 65: members (at 1 0)
+parB 65 => members 65: members at (at 1 0)
 ";
 
 /// Positions and types by their names.

@@ -1,10 +1,9 @@
 // Certificate files: what is read and printed, and what is refused and where.
 
 use crate::found::{LawProbe, Probe, all_are_found};
-use crate::networks::text_fault_told;
 use net_text::{NetTextFault, print_cert, read_cert};
 use net_tree::LawStep;
-use row_texts::texts::{bytes_in, printed_told, say};
+use row_texts::texts::{bytes_in, printed_told, say, say_shown};
 use std::alloc::Global;
 
 /// Says how the certificate file is printed once it is read, and where what is printed isn't read
@@ -16,7 +15,7 @@ pub fn certificate_told(alloc: Global, text: &str, out: &mut String) {
             drop(steps);
             again_told(alloc, out);
         }
-        Err(fault) => text_fault_told(fault, out),
+        Err(fault) => say_shown(out, &fault),
     }
 }
 
@@ -34,7 +33,7 @@ fn again_told(alloc: Global, out: &mut String) {
             printed_told(print_cert(alloc, &steps), &mut again);
             drop(steps);
         }
-        Err(fault) => text_fault_told(fault, &mut again),
+        Err(fault) => say_shown(&mut again, &fault),
     }
     if again.as_str() != out.as_str() {
         say(out, " and another when it is read again");
@@ -88,58 +87,58 @@ laws 1{1048570* } => laws 1␤
 laws 1{1048571* } => too long
 {1048577*~} => too long
 § Steps in which a word isn't one that may stand there.
-laws 1 step => syntax at 7
-laws 1 ) => syntax at 7
-laws 1 ~ => syntax at 7
-laws 1 ( => syntax at 8
-laws 1 (at) => syntax at 8
-laws 1 (step => syntax at 12
-laws 1 (step E0 forward (at)) => syntax at 13
-laws 1 (step E19 forward (at)) => syntax at 13
-laws 1 (step L0 forward (at)) => syntax at 13
-laws 1 (step L01 forward (at)) => syntax at 13
-laws 1 (step L43 forward (at)) => syntax at 13
-laws 1 (step L46 forward (at)) => syntax at 13
-laws 2 (step L47 forward (at)) => syntax at 13
-laws 2 (step L0 forward (at)) => syntax at 13
-laws 2 (step E19 forward (at)) => syntax at 13
-laws 3 (step E27 forward (at)) => syntax at 13
-laws 3 (step L52 forward (at)) => syntax at 13
-laws 1 (step l1 forward (at)) => syntax at 13
-laws 1 (step 1 forward (at)) => syntax at 13
-laws 1 (step L1 Forward (at)) => syntax at 16
-laws 1 (step L1 1 (at)) => syntax at 16
-laws 1 (step L1 forward) => syntax at 23
-laws 1 (step L1 forward at) => syntax at 24
-laws 1 (step L1 forward (0)) => syntax at 25
-laws 1 (step L1 forward (at x)) => syntax at 28
-laws 1 (step L1 forward (at (0))) => syntax at 28
-laws 1 (step L1 forward (at) => syntax at 28
-laws 1 (step L1 forward (at))) => syntax at 29
+laws 1 step => syntax at byte 7
+laws 1 ) => syntax at byte 7
+laws 1 ~ => syntax at byte 7
+laws 1 ( => syntax at byte 8
+laws 1 (at) => syntax at byte 8
+laws 1 (step => syntax at byte 12
+laws 1 (step E0 forward (at)) => syntax at byte 13
+laws 1 (step E19 forward (at)) => syntax at byte 13
+laws 1 (step L0 forward (at)) => syntax at byte 13
+laws 1 (step L01 forward (at)) => syntax at byte 13
+laws 1 (step L43 forward (at)) => syntax at byte 13
+laws 1 (step L46 forward (at)) => syntax at byte 13
+laws 2 (step L47 forward (at)) => syntax at byte 13
+laws 2 (step L0 forward (at)) => syntax at byte 13
+laws 2 (step E19 forward (at)) => syntax at byte 13
+laws 3 (step E27 forward (at)) => syntax at byte 13
+laws 3 (step L52 forward (at)) => syntax at byte 13
+laws 1 (step l1 forward (at)) => syntax at byte 13
+laws 1 (step 1 forward (at)) => syntax at byte 13
+laws 1 (step L1 Forward (at)) => syntax at byte 16
+laws 1 (step L1 1 (at)) => syntax at byte 16
+laws 1 (step L1 forward) => syntax at byte 23
+laws 1 (step L1 forward at) => syntax at byte 24
+laws 1 (step L1 forward (0)) => syntax at byte 25
+laws 1 (step L1 forward (at x)) => syntax at byte 28
+laws 1 (step L1 forward (at (0))) => syntax at byte 28
+laws 1 (step L1 forward (at) => syntax at byte 28
+laws 1 (step L1 forward (at))) => syntax at byte 29
 § Trees of the other kind, and more than one.
-laws 1 (step L1 backward (at) x) => syntax at 30
-laws 1 (step L1 backward (at) 5) => syntax at 30
-laws 1 (step E1 backward (at) time) => syntax at 30
-laws 1 (step E1 backward (at) (arr x)) => syntax at 31
-laws 1 (step E1 backward (at) 1 2) => syntax at 32
-laws 1 (step L1 backward (at) (--> 1 time)) => syntax at 31
-laws 1 (step L1 backward (at) (parB time ‹collection›)) => syntax at 42
-laws 2 (step E1 backward (at) (--> 1 time)) => syntax at 31
-laws 2 (step L43 backward (at) x) => syntax at 31
+laws 1 (step L1 backward (at) x) => syntax at byte 30
+laws 1 (step L1 backward (at) 5) => syntax at byte 30
+laws 1 (step E1 backward (at) time) => syntax at byte 30
+laws 1 (step E1 backward (at) (arr x)) => syntax at byte 31
+laws 1 (step E1 backward (at) 1 2) => syntax at byte 32
+laws 1 (step L1 backward (at) (--> 1 time)) => syntax at byte 31
+laws 1 (step L1 backward (at) (parB time ‹collection›)) => syntax at byte 42
+laws 2 (step E1 backward (at) (--> 1 time)) => syntax at byte 31
+laws 2 (step L43 backward (at) x) => syntax at byte 31
 § Numbers that are badly spelt or out of range.
-laws 1 (step L4 forward (at 65536)) => number at 28
-laws 1 (step L4 forward (at 0 18446744073709551616)) => number at 30
-laws 1 (step L4 forward (at -1)) => number at 28
-laws 1 (step L4 forward (at 00)) => number at 28
-laws 1 (step L1 backward (at) (delay 4097 0)) => number at 37
-laws 1 (step L1 backward (at) (old 65536)) => number at 35
-laws 1 (step E1 backward (at) 9223372036854775808) => number at 30
+laws 1 (step L4 forward (at 65536)) => number at byte 28
+laws 1 (step L4 forward (at 0 18446744073709551616)) => number at byte 30
+laws 1 (step L4 forward (at -1)) => number at byte 28
+laws 1 (step L4 forward (at 00)) => number at byte 28
+laws 1 (step L1 backward (at) (delay 4097 0)) => number at byte 37
+laws 1 (step L1 backward (at) (old 65536)) => number at byte 35
+laws 1 (step E1 backward (at) 9223372036854775808) => number at byte 30
 § Parentheses open at once.
-laws 1 (step L1 backward (at) {599*(>>> } => syntax at 3025
-laws 1 (step L1 backward (at) {600*(>>> } => nesting at 3025
-laws 1 (step E1 backward (at) {600*(neg } => nesting at 3025
-laws 1 (step L1 backward (at) {598*(>>> }(( => nesting at 3021
-laws 1 {601*(} => syntax at 8
+laws 1 (step L1 backward (at) {599*(>>> } => syntax at byte 3025
+laws 1 (step L1 backward (at) {600*(>>> } => nesting at byte 3025
+laws 1 (step E1 backward (at) {600*(neg } => nesting at byte 3025
+laws 1 (step L1 backward (at) {598*(>>> }(( => nesting at byte 3021
+laws 1 {601*(} => syntax at byte 8
 ";
 
 #[test]

@@ -2,7 +2,6 @@
 
 use crate::certificates::steps_in;
 use crate::found::{LawProbe, Probe, all_are_found};
-use crate::networks::text_fault_told;
 use crate::typed::network;
 use cert_check::{Accepted, CheckFault, check};
 use net_syntax::TypedNet;
@@ -10,7 +9,7 @@ use net_text::print_net;
 use net_tree::LawStep;
 use row_texts::ballast::{ROOM, take_all};
 use row_texts::scarce::MOST_TRIES;
-use row_texts::texts::{parted, printed_told, say, say_at};
+use row_texts::texts::{parted, printed_told, say, say_at, say_shown};
 use std::alloc::Global;
 
 /// What is tried of a certificate.
@@ -74,7 +73,7 @@ fn steps_told(
             asked_told(alloc, derivation, asked, out);
             drop(steps);
         }
-        Err(fault) => text_fault_told(fault, out),
+        Err(fault) => say_shown(out, &fault),
     }
 }
 
@@ -98,13 +97,7 @@ fn checked(alloc: Global, derivation: Derivation<'_>) -> Result<Accepted, CheckF
 fn answer_told(answer: Result<Accepted, CheckFault>, out: &mut String) {
     match answer {
         Ok(accepted) => say_at(out, "accepted", accepted.steps as usize),
-        Err(CheckFault::InputsDiffer) => say(out, "inputs differ"),
-        Err(CheckFault::TooManySteps) => say(out, "too many steps"),
-        Err(CheckFault::NoPosition { step }) => say_at(out, "no position at step", step as usize),
-        Err(CheckFault::NoMatch { step }) => say_at(out, "no match at step", step as usize),
-        Err(CheckFault::IllTyped { step }) => say_at(out, "ill typed at step", step as usize),
-        Err(CheckFault::EndsElsewhere) => say(out, "ends elsewhere"),
-        Err(CheckFault::Memory) => say(out, "memory"),
+        Err(fault) => say_shown(out, &fault),
     }
 }
 
@@ -186,7 +179,7 @@ static CHECKS: &str = "
 ‹same› | ‹same› | laws 1 (step E7 backward (at 0) (fst (pair x 1))) (step E7 backward (at 0 0 1) (fst (pair 1 (p 0)))) => ill typed at step 2
 § Laws of version 2, and laws of version 1 in forms of version 2.
 yampa 2 input Int (--> 1 (--> 2 time)) | yampa 2 input Int (--> 1 time) | laws 2 (step L43 forward (at)) => accepted 1
-yampa 2 input Int (--> 1 (--> 2 time)) | yampa 2 input Int (--> 1 time) | laws 1 (step L43 forward (at)) => syntax at 13
+yampa 2 input Int (--> 1 (--> 2 time)) | yampa 2 input Int (--> 1 time) | laws 1 (step L43 forward (at)) => syntax at byte 13
 yampa 2 input Int (--> 1 (--> 2 time)) | yampa 2 input Int (--> 2 time) | laws 2 (step L43 forward (at)) => ends elsewhere
 yampa 2 input Int (--> 1 time) | yampa 2 input Int (--> 1 (--> 2 time)) | laws 2 (step L43 backward (at) (--> 1 (--> 2 time))) => accepted 1
 yampa 2 input Int (--> 1 time) | yampa 2 input Int (--> 1 time) | laws 2 (step L43 backward (at) (--> 1 (--> true time))) => ill typed at step 1

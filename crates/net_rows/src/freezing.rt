@@ -5,7 +5,7 @@ use cell_core::{Cell, Form};
 use leaf_table::LeafId;
 use net_tree::{Members, Net, NetChild};
 use row_texts::ballast::take_all;
-use row_texts::texts::say;
+use row_texts::texts::{say, say_shown};
 use sample_core::{Memory, Sample};
 use state_core::{Env, Frozen, Places, Running, State, freeze};
 use std::alloc::Global;
@@ -23,7 +23,7 @@ fn delay_told(alloc: Global, out: &mut String) {
     let net = Net::Delay(4_096, LeafId(0));
     match full_queue(alloc) {
         Ok(cell) => frozen_cell_told(alloc, &net, cell, out),
-        Err(Memory) => say(out, "memory"),
+        Err(memory) => say_shown(out, &memory),
     }
     drop(net);
 }
@@ -34,7 +34,7 @@ fn frozen_cell_told(alloc: Global, net: &Net<LeafId>, cell: Cell, out: &mut Stri
             freeze_told(alloc, net, &state, out);
             drop(state);
         }
-        Err(Memory) => say(out, "memory"),
+        Err(memory) => say_shown(out, &memory),
     }
 }
 
@@ -88,7 +88,7 @@ fn members_told(alloc: Global, out: &mut String) {
             frozen_clocks_told(alloc, &net, out);
             drop(net);
         }
-        Err(Memory) => say(out, "memory"),
+        Err(memory) => say_shown(out, &memory),
     }
 }
 
@@ -130,7 +130,7 @@ fn frozen_clocks_told(alloc: Global, net: &Net<LeafId>, out: &mut String) {
             freeze_told(alloc, net, &state, out);
             drop(state);
         }
-        Err(Memory) => say(out, "memory"),
+        Err(memory) => say_shown(out, &memory),
     }
     drop(clock);
 }
@@ -182,7 +182,7 @@ fn answer_told(frozen: &Result<Frozen<'_>, Memory>, out: &mut String) {
     match frozen {
         Ok(Frozen::Paused { step, .. }) => drop(write!(out, "paused with step {step}")),
         Ok(Frozen::Unstarted { .. }) => say(out, "not started"),
-        Err(Memory) => say(out, "memory"),
+        Err(memory) => say_shown(out, &memory),
     }
 }
 

@@ -6,8 +6,7 @@ use law_rules::apply_law;
 use leaf_expr::{Expr, push_expr};
 use net_text::{push_net, read_net};
 use net_tree::{Direction, Law, Net};
-use row_texts::texts::{expr_in, number_in, parted, say};
-use sample_core::Memory;
+use row_texts::texts::{expr_in, number_in, parted, say, say_shown};
 use std::alloc::Global;
 
 /// A law, taken one way where so many frozen networks are in scope.
@@ -92,7 +91,7 @@ fn expr_from_told(
             drop(made);
         }
         Ok(None) => say(out, "nothing"),
-        Err(Memory) => say(out, "memory"),
+        Err(memory) => say_shown(out, &memory),
     }
 }
 
@@ -130,7 +129,7 @@ fn net_from_told(
             drop(made);
         }
         Ok(None) => say(out, "nothing"),
-        Err(Memory) => say(out, "memory"),
+        Err(memory) => say_shown(out, &memory),
     }
 }
 

@@ -6,7 +6,7 @@ use crate::typed::network;
 use leaf_expr::push_expr;
 use net_syntax::{LeafNeed, leaves};
 use net_tree::push_position;
-use row_texts::texts::{number_in, parted, say};
+use row_texts::texts::{number_in, parted, say, say_shown};
 use sample_core::{Memory, push_type};
 use std::alloc::Global;
 
@@ -25,7 +25,7 @@ fn among_told(needs: Result<Vec<LeafNeed>, Memory>, number: usize, out: &mut Str
             Some(need) => told(need, out),
             None => say(out, "no need"),
         },
-        Err(Memory) => say(out, "memory"),
+        Err(memory) => say_shown(out, &memory),
     }
 }
 
@@ -37,7 +37,7 @@ pub fn needs_told(needs: Result<Vec<LeafNeed>, Memory>, out: &mut String) {
                 told(need, out);
             }
         }
-        Err(Memory) => say(out, "memory"),
+        Err(memory) => say_shown(out, &memory),
     }
 }
 

@@ -4,8 +4,8 @@ use crate::found::{Probe, all_are_found};
 use leaf_expr::Expr;
 use net_text::{NetTextFault, print_net, read_net};
 use net_tree::Net;
-use row_texts::texts::{bytes_in, printed_told, say, say_at};
-use sample_core::{Memory, Ty};
+use row_texts::texts::{bytes_in, printed_told, say_shown};
+use sample_core::Ty;
 use std::alloc::Global;
 
 /// Says how the file is printed once it is read, or why it isn't.
@@ -22,19 +22,7 @@ pub fn reading_told(alloc: Global, read: Result<(Ty, Net<Expr>), NetTextFault>, 
             drop(input);
             drop(net);
         }
-        Err(fault) => text_fault_told(fault, out),
-    }
-}
-
-/// Says why no network is read.
-pub fn text_fault_told(fault: NetTextFault, out: &mut String) {
-    match fault {
-        NetTextFault::Header => say(out, "header"),
-        NetTextFault::Syntax { at } => say_at(out, "syntax at", at),
-        NetTextFault::Number { at } => say_at(out, "number at", at),
-        NetTextFault::TooDeep { at } => say_at(out, "nesting at", at),
-        NetTextFault::TooLong => say(out, "too long"),
-        NetTextFault::Memory => say(out, "memory"),
+        Err(fault) => say_shown(out, &fault),
     }
 }
 
@@ -45,7 +33,7 @@ fn copy_told(alloc: Global, input: &Ty, net: &Net<Expr>, out: &mut String) {
             printed_told(print_net(alloc, input, &copy), out);
             drop(copy);
         }
-        Err(Memory) => say(out, "memory"),
+        Err(memory) => say_shown(out, &memory),
     }
 }
 
@@ -68,12 +56,12 @@ yampa1 input Int identity => header
 laws 1 => header
 yampa 3 input Int time => header
 yampa 1 input␀Int identity => header
-yampa 1 input => syntax at 13
-yampa 2 input => syntax at 13
-yampa 2 input Int => syntax at 17
-yampa 1 input Int => syntax at 17
-yampa 1 input 5 identity => syntax at 14
-yampa 1 input identity => syntax at 14
+yampa 1 input => syntax at byte 13
+yampa 2 input => syntax at byte 13
+yampa 2 input Int => syntax at byte 17
+yampa 1 input Int => syntax at byte 17
+yampa 1 input 5 identity => syntax at byte 14
+yampa 1 input identity => syntax at byte 14
 {10000*(} => header
 {10000*)} => header
 {10000*;} => header
@@ -82,145 +70,145 @@ yampa 1 input identity => syntax at 14
 {1048576*(} => header
 {1048576*(}  => too long
 § Files in which no network stands: bytes of no text, zeros and vertical tabs are in words.
-yampa 1 input Int 5 => syntax at 18
-yampa 1 input Int arr => syntax at 18
-yampa 1 input Int ) => syntax at 18
-yampa 1 input Int (time) => syntax at 19
-yampa 1 input Int (integral) => syntax at 19
-yampa 1 input Int (identity) => syntax at 19
-yampa 1 input Int (edge) => syntax at 19
-yampa 1 input Int () => syntax at 19
-yampa 1 input Int (1 2) => syntax at 19
-yampa 1 input Int (x) => syntax at 19
-yampa 1 input Int ((arr x)) => syntax at 19
-yampa 1 input Int (col identity) => syntax at 19
-yampa 1 input Int (--> 1 identity) => syntax at 19
-yampa 1 input Int (>-- identity 1) => syntax at 19
-yampa 1 input Int (drSwitch identity identity) => syntax at 19
-yampa 1 input Int (rpSwitchB (col identity) identity identity) => syntax at 19
-yampa 1 input Int (pre identity) => syntax at 19
-yampa 1 input Int (loop identity) => syntax at 19
-yampa 1 input Int (Arr x) => syntax at 19
-yampa 1 input Int (first) => syntax at 24
-yampa 1 input Int (first identity identity) => syntax at 34
-yampa 1 input Int (loopPre identity identity) => syntax at 27
-yampa 1 input Int (loopPre 0 0) => syntax at 29
-yampa 1 input Int (kSwitch identity identity) => syntax at 44
-yampa 1 input Int (parB identity x) => syntax at 33
-yampa 1 input Int (parB identity => syntax at 32
-yampa 1 input Int (never x) => syntax at 25
-yampa 1 input Int (never 5) => syntax at 25
-yampa 1 input Int (accumBy x) => syntax at 28
-yampa 1 input Int (hold -0) => number at 24
-yampa 1 input Int (now) => syntax at 22
-yampa 1 input Int (second x) => syntax at 26
-yampa 1 input Int (*** identity) => syntax at 31
-yampa 1 input Int (parB x) => syntax at 24
-yampa 1 input Int (parB (col identity)) => syntax at 25
-yampa 1 input Int (hold) => syntax at 23
-yampa 1 input Int (accumHoldBy x 0 0) => syntax at 35
-yampa 1 input Int (after 1 time) => syntax at 27
-yampa 1 input Int (repeatedly unit unit) => syntax at 30
-yampa 1 input Int (switch identity) => syntax at 34
-yampa 1 input Int (pSwitch identity) => syntax at 27
+yampa 1 input Int 5 => syntax at byte 18
+yampa 1 input Int arr => syntax at byte 18
+yampa 1 input Int ) => syntax at byte 18
+yampa 1 input Int (time) => syntax at byte 19
+yampa 1 input Int (integral) => syntax at byte 19
+yampa 1 input Int (identity) => syntax at byte 19
+yampa 1 input Int (edge) => syntax at byte 19
+yampa 1 input Int () => syntax at byte 19
+yampa 1 input Int (1 2) => syntax at byte 19
+yampa 1 input Int (x) => syntax at byte 19
+yampa 1 input Int ((arr x)) => syntax at byte 19
+yampa 1 input Int (col identity) => syntax at byte 19
+yampa 1 input Int (--> 1 identity) => syntax at byte 19
+yampa 1 input Int (>-- identity 1) => syntax at byte 19
+yampa 1 input Int (drSwitch identity identity) => syntax at byte 19
+yampa 1 input Int (rpSwitchB (col identity) identity identity) => syntax at byte 19
+yampa 1 input Int (pre identity) => syntax at byte 19
+yampa 1 input Int (loop identity) => syntax at byte 19
+yampa 1 input Int (Arr x) => syntax at byte 19
+yampa 1 input Int (first) => syntax at byte 24
+yampa 1 input Int (first identity identity) => syntax at byte 34
+yampa 1 input Int (loopPre identity identity) => syntax at byte 27
+yampa 1 input Int (loopPre 0 0) => syntax at byte 29
+yampa 1 input Int (kSwitch identity identity) => syntax at byte 44
+yampa 1 input Int (parB identity x) => syntax at byte 33
+yampa 1 input Int (parB identity => syntax at byte 32
+yampa 1 input Int (never x) => syntax at byte 25
+yampa 1 input Int (never 5) => syntax at byte 25
+yampa 1 input Int (accumBy x) => syntax at byte 28
+yampa 1 input Int (hold -0) => number at byte 24
+yampa 1 input Int (now) => syntax at byte 22
+yampa 1 input Int (second x) => syntax at byte 26
+yampa 1 input Int (*** identity) => syntax at byte 31
+yampa 1 input Int (parB x) => syntax at byte 24
+yampa 1 input Int (parB (col identity)) => syntax at byte 25
+yampa 1 input Int (hold) => syntax at byte 23
+yampa 1 input Int (accumHoldBy x 0 0) => syntax at byte 35
+yampa 1 input Int (after 1 time) => syntax at byte 27
+yampa 1 input Int (repeatedly unit unit) => syntax at byte 30
+yampa 1 input Int (switch identity) => syntax at byte 34
+yampa 1 input Int (pSwitch identity) => syntax at byte 27
 § Forms of version 2 that don't fit.
-yampa 1 input Int (--> 7 time) => syntax at 19
-yampa 1 input Int --> => syntax at 18
-yampa 2 input Int --> => syntax at 18
-yampa 2 input Int (-->) => syntax at 22
-yampa 2 input Int (--> 1) => syntax at 24
-yampa 2 input Int (--> 01 time) => number at 23
-yampa 2 input Int (--> time 1) => syntax at 23
-yampa 2 input Int (--> 1 time time) => syntax at 30
-yampa 2 input Int (>-- identity 1) => syntax at 23
-yampa 2 input Int (>-- 1 1) => syntax at 25
-yampa 2 input Int (drSwitch time) => syntax at 32
-yampa 2 input Int (drSwitch time 1) => syntax at 33
-yampa 2 input Int (rpSwitchB) => syntax at 28
-yampa 2 input Int (rpSwitchB time x time) => syntax at 29
-yampa 2 input Int (rpSwitchB (cal time) x time) => syntax at 30
-yampa 2 input Int (rpSwitchB (col identity) identity identity) => syntax at 44
-yampa 2 input Int (rpSwitchB (col x) x time) => syntax at 34
-yampa 2 input Int (rpSwitchB (col time) x) => syntax at 41
-yampa 2 input Int (rpSwitchB (col time) x 1) => syntax at 42
-yampa 2 input Int (rpSwitchB (col time) x time time) => syntax at 47
-yampa 2 input Int (rpSwitchB (parB) x time) => syntax at 30
-yampa 2 input Int (pre time) => syntax at 19
+yampa 1 input Int (--> 7 time) => syntax at byte 19
+yampa 1 input Int --> => syntax at byte 18
+yampa 2 input Int --> => syntax at byte 18
+yampa 2 input Int (-->) => syntax at byte 22
+yampa 2 input Int (--> 1) => syntax at byte 24
+yampa 2 input Int (--> 01 time) => number at byte 23
+yampa 2 input Int (--> time 1) => syntax at byte 23
+yampa 2 input Int (--> 1 time time) => syntax at byte 30
+yampa 2 input Int (>-- identity 1) => syntax at byte 23
+yampa 2 input Int (>-- 1 1) => syntax at byte 25
+yampa 2 input Int (drSwitch time) => syntax at byte 32
+yampa 2 input Int (drSwitch time 1) => syntax at byte 33
+yampa 2 input Int (rpSwitchB) => syntax at byte 28
+yampa 2 input Int (rpSwitchB time x time) => syntax at byte 29
+yampa 2 input Int (rpSwitchB (cal time) x time) => syntax at byte 30
+yampa 2 input Int (rpSwitchB (col identity) identity identity) => syntax at byte 44
+yampa 2 input Int (rpSwitchB (col x) x time) => syntax at byte 34
+yampa 2 input Int (rpSwitchB (col time) x) => syntax at byte 41
+yampa 2 input Int (rpSwitchB (col time) x 1) => syntax at byte 42
+yampa 2 input Int (rpSwitchB (col time) x time time) => syntax at byte 47
+yampa 2 input Int (rpSwitchB (parB) x time) => syntax at byte 30
+yampa 2 input Int (pre time) => syntax at byte 19
 § Numbers of frozen networks, and times.
-yampa 1 input Int (old) => syntax at 22
-yampa 1 input Int (old x) => syntax at 23
-yampa 1 input Int (old (p 0)) => syntax at 23
-yampa 1 input Int (old -1) => number at 23
-yampa 1 input Int (old 01) => number at 23
-yampa 1 input Int (old 65536) => number at 23
-yampa 1 input Int (old 0 0) => syntax at 25
-yampa 1 input Int (delay x 0) => syntax at 25
-yampa 1 input Int (delay (p 0) 0) => syntax at 25
-yampa 1 input Int (delay 0 0) => number at 25
-yampa 1 input Int (delay 01 0) => number at 25
-yampa 1 input Int (delay 4097 0) => number at 25
-yampa 1 input Int (delay 18446744073709551616 0) => number at 25
-yampa 1 input Int (delay 1) => syntax at 26
-yampa 1 input Int (after -0 0) => number at 25
-yampa 1 input Int (after 4611686018427387905 0) => number at 25
-yampa 1 input Int (repeatedly 0 0) => number at 30
-yampa 1 input Int (repeatedly 4611686018427387905 0) => number at 30
-yampa 1 input Int (delay -1 0) => number at 25
-yampa 1 input Int (after 18446744073709551616 0) => number at 25
-yampa 1 input Int (after -1 0) => number at 25
-yampa 1 input Int (old 00) => number at 23
+yampa 1 input Int (old) => syntax at byte 22
+yampa 1 input Int (old x) => syntax at byte 23
+yampa 1 input Int (old (p 0)) => syntax at byte 23
+yampa 1 input Int (old -1) => number at byte 23
+yampa 1 input Int (old 01) => number at byte 23
+yampa 1 input Int (old 65536) => number at byte 23
+yampa 1 input Int (old 0 0) => syntax at byte 25
+yampa 1 input Int (delay x 0) => syntax at byte 25
+yampa 1 input Int (delay (p 0) 0) => syntax at byte 25
+yampa 1 input Int (delay 0 0) => number at byte 25
+yampa 1 input Int (delay 01 0) => number at byte 25
+yampa 1 input Int (delay 4097 0) => number at byte 25
+yampa 1 input Int (delay 18446744073709551616 0) => number at byte 25
+yampa 1 input Int (delay 1) => syntax at byte 26
+yampa 1 input Int (after -0 0) => number at byte 25
+yampa 1 input Int (after 4611686018427387905 0) => number at byte 25
+yampa 1 input Int (repeatedly 0 0) => number at byte 30
+yampa 1 input Int (repeatedly 4611686018427387905 0) => number at byte 30
+yampa 1 input Int (delay -1 0) => number at byte 25
+yampa 1 input Int (after 18446744073709551616 0) => number at byte 25
+yampa 1 input Int (after -1 0) => number at byte 25
+yampa 1 input Int (old 00) => number at byte 23
 § Where the members of `pSwitch` must stand.
-yampa 1 input Int (pSwitch x identity identity identity) => syntax at 29
-yampa 1 input Int (pSwitch x col identity identity) => syntax at 29
-yampa 1 input Int (pSwitch x 5 identity identity) => syntax at 29
-yampa 1 input Int (pSwitch x (parB identity) identity identity) => syntax at 30
-yampa 1 input Int (pSwitch x ((col)) identity identity) => syntax at 30
-yampa 1 input Int (pSwitch x (col x) identity identity) => syntax at 34
-yampa 1 input Int (pSwitch x (col) identity) => syntax at 43
-yampa 1 input Int (pSwitch x () identity identity) => syntax at 30
-yampa 1 input Int (pSwitch x (parB) identity identity) => syntax at 30
-yampa 1 input Int (pSwitch x (col identity) identity) => syntax at 52
+yampa 1 input Int (pSwitch x identity identity identity) => syntax at byte 29
+yampa 1 input Int (pSwitch x col identity identity) => syntax at byte 29
+yampa 1 input Int (pSwitch x 5 identity identity) => syntax at byte 29
+yampa 1 input Int (pSwitch x (parB identity) identity identity) => syntax at byte 30
+yampa 1 input Int (pSwitch x ((col)) identity identity) => syntax at byte 30
+yampa 1 input Int (pSwitch x (col x) identity identity) => syntax at byte 34
+yampa 1 input Int (pSwitch x (col) identity) => syntax at byte 43
+yampa 1 input Int (pSwitch x () identity identity) => syntax at byte 30
+yampa 1 input Int (pSwitch x (parB) identity identity) => syntax at byte 30
+yampa 1 input Int (pSwitch x (col identity) identity) => syntax at byte 52
 § Words that are no network, and what stands behind one.
-yampa 1 input Int x => syntax at 18
-yampa 1 input Int identity ; a␍ )␤ x => syntax at 35
-yampa 1 input Int ident;ity => syntax at 18
-yampa 1 input Int ~identity => syntax at 18
-yampa 1 input Int identity␋ => syntax at 18
-yampa 1 input Int (arr => syntax at 22
-yampa 1 input Int (arr 01) => number at 23
-yampa 1 input Int (arr) => syntax at 22
-yampa 1 input Int (arr x x) => syntax at 25
-yampa 1 input Int (>>> identity) => syntax at 31
-yampa 1 input Int (arr identity) => syntax at 23
-yampa 1 input Int (>>> x identity) => syntax at 23
-yampa 1 input Int identity ) => syntax at 27
-yampa 1 input Int identity identity => syntax at 27
-yampa 1 input Int (iPre -0) => number at 24
-yampa 1 input Int (iPre 9223372036854775808) => number at 24
-yampa 1 input Int (arr (p 65536)) => number at 26
+yampa 1 input Int x => syntax at byte 18
+yampa 1 input Int identity ; a␍ )␤ x => syntax at byte 35
+yampa 1 input Int ident;ity => syntax at byte 18
+yampa 1 input Int ~identity => syntax at byte 18
+yampa 1 input Int identity␋ => syntax at byte 18
+yampa 1 input Int (arr => syntax at byte 22
+yampa 1 input Int (arr 01) => number at byte 23
+yampa 1 input Int (arr) => syntax at byte 22
+yampa 1 input Int (arr x x) => syntax at byte 25
+yampa 1 input Int (>>> identity) => syntax at byte 31
+yampa 1 input Int (arr identity) => syntax at byte 23
+yampa 1 input Int (>>> x identity) => syntax at byte 23
+yampa 1 input Int identity ) => syntax at byte 27
+yampa 1 input Int identity identity => syntax at byte 27
+yampa 1 input Int (iPre -0) => number at byte 24
+yampa 1 input Int (iPre 9223372036854775808) => number at byte 24
+yampa 1 input Int (arr (p 65536)) => number at byte 26
 § The 601st parenthesis, also where none fits.
-yampa 1 input Int {601*(>>> } => nesting at 3018
-yampa 1 input Int {600*(>>> } => syntax at 3018
-yampa 1 input Int {599*(>>> }(( => nesting at 3014
-yampa 1 input Int {599*(>>> }(arr x ( => nesting at 3020
-yampa 1 input Int {599*(>>> }(arr ( => nesting at 3018
-yampa 1 input Int {599*(>>> }(>>> ( => nesting at 3018
-yampa 1 input Int {598*(>>> }(pSwitch x (col ( => nesting at 3024
-yampa 1 input Int {599*(>>> }(pSwitch x ( => nesting at 3024
-yampa 1 input Int {599*(>>> }(delay ( => nesting at 3020
-yampa 1 input Int {599*(>>> }(parB time ( => nesting at 3024
-yampa 1 input Int {600*(parB } => syntax at 3618
-yampa 1 input Int {601*(parB } => nesting at 3618
-yampa 1 input Int {600*(first }) => syntax at 4218
-yampa 1 input Int {601*(kSwitch } => nesting at 5418
-yampa 1 input Int {300*(pSwitch x (col }time => syntax at 4822
-yampa 1 input Int {300*(pSwitch x (col }( => nesting at 4818
-yampa 1 input Int {599*(first }(pSwitch x (col => nesting at 4222
-yampa 1 input Int {599*(first }(loopPre (x => nesting at 4220
-yampa 2 input Int {599*(>>> }(rpSwitchB (col => nesting at 3024
-yampa 2 input Int {598*(>>> }(rpSwitchB (col ( => nesting at 3024
-yampa 2 input Int {600*(--> 1 } => syntax at 4218
-yampa 2 input Int {601*(--> 1 } => nesting at 4218
+yampa 1 input Int {601*(>>> } => nesting at byte 3018
+yampa 1 input Int {600*(>>> } => syntax at byte 3018
+yampa 1 input Int {599*(>>> }(( => nesting at byte 3014
+yampa 1 input Int {599*(>>> }(arr x ( => nesting at byte 3020
+yampa 1 input Int {599*(>>> }(arr ( => nesting at byte 3018
+yampa 1 input Int {599*(>>> }(>>> ( => nesting at byte 3018
+yampa 1 input Int {598*(>>> }(pSwitch x (col ( => nesting at byte 3024
+yampa 1 input Int {599*(>>> }(pSwitch x ( => nesting at byte 3024
+yampa 1 input Int {599*(>>> }(delay ( => nesting at byte 3020
+yampa 1 input Int {599*(>>> }(parB time ( => nesting at byte 3024
+yampa 1 input Int {600*(parB } => syntax at byte 3618
+yampa 1 input Int {601*(parB } => nesting at byte 3618
+yampa 1 input Int {600*(first }) => syntax at byte 4218
+yampa 1 input Int {601*(kSwitch } => nesting at byte 5418
+yampa 1 input Int {300*(pSwitch x (col }time => syntax at byte 4822
+yampa 1 input Int {300*(pSwitch x (col }( => nesting at byte 4818
+yampa 1 input Int {599*(first }(pSwitch x (col => nesting at byte 4222
+yampa 1 input Int {599*(first }(loopPre (x => nesting at byte 4220
+yampa 2 input Int {599*(>>> }(rpSwitchB (col => nesting at byte 3024
+yampa 2 input Int {598*(>>> }(rpSwitchB (col ( => nesting at byte 3024
+yampa 2 input Int {600*(--> 1 } => syntax at byte 4218
+yampa 2 input Int {601*(--> 1 } => nesting at byte 4218
 § Files as they are printed: in three lines and in core forms.
 yampa 1 input Int(>>>(arr(add x 1));␤(iPre 0)) => yampa 1␤input Int␤(>>> (arr (add x 1)) (iPre 0))␤
 yampa 1 input (Pair Int Bool) identity => yampa 1␤input (Pair Int Bool)␤(arr x)␤
@@ -230,7 +218,7 @@ yampa 1 input Int (arr (attach Int (event 1) 2)) => yampa 1␤input Int␤(arr (
 yampa 1 input Int (>>> (arr x) (iPre 0)) => yampa 1␤input Int␤(>>> (arr x) (iPre 0))␤
 ␉; first␍; (␤yampa␍1;)␤input;x␤(List Int)(>>>(arr x)(iPre(list Int)));end => yampa 1␤input (List Int)␤(>>> (arr x) (iPre (list Int)))␤
 yampa 1 input Int identity ; (time) => yampa 1␤input Int␤(arr x)␤
-yampa 1 input Int(pSwitch x(col;(␤time)(col␤)time) => syntax at 40
+yampa 1 input Int(pSwitch x(col;(␤time)(col␤)time) => syntax at byte 40
 yampa 1 input Int(pSwitch x(col;(␤time)time(parB)) => yampa 1␤input Int␤(pSwitch x (col time) time (parB))␤
 § Files of version 2: printed so where a new form stands in them.
 yampa 2 input Int identity => yampa 1␤input Int␤(arr x)␤

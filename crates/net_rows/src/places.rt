@@ -3,14 +3,13 @@
 use crate::certificates::steps_in;
 use crate::found::{LawProbe, Probe, all_are_found};
 use crate::network_types::typed_told;
-use crate::networks::text_fault_told;
 use crate::typed::network;
 use leaf_expr::push_expr;
 use net_syntax::{Place, TypedNet, at, replace, type_at};
 use net_text::push_net;
 use net_tree::{LawStep, Position, Tree, TreeRef, same_net};
 use net_types::{Rewritten, rewrite};
-use row_texts::texts::{parted, say, say_at};
+use row_texts::texts::{parted, say, say_at, say_shown};
 use sample_core::{Memory, Ty, push_type};
 use std::alloc::Global;
 
@@ -63,7 +62,7 @@ fn step_told(alloc: Global, net: &TypedNet, given: &str, trial: Trial, out: &mut
             }
             drop(steps);
         }
-        Err(fault) => text_fault_told(fault, out),
+        Err(fault) => say_shown(out, &fault),
     }
 }
 
@@ -117,7 +116,7 @@ fn other_told(alloc: Global, net: &TypedNet, position: &Position, tree: &Tree, o
             drop(other);
         }
         Ok(None) => say(out, "nothing"),
-        Err(Memory) => say(out, "memory"),
+        Err(memory) => say_shown(out, &memory),
     }
 }
 
@@ -125,7 +124,7 @@ fn other_told(alloc: Global, net: &TypedNet, position: &Position, tree: &Tree, o
 fn copy_told(alloc: Global, net: &TypedNet, position: &Position, tree: &Tree, out: &mut String) {
     match net.try_copy(alloc) {
         Ok(copy) => put_told(alloc, net, copy, position, tree, out),
-        Err(Memory) => say(out, "memory"),
+        Err(memory) => say_shown(out, &memory),
     }
 }
 
@@ -141,7 +140,7 @@ fn put_told(
 ) {
     match tree.try_copy(alloc) {
         Ok(tree) => answer_told(rewrite(alloc, &mut copy, position, tree), &copy, out),
-        Err(Memory) => say(out, "memory"),
+        Err(memory) => say_shown(out, &memory),
     }
     if same_net(copy.net(), net.net()) {
         say(out, ", as before");
@@ -158,7 +157,7 @@ fn answer_told(answer: Result<Rewritten, Memory>, net: &TypedNet, out: &mut Stri
         }
         Ok(Rewritten::NoPosition) => say(out, "no position"),
         Ok(Rewritten::IllTyped) => say(out, "ill typed"),
-        Err(Memory) => say(out, "memory"),
+        Err(memory) => say_shown(out, &memory),
     }
 }
 

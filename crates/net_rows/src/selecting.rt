@@ -3,7 +3,7 @@
 use crate::found::{Probe, all_are_found};
 use leaf_table::LeafId;
 use net_tree::Net;
-use row_texts::texts::{parted, say, say_at, type_in, value_in};
+use row_texts::texts::{parted, say, say_at, say_shown, type_in, value_in};
 use sample_core::{Memory, Sample, Ty};
 use state_core::{Env, Frozen, select};
 use std::alloc::Global;
@@ -31,7 +31,7 @@ fn among_told(alloc: Global, numbers: &Sample, out: &mut String) {
             chosen_told(select(alloc, &all, numbers), out);
             drop(all);
         }
-        Err(Memory) => say(out, "memory"),
+        Err(memory) => say_shown(out, &memory),
     }
     drop(nets);
 }
@@ -54,7 +54,7 @@ fn chosen_told(chosen: Result<Vec<Frozen<'_>>, Memory>, out: &mut String) {
                 one_told(frozen, out);
             }
         }
-        Err(Memory) => say(out, "memory"),
+        Err(memory) => say_shown(out, &memory),
     }
     drop(chosen);
 }

@@ -4,11 +4,17 @@ use crate::named::network_named;
 use leaf_expr::{Expr, read_expr, read_type_at};
 use sample_core::{Memory, Sample, Ty, push_value, read_value};
 use std::alloc::Global;
+use std::fmt::Display;
 
 /// Adds these words to the text. Where the allocation is refused, the text lacks them, and isn't
 /// the one that is wanted.
 pub fn say(out: &mut String, words: &str) {
     drop(out.push_str(words));
+}
+
+/// Adds how a value is shown, as a fault by its words, for which the same holds.
+pub fn say_shown(out: &mut String, shown: &impl Display) {
+    drop(write!(out, "{shown}"));
 }
 
 /// Adds these words and a number, for which the same holds.
@@ -125,7 +131,7 @@ pub fn answer_told(answer: Result<Sample, Memory>, out: &mut String) {
             drop(push_value(out, &value));
             drop(value);
         }
-        Err(Memory) => say(out, "memory"),
+        Err(memory) => say_shown(out, &memory),
     }
 }
 
@@ -133,7 +139,7 @@ pub fn answer_told(answer: Result<Sample, Memory>, out: &mut String) {
 pub fn printed_told(printed: Result<String, Memory>, out: &mut String) {
     match printed {
         Ok(text) => say(out, text.as_str()),
-        Err(Memory) => say(out, "memory"),
+        Err(memory) => say_shown(out, &memory),
     }
 }
 

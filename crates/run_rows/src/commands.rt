@@ -2,7 +2,7 @@
 
 use net_syntax::TypedNet;
 use net_text::push_net;
-use row_texts::texts::{say, say_at};
+use row_texts::texts::{say, say_at, say_shown};
 use std::alloc::Global;
 use yampa_run::{Job, Refusal};
 
@@ -49,8 +49,12 @@ fn job_told(job: &Job, out: &mut String) {
 pub fn refusal_told(refusal: &Refusal, out: &mut String) {
     match refusal {
         Refusal::Line { status: 2, .. } => say(out, "wrong words"),
-        Refusal::Line { status, line } => status_told(*status, line.as_str(), out),
-        Refusal::Memory => say(out, "memory"),
+        Refusal::Line { status, .. } => {
+            say_at(out, "status", *status as usize);
+            say(out, " ");
+            say_shown(out, refusal)
+        }
+        Refusal::Memory => say_shown(out, refusal),
     }
 }
 

@@ -15,12 +15,11 @@ use crate::visits::visits_told;
 use leaf_table::{LeafTable, TableFault};
 use net_rows::typed::network;
 use net_syntax::{LeafNeed, TypedNet, leaves};
-use net_tree::push_position;
 use row_texts::devices::Pieces;
-use row_texts::texts::{parted, say};
-use sample_core::{Memory, Sample};
+use row_texts::texts::{parted, say, say_shown};
+use sample_core::Sample;
 use std::alloc::Global;
-use step_core::{BindFault, Bound, bind};
+use step_core::{Bound, bind};
 use yampa_run::{Counted, RunFault, RunReport, fault_line, fill_table, run_network, table_refusal};
 
 /// What is tried of a network over a table of its closures.
@@ -90,7 +89,7 @@ pub fn file_told(alloc: Global, text: &str, trial: Trial<'_>, out: &mut String) 
 pub fn trial_told(alloc: Global, net: &TypedNet, trial: Trial<'_>, out: &mut String) {
     match leaves(alloc, net) {
         Ok(needs) => filled_told(alloc, net, &needs, trial, out),
-        Err(Memory) => say(out, "memory"),
+        Err(memory) => say_shown(out, &memory),
     }
 }
 
@@ -134,15 +133,19 @@ fn stored_told(
 
 /// Says what binding the network to the table and running it writes, and why that ends early.
 fn whole_told(alloc: Global, net: &TypedNet, table: &LeafTable, stream: &str, out: &mut String) {
+    let Ok(needs) = leaves(alloc, net) else {
+        return say(out, "memory");
+    };
     let mut reader = Counted::new(Pieces::new(stream.as_bytes(), 4_096, 0));
     let mut writer = Counted::new(Vec::new(alloc));
-    let ended = run_network(alloc, net, table, &mut reader, &mut writer);
+    let ended = run_network(alloc, net, &needs, table, &mut reader, &mut writer);
     let written = writer.into_inner();
     say(out, str::from_utf8(&written).unwrap_or("no text"));
     if let Err(refusal) = &ended {
         refusal_told(refusal, out);
     }
     drop(ended);
+    drop(needs);
 }
 
 /// Says what the trial of the network finds, bound to the table, or which expression has no row.
@@ -158,17 +161,7 @@ fn bound_told(
             tried(alloc, &bound, table, trial, out);
             drop(bound);
         }
-        Err(fault) => {
-            unbound_told(&fault, out);
-            drop(fault);
-        }
-    }
-}
-
-fn unbound_told(fault: &BindFault, out: &mut String) {
-    match fault {
-        BindFault::MissingLeaf { position } => drop(push_position(out, position)),
-        BindFault::Memory => say(out, "memory"),
+        Err(fault) => say_shown(out, &fault),
     }
 }
 
@@ -201,8 +194,20 @@ fn failure_told(alloc: Global, fault: &RunFault, out: &mut String)
     requires { EndsRun fault.now }
 {
     match fault_line(alloc, fault) {
-        Ok((status, line)) => status_told(status, line.as_str(), out),
-        Err(Memory) => say(out, "memory"),
+        Ok((status, line)) => {
+            status_told(status, line.as_str(), out);
+            shown_told(alloc, fault, line.as_str(), out);
+        }
+        Err(memory) => say_shown(out, &memory),
+    }
+}
+
+/// Tells it where the fault is shown otherwise than by its line.
+fn shown_told(alloc: Global, fault: &RunFault, line: &str, out: &mut String) {
+    let mut shown = String::new(alloc);
+    say_shown(&mut shown, fault);
+    if shown.as_str() != line {
+        say(out, ", shown otherwise");
     }
 }
 
@@ -321,7 +326,7 @@ yampa 1 input Int (kSwitch time (arr (event unit)) {200*(kSwitch (old 0) (arr (e
 /// Networks, and where the first expression without a row stands.
 static MISSING: &str = "
 § The first expression without a row.
-‹increment› => (at 0 0) status 3 no row
+‹increment› => no row at (at 0 0) status 3 no row
 ";
 
 /// Networks, streams, and all that is written where binding and running are one call.

@@ -78,7 +78,6 @@ yampa types src | ‹increment› => Int -> Int␤weight 3␤height 2␤ refused
 yampa types src | yampa 1 input Int (hold 0) => status 1 network: no event at (at) refused at first
 yampa run src | ‹same› => run (arr x) refused at first
 yampa optimise src | ‹sum doubled› => yampa 1␤input Int␤(arr (then (add x 1) (mul x 2)))␤ refused at first
-yampa improve src | ‹sum doubled› => yampa 1␤input Int␤(>>> (arr (add x 1)) (arr (mul x 2)))␤ refused at first
 yampa outline src | yampa 1 input Int time => (at)␉time␉Int␉1␤ refused at first
 yampa laws src --at (at) | ‹sum doubled› => (step L4 forward (at))␤- (>>> (arr (add x 1)) (arr (mul x 2)))␤+ (arr (then (add x 1) (mul x 2)))␤(step E16 forward (at 0 0))␤- (add x 1)␤+ (add 1 x)␤(step E20 forward (at 1 0))␤- (mul x 2)␤+ (mul 2 x)␤ refused at first
 yampa apply src cert | ‹successor› |  | laws 1 (step E16 forward (at 0)) => yampa 1␤input Int␤(arr (add 1 x))␤ refused at first

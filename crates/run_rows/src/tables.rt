@@ -10,7 +10,7 @@ use leaf_expr::LeafKey;
 use leaf_table::{Leaf, LeafId, LeafTable, Run, TableFault, run_general};
 use net_rows::typed::network;
 use net_syntax::{LeafNeed, TypedNet, leaves};
-use row_texts::texts::{answer_told, parted, say, say_at, value_in};
+use row_texts::texts::{answer_told, parted, say, say_at, say_shown, value_in};
 use sample_core::{Memory, Sample};
 use std::alloc::Global;
 
@@ -58,7 +58,7 @@ pub fn added_told(alloc: Global, one_more: &str, out: &mut String) {
 fn needs_told(alloc: Global, net: &TypedNet, out: &mut String) {
     match leaves(alloc, net) {
         Ok(needs) => general_told(alloc, &needs, None, out),
-        Err(Memory) => say(out, "memory"),
+        Err(memory) => say_shown(out, &memory),
     }
 }
 
@@ -124,11 +124,15 @@ fn answer(need: &LeafNeed, added: Result<LeafId, (Leaf, TableFault)>, out: &mut 
 }
 
 fn refusal(fault: TableFault, own: bool, out: &mut String) {
-    match (fault, own) {
-        (TableFault::Full, true) => say(out, "full, and its leaf comes back"),
-        (TableFault::Full, false) => say(out, "full, and another leaf comes back"),
-        (TableFault::Memory, _) => say(out, "memory"),
-    }
+    say_shown(out, &fault);
+    say(
+        out,
+        if own {
+            ", and its leaf comes back"
+        } else {
+            ", and another leaf comes back"
+        },
+    )
 }
 
 /// Says what the row of a network's expression answers on a value, `FILE | VALUE`: where its
@@ -175,7 +179,7 @@ static FILLED: &str = "
 /// the key is new the leaf comes back.
 static ADDED: &str = "
 § One expression more, for a table that is full.
-(arr (add x 4096)) => full, and its leaf comes back
+(arr (add x 4096)) => table full, and its leaf comes back
 (arr (add x 0)) => row 0
 ";
 

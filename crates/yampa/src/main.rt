@@ -5,54 +5,43 @@
 //!
 //! No contract can describe the host's files and streams, so `main` stays thin: it reads the words,
 //! asks `prepare` for the job, stores a closure for each expression of the network (`fill_table!`),
-//! runs it by `run_network`, and prints a refusal's line. It answers the exit status: that of the
-//! job, of the run, or of the refusal. `tests/examples` tries it.
+//! runs it by `run_network`, and prints a refusal's line. What it ends with, `job_ending` and
+//! `run_ending` say. Output goes through a `Held`, which holds lines back until more input is asked
+//! for. `tests/examples` tries it.
 //!
-//! First this file; the host's files are `src/host.rt`, and `src/streams.rt` is standard input and
-//! the writer that holds lines back until more input is asked for.
+//! First this file; the host's files are `src/host.rt`.
 #![tactic(auto)]
 
 mod host;
-mod streams;
+
+ghost use Rattle.std.specs.Prelude.{map};
+ghost use Rattle.net_syntax.specs.{Leaves.LeavesOf, NeedView.need_of};
 
 use host::HostFiles;
-use leaf_table::{LeafTable, TableFault};
+use leaf_table::LeafTable;
 use net_syntax::{LeafNeed, TypedNet, leaves};
 use sample_core::Memory;
 use std::alloc::Global;
 use std::cell::RefCell;
 use std::env;
-use std::io::{self, BufReader, ErrorKind, Write};
+use std::io::{self, BufReader, ErrorKind, Stdout, Write};
 use std::process::ExitCode;
-use streams::{Input, Output, Printer, ROOM, give_held, has_failed};
 use yampa_run::{
-    Counted, Job, Refusal, RunFault, RunReport, fault_line, fill_table, prepare, run_network,
-    run_status, table_refusal,
+    Asking, Counted, Ending, Held, Job, Printer, ROOM, Refusal, RunReport, fill_table, is_given,
+    job_ending, prepare, run_ending, run_network, table_refusal,
 };
 
 fn main(rt: HostRuntime) -> ExitCode {
-    let asked = job(&rt);
-    let status = match &asked {
+    let ending = match job(&rt) {
         Ok(job) => perform(&rt, job),
-        Err(refusal) => refuse(&rt, refusal),
+        Err(refusal) => Ending::Refused(refusal),
     };
-    drop(asked);
-    ExitCode::from(status)
-}
-
-/// Does what is to be done. Answers the exit status.
-fn perform(rt: &HostRuntime, job: &Job) -> u8 {
-    match job {
-        Job::Print(text) => match print(rt, text) {
-            Ok(()) => job.status(),
-            Err(status) => status,
-        },
-        Job::Run(net) => run(rt, net),
-        Job::PrintAndRefuse { text, line } => match print(rt, text) {
-            Ok(()) => complain(rt, job.status(), line),
-            Err(status) => status,
-        },
+    if let Some(refusal) = ending.refusal() {
+        complain(&rt, refusal.line());
     }
+    let status = ending.status();
+    drop(ending);
+    ExitCode::from(status)
 }
 
 /// What the command line asks for.
@@ -89,41 +78,49 @@ fn unread_words(alloc: Global, error: &io::Error) -> Refusal {
     }
 }
 
-/// Runs the network on standard input. Answers the exit status.
-fn run(rt: &HostRuntime, net: &TypedNet) -> u8 {
+/// Does what is to be done.
+fn perform(rt: &HostRuntime, job: Job) -> Ending {
+    let is_printed = match &job {
+        Job::Print(text) | Job::PrintAndRefuse { text, line: _ } => prints(rt, text),
+        Job::Run(net) => return run(rt, net),
+    };
+    job_ending(rt.alloc(), job, is_printed)
+}
+
+/// Runs the network on standard input.
+fn run(rt: &HostRuntime, net: &TypedNet) -> Ending {
     match leaves(rt.alloc(), net) {
         Ok(needs) => run_filled(rt, net, &needs),
-        Err(Memory) => refuse(rt, &Refusal::Memory),
+        Err(Memory) => Ending::Refused(Refusal::Memory),
     }
 }
 
-/// Stores a closure for each of the network's needs, and runs it on standard input. Answers the
-/// exit status.
-fn run_filled(rt: &HostRuntime, net: &TypedNet, needs: &[LeafNeed]) -> u8 {
+/// Stores a closure for each of the network's needs, and runs it on standard input.
+fn run_filled(rt: &HostRuntime, net: &TypedNet, needs: &[LeafNeed]) -> Ending
+    requires { LeavesOf net.now (map need_of needs.now) }
+{
     let mut table = LeafTable::new(rt.alloc());
     let filled = fill_table!(rt.alloc(), table, needs);
-    let status = match filled {
-        Ok(()) => run_on(rt, net, &table),
-        Err(fault) => refuse_table(rt, fault),
+    let ending = match filled {
+        Ok(()) => run_on(rt, net, needs, &table),
+        Err(fault) => Ending::Refused(table_refusal(rt.alloc(), fault)),
     };
     drop(table);
-    status
-}
-
-/// Prints why the table doesn't take the network. Answers the exit status.
-fn refuse_table(rt: &HostRuntime, fault: TableFault) -> u8 {
-    let refusal = table_refusal(rt.alloc(), fault);
-    let status = refuse(rt, &refusal);
-    drop(refusal);
-    status
+    ending
 }
 
 /// Runs the network on standard input, over a table of its closures, and prints the lines of its
-/// answers. Answers the exit status.
-fn run_on(rt: &HostRuntime, net: &TypedNet, table: &LeafTable) -> u8 {
-    match Output::new(rt.alloc(), rt.stdout()) {
-        Ok(output) => run_printed(rt, net, table, &RefCell::new(output)),
-        Err(Memory) => refuse(rt, &Refusal::Memory),
+/// answers.
+fn run_on(rt: &HostRuntime, net: &TypedNet, needs: &[LeafNeed], table: &LeafTable) -> Ending
+    requires { LeavesOf net.now (map need_of needs.now) }
+{
+    match Held::new(rt.alloc(), rt.stdout()) {
+        Ok(output) => {
+            let output = RefCell::new(output);
+            let answer = run_printed(rt, net, needs, table, &output);
+            run_ending(rt.alloc(), answer, is_given(&output))
+        }
+        Err(Memory) => Ending::Refused(Refusal::Memory),
     }
 }
 
@@ -131,69 +128,37 @@ fn run_on(rt: &HostRuntime, net: &TypedNet, table: &LeafTable) -> u8 {
 fn run_printed(
     rt: &HostRuntime,
     net: &TypedNet,
+    needs: &[LeafNeed],
     table: &LeafTable,
-    output: &RefCell<Output>,
-) -> u8 {
-    let input = Input::new(rt.stdin(), output);
+    output: &RefCell<Held<Stdout>>,
+) -> Result<RunReport, Refusal>
+    requires { LeavesOf net.now (map need_of needs.now) }
+{
+    let input = Asking::new(rt.stdin(), output);
     let Ok(input) = BufReader::with_capacity(rt.alloc(), ROOM, input) else {
-        return refuse(rt, &Refusal::Memory);
+        return Err(Refusal::Memory);
     };
     let mut reader = Counted::new(input);
     let mut writer = Counted::new(Printer::new(output));
-    let ended = run_network(rt.alloc(), net, table, &mut reader, &mut writer);
+    let answer = run_network(rt.alloc(), net, needs, table, &mut reader, &mut writer);
     drop(reader);
     drop(writer);
-    // Where the host has refused output, the lines before a fault of the stream weren't all
-    // printed, so that is told, and not the stream's fault.
-    let given = give_held(output).is_ok();
-    let status = if !given || has_failed(output) {
-        refuse_output(rt)
-    } else {
-        end_run(rt, &ended)
-    };
-    drop(ended);
-    status
+    answer
 }
 
-/// Prints why a run stopped, where it was refused. Answers the exit status.
-fn end_run(rt: &HostRuntime, ended: &Result<RunReport, Refusal>) -> u8 {
-    if let Err(refusal) = ended {
-        refuse(rt, refusal);
-    }
-    run_status(ended)
-}
-
-/// Prints the text on standard output. Where the host refuses it, says so, and answers the status.
-fn print(rt: &HostRuntime, text: &str) -> Result<(), u8> {
+/// Prints the text on standard output. Answers whether the host took it.
+fn prints(rt: &HostRuntime, text: &str) -> bool {
     let mut stdout = rt.stdout();
-    match stdout
+    stdout
         .write_all(text.as_bytes())
         .and_then(|()| stdout.flush())
-    {
-        Ok(()) => Ok(()),
-        Err(_) => Err(refuse_output(rt)),
-    }
+        .is_ok()
 }
 
-/// Prints that the host has refused output. How many lines it took isn't known, and isn't told.
-/// Answers the exit status.
-fn refuse_output(rt: &HostRuntime) -> u8 {
-    match fault_line(rt.alloc(), &RunFault::Write { lines: 0 }) {
-        Ok((status, line)) => complain(rt, status, &line),
-        Err(Memory) => refuse(rt, &Refusal::Memory),
-    }
-}
-
-/// Prints why nothing is done, or why a run stopped. Answers the exit status.
-fn refuse(rt: &HostRuntime, refusal: &Refusal) -> u8 {
-    complain(rt, refusal.status(), refusal.line())
-}
-
-/// Prints a line on standard error. Answers the status.
-fn complain(rt: &HostRuntime, status: u8, line: &str) -> u8 {
+/// Prints a line on standard error.
+fn complain(rt: &HostRuntime, line: &str) {
     let mut stderr = rt.stderr();
     // Where standard error can't be written, the status is all that can be told.
     let _ = stderr.write_all(line.as_bytes());
     let _ = stderr.write_all(b"\n");
-    status
 }

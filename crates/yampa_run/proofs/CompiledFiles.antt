@@ -14,7 +14,7 @@ use Rattle.net_code.specs.Running.{run_code}
 use Rattle.net_code.specs.declared.statement.Function.{Function}
 use Rattle.code_fits.specs.CodeOfNet.{IsCodeOf}
 use Rattle.cert_check.specs.Laws.{SameStreamLaw}
-use Rattle.command_line.specs.CommandLine.{RequestTree, types, run, outline, laws, optimise, improve, check as checks, run_checked, apply, certify, compile, compile_checked}
+use Rattle.command_line.specs.CommandLine.{RequestTree, types, run, outline, laws, optimise, check as checks, run_checked, apply, compile, compile_checked}
 use Rattle.yampa_run.specs.CompiledFiles.{CompiledFilesLaw, CompilesAsAsked}
 use Rattle.yampa_run.specs.Loading.{IsNetworkIn, IsNetworkOf}
 use Rattle.yampa_run.specs.Check.{DerivationIn}
@@ -54,11 +54,9 @@ compiled_files code leaves within same told words what (J.Print text) asks (inr 
     go (outline name) m = tt
     go (laws at name) m = tt
     go (optimise wanted name) m = tt
-    go (improve wanted name) m = tt
     go (checks names) m = tt
     go (run_checked names) m = tt
     go (apply names) m = tt
-    go (certify from to) m = tt
     go (compile form name) m = λ file e.
         let net_is : IsNetworkIn file m.net = subst (λ known. IsNetworkOf known m.net) e m.network in
         let typed : HasItsTypes m.net = typed_in within file m.net net_is in

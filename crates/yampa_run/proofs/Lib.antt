@@ -12,7 +12,5 @@ mod OptimisedFiles
 mod AppliedFiles
 mod Numbers
 mod Places
-mod CertifiedFiles
 mod CText
 mod CompiledFiles
-mod ImprovedFiles

@@ -21,7 +21,6 @@ use Rattle.yampa_run.specs.Loading.{HasNoNetwork, IsNetworkOf, IsNetworkIn, Refu
 use Rattle.yampa_run.specs.Check.{RefusesCheck}
 use Rattle.yampa_run.specs.Laws.{HasNoPlace, IsNotThere, not_there}
 use Rattle.yampa_run.specs.Apply.{IsLeading, IsNotApplied, RefusesSteps, not_applied}
-use Rattle.yampa_run.specs.Certify.{ArePair, HaveOtherInputs, IsNotCertified, other_inputs}
 use Rattle.yampa_run.specs.declared.refused.Role.{Role}
 use Rattle.yampa_run.specs.declared.preparation.Refusal.{Refusal}
 use Rattle.yampa_run.specs.declared.preparation.Refusal.TheVariants as Refused
@@ -53,12 +52,6 @@ pub not_taken : {T : Type 0} (told : KnownFiles) (names : LeadingNames) (source 
     → IsLeading told names source steps → IfErr r (RefusesSteps source steps names.shows) → IfErr r (IsNotApplied told names)
 not_taken told names source steps (Ok job) l h = tt
 not_taken told names source steps (Err e) l h = not_applied source steps l h
-
--- where the input types of a source and a target differ, nothing is printed of them
-pub not_certified : {T : Type 0} (told : KnownFiles) (from to : List ℕ) (source target : TypedNetwork) (r : Result T Refusal)
-    → ArePair told from to source target → IfErr r (HaveOtherInputs source target) → IfErr r (IsNotCertified told from to)
-not_certified told from to source target (Ok job) files h = tt
-not_certified told from to source target (Err e) files h = other_inputs source target files h
 
 -- where memory is short, nothing is shown of at most 10,000 steps
 pub short_of_memory : {T : Type 0} (source : TypedNetwork) (steps : List Step) (r : Result T Refusal) → length steps ≤ MOST_STEPS

@@ -25,19 +25,17 @@ use Rattle.cert_check.proofs.OneAnswer.{one_answer}
 use Rattle.cert_check.proofs.Taken.{applied}
 use Rattle.cert_check.specs.declared.derivation.TheConstants.{MOST_STEPS}
 use Rattle.net_meaning.specs.NetworkLimits.{WithinLimits}
-use Rattle.net_search.specs.Certifying.{AreApart}
 use Rattle.net_view.specs.Listed.{IsThere}
 use Rattle.net_view.specs.Trace.{TraceAnswer, first_steps}
 use Rattle.yampa_run.specs.Words.{TellsFirst, TellsMost, TellsName}
 use Rattle.yampa_run.proofs.Places.{one_place}
-use Rattle.command_line.specs.CommandLine.{DerivationNames, LeadingNames, PrintingWords, RequestTree, types, run, outline, laws, optimise, improve, check as checks, run_checked, apply, certify, compile, compile_checked, request_in, AsksNothing}
+use Rattle.command_line.specs.CommandLine.{DerivationNames, LeadingNames, PrintingWords, RequestTree, types, run, outline, laws, optimise, check as checks, run_checked, apply, compile, compile_checked, request_in, AsksNothing}
 use Rattle.yampa_run.specs.RefusalLines.{text_words, type_words}
 use Rattle.yampa_run.specs.KnownFiles.{IsTold, KnownFiles}
 use Rattle.yampa_run.specs.Loading.{HasNoNetwork, IsNetworkIn, IsNetworkOf, OneRefusalLaw, NoNetworkLaw, by_text, by_types}
 use Rattle.yampa_run.specs.Check.{HasNoDerivation, HasNoSteps, IsDerivedIn, AreStepsOf, RefusesCheck, no_source, no_target, no_steps, not_accepted}
 use Rattle.yampa_run.specs.Laws.{HasNoPlace, TellsLaws, no_place, no_network as no_such_network, not_there}
 use Rattle.yampa_run.specs.Apply.{IsApplied, IsNoNumber, IsNotApplied, IsUnapplied, TellsApplied, no_number, without_source, without_steps, not_applied}
-use Rattle.yampa_run.specs.Certify.{IsCertified, IsNotCertified, TellsCertified, no_such_source, no_such_target, other_inputs}
 use Rattle.yampa_run.specs.Compile.{HasNoC, IsNoForm, IsNoMost, IsNoName, IsNotCheckedC, IsNotCompiled, TellsC, TellsCheckedC, bad_most, bad_name, checked_unformed, checked_without_c, unformed, without_c, without_derivation, without_network}
 use Rattle.yampa_run.specs.Preparation.{AreTold, Fails, Meets, OnlyMemoryLaw, IsTooLarge}
 use Rattle.yampa_run.specs.declared.refused.Role.{Role}
@@ -220,22 +218,6 @@ no_applied_fails told names job refusal m k n (not_applied source steps l h) =
     (typed_of (told names.source) n.source k.0 n.leading.is_source) n.applied
     (subst (λ t. IsUnapplied t n.steps names.shows h.fault) x (subst (λ ss. IsUnapplied source ss names.shows h.fault) s h.unapplied))
 
--- where something is told of a certificate, the input types are the same
-same_inputs : (source target : TypedNetwork) (job : Job) → IsCertified source target job → source.input ≡ target.input
-same_inputs source target (J.Print text) n = n.derives.same_input
-same_inputs source target (J.Run t) n = absurd n
-same_inputs source target (J.PrintAndRefuse text line) n = let a : AreApart source target = n.0 in a.same_input
-
-no_certified_fails : (told : KnownFiles) (from to : List ℕ) (job : Job) (refusal : Refusal) → refusal ≢ Refused.Memory → AreTold told (certify from to)
-    → TellsCertified told from to job → IsNotCertified told from to refusal → ⊥
-no_certified_fails told from to job refusal m k n (no_such_source h) = no_file R.Source (told from) n.source refusal m k.0 n.files.is_source h
-no_certified_fails told from to job refusal m k n (no_such_target source i h) = no_file R.Target (told to) n.target refusal m k.1 n.files.is_target h
-no_certified_fails told from to job Refused.Memory m k n (other_inputs source target files h) = m refl
-no_certified_fails told from to job (Refused.Line status line) m k n (other_inputs source target files h) =
-    let x : source ≡ n.source = one_of_file (told from) source n.source k.0 files.is_source n.files.is_source in
-    let y : target ≡ n.target = one_of_file (told to) target n.target k.1 files.is_target n.files.is_target in
-    h.0 (ap (λ (t : TypedNetwork). t.input) x ∙ same_inputs n.source n.target job n.certified ∙ sym (ap (λ (t : TypedNetwork). t.input) y))
-
 -- a word that tells what names begin with isn't refused
 no_name_fails : (word : Option (List ℕ)) (name : List ℕ) (refusal : Refusal) → TellsName word name → IsNoName word refusal → ⊥
 no_name_fails None name refusal t h = h
@@ -283,9 +265,6 @@ not_failed told (laws at name) (J.PrintAndRefuse text line) refusal m k n f = n
 not_failed told (optimise wanted name) (J.Print text) refusal m k n f = no_file R.Network (told name) n.net refusal m k n.network f
 not_failed told (optimise wanted name) (J.Run t) refusal m k n f = n
 not_failed told (optimise wanted name) (J.PrintAndRefuse text line) refusal m k n f = n
-not_failed told (improve wanted name) (J.Print text) refusal m k n f = no_file R.Network (told name) n.net refusal m k n.network f
-not_failed told (improve wanted name) (J.Run t) refusal m k n f = n
-not_failed told (improve wanted name) (J.PrintAndRefuse text line) refusal m k n f = n
 not_failed told (checks names) (J.Print text) refusal m k n f = no_derivation told names n.target n.count refusal m k n.derived f
 not_failed told (checks names) (J.Run t) refusal m k n f = n
 not_failed told (checks names) (J.PrintAndRefuse text line) refusal m k n f = n
@@ -293,7 +272,6 @@ not_failed told (run_checked names) (J.Print text) refusal m k n f = n
 not_failed told (run_checked names) (J.Run t) refusal m k n f = no_derivation told names t n.count refusal m k n.derived f
 not_failed told (run_checked names) (J.PrintAndRefuse text line) refusal m k n f = n
 not_failed told (apply names) job refusal m k n f = no_applied_fails told names job refusal m k n f
-not_failed told (certify from to) job refusal m k n f = no_certified_fails told from to job refusal m k n f
 not_failed told (compile words name) (J.Print text) refusal m k n f = too_large (told name) words (string_bytes text) refusal m k n f
 not_failed told (compile words name) (J.Run t) refusal m k n f = absurd n
 not_failed told (compile words name) (J.PrintAndRefuse text line) refusal m k n f = absurd n

@@ -8,7 +8,7 @@ use Rattle.net_meaning.specs.TypedNetwork.{TypedNetwork}
 use Rattle.cert_check.specs.Laws.{SameStreamLaw}
 use Rattle.stream_text.specs.LineFaults.{LineFaultLaw}
 use Rattle.stream_text.specs.declared.fault.StreamFault.TheVariants as S
-use Rattle.command_line.specs.CommandLine.{RequestTree, types, run, outline, laws, optimise, improve, check as checks, run_checked, apply, certify, compile, compile_checked}
+use Rattle.command_line.specs.CommandLine.{RequestTree, types, run, outline, laws, optimise, check as checks, run_checked, apply, compile, compile_checked}
 use Rattle.yampa_run.specs.FaultLines.{line_of, status_of}
 use Rattle.yampa_run.specs.Headline.{RunsSo, text_output}
 use Rattle.yampa_run.specs.NetworkRun.{RunsOver}
@@ -101,7 +101,6 @@ whole_run reads law faults same within told words t keys text has' holds holds' 
     go (outline name) m = m
     go (laws at name) m = m
     go (optimise wanted name) m = m
-    go (improve wanted name) m = m
     go (checks names) m = m
     go (run_checked names) m = λ source_file target_file certificate e f g.
         let d : DerivationIn source_file target_file certificate = in_files told names t m.count m.derived source_file target_file certificate e f g in
@@ -111,6 +110,5 @@ whole_run reads law faults same within told words t keys text has' holds holds' 
               (same_output reads same d.source t d.steps text (typed_in within source_file d.source d.source_is) d.derives) so;
         }
     go (apply names) m = absurd (not_run m.source m.steps names.shows t m.applied)
-    go (certify from to) m = absurd m.certified
     go (compile words name) m = m
     go (compile_checked words names) m = m

@@ -38,12 +38,12 @@ c_named t program words name most = c_of program (record {
   weight = t.weight;
 })
 
--- the text is a program of the network's code as C, whose functions fit their layouts, with that
--- name and lists of at most so many elements
+-- the text is a program of the network's code as C, whose functions fit their layouts and which has
+-- room for lists of the input of at most so many elements, with that name
 pub record PrintsNamed (t : TypedNetwork) (words : PrintingWords) (name : List ℕ) (most : ℕ)
     (text : List ℕ) : Type 0 where
   pub program : Program
-  pub fits : IsProgramOf t program
+  pub fits : IsProgramOf t most program
   pub text_is : text ≡ c_named t program words name most
 
 -- the text is a program of the network's code as C, as the words tell

@@ -11,14 +11,12 @@ pub mod NetworkCommands
 pub mod Check
 pub mod Laws
 pub mod Apply
-pub mod Certify
 pub mod Compile
 pub mod Preparation
 pub mod Headline
 pub mod NetworkRun
+pub mod Endings
 pub mod WholeRun
 pub mod OptimisedFiles
 pub mod AppliedFiles
-pub mod CertifiedFiles
 pub mod CompiledFiles
-pub mod ImprovedFiles

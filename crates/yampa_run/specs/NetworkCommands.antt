@@ -1,4 +1,4 @@
--- What `types`, `outline`, `optimise` and `improve` print on the network of a file.
+-- What `types`, `outline` and `optimise` print on the network of a file.
 use Rattle.std.specs.Prelude.{◌≡◌, ℕ, List, Option}
 use Rattle.sample_core.specs.TypeTree.{TypeTree}
 use Rattle.leaf_core.specs.Expression.{Expression}
@@ -8,7 +8,6 @@ use Rattle.net_tree.specs.LawStep.{Step}
 use Rattle.net_text.specs.CertificatePrinting.{certificate_spelling}
 use Rattle.net_text.specs.Printing.{file_spelling}
 use Rattle.net_opt.specs.Optimising.{Optimised}
-use Rattle.net_search.specs.Improving.{Improved}
 use Rattle.command_line.specs.declared.command.Wanted.{Wanted}
 use Rattle.command_line.specs.declared.command.Wanted.TheVariants as W
 use Rattle.net_view.specs.Texts.{OutlineText}
@@ -36,7 +35,6 @@ abbrev pub PrintsOf : NetworkCommand → TypedNetwork → List ℕ → Type 0
 PrintsOf S.Types net text = text ≡ types_lines net
 PrintsOf S.Outline net text = OutlineText net text
 PrintsOf (S.Optimise wanted) net text = PrintsMade Optimised net wanted text
-PrintsOf (S.Improve wanted) net text = PrintsMade Improved net wanted text
 
 -- the text is what the command prints on the typed network of a file, where its bytes are told
 pub record Prints (command : NetworkCommand) (told : Option (List ℕ)) (text : List ℕ) : Type 0 where

@@ -3,7 +3,7 @@ use Rattle.std.specs.Prelude.{◌≡◌, ◌⊎◌, ℕ, List, Some, codes, stri
 use Rattle.net_meaning.specs.TypedNetwork.{TypedNetwork}
 use Rattle.leaf_table.specs.declared.fault.TableFault.{TableFault}
 use Rattle.leaf_table.specs.declared.fault.TableFault.TheVariants as A
-use Rattle.command_line.specs.CommandLine.{RequestTree, types, run, outline, laws, optimise, improve, check as checks, run_checked, apply, certify, compile, compile_checked, request_in, AsksHelp, AsksNothing}
+use Rattle.command_line.specs.CommandLine.{RequestTree, types, run, outline, laws, optimise, check as checks, run_checked, apply, compile, compile_checked, request_in, AsksHelp, AsksNothing}
 use Rattle.yampa_run.specs.declared.refused.Role.TheVariants as R
 use Rattle.yampa_run.specs.declared.network_commands.NetworkCommand.TheVariants as S
 use Rattle.yampa_run.specs.declared.preparation.Job.{Job}
@@ -16,12 +16,11 @@ use Rattle.yampa_run.specs.NetworkCommands.{Prints}
 use Rattle.yampa_run.specs.Check.{HasNoDerivation, IsChecked, TellsAccepted}
 use Rattle.yampa_run.specs.Laws.{HasNoPlace, TellsLaws}
 use Rattle.yampa_run.specs.Apply.{IsNotApplied, TellsApplied}
-use Rattle.yampa_run.specs.Certify.{IsNotCertified, TellsCertified}
 use Rattle.yampa_run.specs.Compile.{HasNoC, IsNotCheckedC, IsNotCompiled, TellsC, TellsCheckedC}
 
 -- the job is what is asked for: the lines on a file's types, a run of its network, its outline, the
--- lines on its steps, what is wanted of an optimised or an improved one, the line on a derivation, a
--- run of a target that is derived, what is wanted of steps, a certificate, or C
+-- lines on its steps, what is wanted of an optimised one, the line on a derivation, a run of a target
+-- that is derived, what is wanted of steps, or C
 abbrev pub Meets : KnownFiles → RequestTree → Job → Type 0
 Meets told (types name) (J.Print text) = Prints S.Types (told name) (string_bytes text)
 Meets told (run name) (J.Run t) = IsNetworkOf (told name) t
@@ -29,12 +28,9 @@ Meets told (outline name) (J.Print text) = Prints S.Outline (told name) (string_
 Meets told (laws at name) (J.Print text) = TellsLaws (told name) at (string_bytes text)
 Meets told (optimise wanted name) (J.Print text) =
     Prints (S.Optimise wanted) (told name) (string_bytes text)
-Meets told (improve wanted name) (J.Print text) =
-    Prints (S.Improve wanted) (told name) (string_bytes text)
 Meets told (checks names) (J.Print text) = TellsAccepted told names (string_bytes text)
 Meets told (run_checked names) (J.Run t) = IsChecked told names t
 Meets told (apply names) job = TellsApplied told names job
-Meets told (certify from to) job = TellsCertified told from to job
 Meets told (compile words name) (J.Print text) = TellsC (told name) words (string_bytes text)
 Meets told (compile_checked words names) (J.Print text) =
     TellsCheckedC told names words (string_bytes text)
@@ -47,11 +43,9 @@ Fails told (run name) refusal = HasNoNetwork R.Network (told name) refusal
 Fails told (outline name) refusal = HasNoNetwork R.Network (told name) refusal
 Fails told (laws at name) refusal = HasNoPlace (told name) at refusal
 Fails told (optimise wanted name) refusal = HasNoNetwork R.Network (told name) refusal
-Fails told (improve wanted name) refusal = HasNoNetwork R.Network (told name) refusal
 Fails told (checks names) refusal = HasNoDerivation told names refusal
 Fails told (run_checked names) refusal = HasNoDerivation told names refusal
 Fails told (apply names) refusal = IsNotApplied told names refusal
-Fails told (certify from to) refusal = IsNotCertified told from to refusal
 Fails told (compile words name) refusal = IsNotCompiled (told name) words refusal
 Fails told (compile_checked words names) refusal = IsNotCheckedC told names words refusal
 
@@ -87,13 +81,11 @@ AreTold told (run name) = IsTold (told name)
 AreTold told (outline name) = IsTold (told name)
 AreTold told (laws at name) = IsTold (told name)
 AreTold told (optimise wanted name) = IsTold (told name)
-AreTold told (improve wanted name) = IsTold (told name)
 AreTold told (checks names) = IsTold (told names.source) × IsTold (told names.target)
     × IsTold (told names.certificate)
 AreTold told (run_checked names) = IsTold (told names.source) × IsTold (told names.target)
     × IsTold (told names.certificate)
 AreTold told (apply names) = IsTold (told names.source) × IsTold (told names.certificate)
-AreTold told (certify from to) = IsTold (told from) × IsTold (told to)
 AreTold told (compile words name) = IsTold (told name)
 AreTold told (compile_checked words names) = IsTold (told names.source)
     × IsTold (told names.target) × IsTold (told names.certificate)

@@ -111,10 +111,6 @@ no_layout_words = line_on R.Network (codes "no layout")
 abbrev pub not_there_words : List ℕ → List ℕ
 not_there_words P = place_words R.Network (codes "no position ") P
 
--- the line where no certificate is found
-abbrev pub none_found_words : List ℕ
-none_found_words = line_on R.Certificate (codes "none found")
-
 -- the exit status of a job that is done: 1 where a line is printed behind its text
 abbrev pub job_status : Job → ℕ
 job_status (J.PrintAndRefuse text line) = 1

@@ -19,7 +19,7 @@ use Rattle.std.specs.Io.KnownBytes.{Appends}
 use Rattle.leaf_core.specs.KeyTree.{KeyTree}
 use Rattle.net_meaning.specs.TypedNetwork.{TypedNetwork}
 use Rattle.stream_text.specs.declared.fault.StreamFault.{StreamFault}
-use Rattle.command_line.specs.CommandLine.{RequestTree, types, run, outline, laws, optimise, improve, check as checks, run_checked, apply, certify, compile, compile_checked, request_in}
+use Rattle.command_line.specs.CommandLine.{RequestTree, types, run, outline, laws, optimise, check as checks, run_checked, apply, compile, compile_checked, request_in}
 use Rattle.yampa_run.specs.Check.{DerivationIn}
 use Rattle.yampa_run.specs.FaultLines.{stream_words}
 use Rattle.yampa_run.specs.Headline.{WritesOutput}
@@ -84,10 +84,8 @@ RunsAsAsked told (run name) text holds holds' answer = (file : List ℕ) → tol
 RunsAsAsked told (outline name) text holds holds' answer = ⊥
 RunsAsAsked told (laws at name) text holds holds' answer = ⊥
 RunsAsAsked told (optimise wanted name) text holds holds' answer = ⊥
-RunsAsAsked told (improve wanted name) text holds holds' answer = ⊥
 RunsAsAsked told (checks names) text holds holds' answer = ⊥
 RunsAsAsked told (apply names) text holds holds' answer = ⊥
-RunsAsAsked told (certify from to) text holds holds' answer = ⊥
 RunsAsAsked told (compile words name) text holds holds' answer = ⊥
 RunsAsAsked told (compile_checked words names) text holds holds' answer = ⊥
 RunsAsAsked told (run_checked names) text holds holds' answer =

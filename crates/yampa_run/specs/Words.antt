@@ -34,12 +34,13 @@ abbrev pub all_name_bytes : List ℕ → Bool
 all_name_bytes [] = true
 all_name_bytes (b ∷ bs) = is_name_byte b && all_name_bytes bs
 
--- there is a first byte, and it is no digit
+-- there is a first byte, it is no digit, and the first two aren't both `_`: such names are C's own
 abbrev pub begins_name : List ℕ → Bool
 begins_name [] = false
-begins_name (b ∷ bs) = not (is_ascii_digit b)
+begins_name (b ∷ []) = not (is_ascii_digit b)
+begins_name (b ∷ c ∷ bs) = not (is_ascii_digit b) && not (nat_eq b 95 && nat_eq c 95)
 
--- letters, digits and `_`, at least one and at most 32, of which the first is no digit
+-- letters, digits and `_`, at least one and at most 32, which begin neither with a digit nor with `__`
 abbrev pub is_name : List ℕ → Bool
 is_name word =
     (nat_le (length word) MOST_NAME && begins_name word) && all_name_bytes word
@@ -90,3 +91,7 @@ IsPlaceOfStep word steps (Some p) = ChildrenFit p × (word ≡ position_spelling
 -- the certificate of a step at the place of a word
 abbrev pub placed_file : List ℕ → List ℕ
 placed_file word = codes "laws 1\n(step L1 forward " ++ (word ++ codes ")\n")
+
+-- how many elements lists may have; bytes of a name, and of a position
+abbrev pub WordLimitsAre : Type 0
+WordLimitsAre = (MOST_ELEMENTS ≡ 32765) × (MOST_NAME ≡ 32) × (MOST_PLACE ≡ 1000000)

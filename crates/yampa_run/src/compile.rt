@@ -170,7 +170,7 @@ fn no_program(
     ensures { IfOk result (HasNoC net.now (printing_view printing.entry)) }
 {
     match refused {
-        Refused::State(path) => too_large(alloc, "state", path, asks_most(net, printing)),
+        Refused::State(at) => too_large(alloc, "state", at, asks_most(net, printing)),
         Refused::Untyped => Ok(Refusal::Line {
             status: 1,
             line: no_layout_line(alloc)?,
@@ -180,12 +180,11 @@ fn no_program(
 }
 
 /// The refusal of what is too large at a position.
-fn too_large(alloc: Global, what: &str, path: Vec<u32>, asks: bool) -> Result<Refusal, Memory>
-    ensures { IfOk result (RefusesWith 1 (too_large_words what.now path.items asks)) }
+fn too_large(alloc: Global, what: &str, at: Position, asks: bool) -> Result<Refusal, Memory>
+    ensures { IfOk result (RefusesWith 1 (too_large_words what.now at asks)) }
 {
-    let position = Position::new(path);
-    let line = too_large_line(alloc, what, &position, asks);
-    drop(position);
+    let line = too_large_line(alloc, what, &at, asks);
+    drop(at);
     Ok(Refusal::Line {
         status: 1,
         line: line?,

@@ -6,29 +6,32 @@ ghost use Rattle.yampa_run.specs.Preparation.{OnlyMemoryLaw};
 ghost use Rattle.yampa_run.specs.Headline.{SameOutputLaw, SameFrontLaw, WritesOutputLaw, HeadlineLaw};
 ghost use Rattle.yampa_run.specs.AppliedFiles.{AppliedFilesLaw};
 ghost use Rattle.yampa_run.specs.OptimisedFiles.{OptimisedFilesLaw};
-ghost use Rattle.yampa_run.specs.CertifiedFiles.{CertifiedFilesLaw};
 ghost use Rattle.yampa_run.specs.CompiledFiles.{CompiledFilesLaw};
-ghost use Rattle.yampa_run.specs.ImprovedFiles.{ImprovedFilesLaw};
 ghost use Rattle.yampa_run.specs.WholeRun.{WholeRunLaw};
+ghost use Rattle.yampa_run.specs.Words.{WordLimitsAre};
 
-use cert_check::{applied_laws, derivation_laws, one_answer_laws};
+use cert_check::{applied_laws, derivation_laws};
 use net_code::code_laws;
 use net_opt::optimised_laws;
 use net_syntax::typing_laws;
-use net_text::{certificate_laws, printing_laws};
+use net_text::printing_laws;
 use sample_core::reading_laws;
 use stream_text::stream_laws;
 
 /// The bytes of a file are refused with one line, and bytes that have a network with none. So
 /// `prepare` refuses what is asked for, but for lack of memory and of C that is too large, only where
 /// no job is that: where the bytes of a file have no network or no certificate; where a target isn't
-/// derived, a step can't be taken, or the steps are too many; where two input types differ that are to
-/// be certified; where a position isn't in the network, or a word is no number, name or position.
-/// That no certificate is found, and that a table is full, is told behind it.
+/// derived, a step can't be taken, or the steps are too many; where a position isn't in the network, or
+/// a word is no number, name or position. That a table is full is told behind it.
 pub fn refusal_laws()
     ensures one_line { OneRefusalLaw }
     ensures no_network { NoNetworkLaw }
     ensures only_memory { OnlyMemoryLaw }
+{}
+
+/// How much the words of options may tell, as numbers.
+pub fn limit_laws()
+    ensures { WordLimitsAre }
 {}
 
 /// Where `check` accepts a certificate from a source to a target network, then, whatever bytes come
@@ -78,25 +81,6 @@ pub fn optimised_file_laws()
 pub fn applied_file_laws()
     ensures { AppliedFilesLaw }
 {
-    printing_laws();
-    applied_laws();
-}
-
-/// What `certify` prints of a source and a target, put into a file: it derives the target from the
-/// source. So `prepare` refuses `check` and `run-checked` of the three for lack of memory alone.
-pub fn certified_file_laws()
-    ensures { CertifiedFilesLaw }
-{}
-
-/// What one run of `improve --certificate` prints of a source, put into a file, and what `apply`
-/// prints of both, put into a file, within the limits of files: that is the improved network, and the
-/// certificate derives it from the source. So `prepare` refuses `check` and `run-checked` of the three
-/// for lack of memory alone.
-pub fn improved_file_laws()
-    ensures { ImprovedFilesLaw }
-{
-    certificate_laws();
-    one_answer_laws();
     printing_laws();
     applied_laws();
 }

@@ -7,13 +7,16 @@ ghost use Rattle.yampa_run.specs.Loading.{IsUnread};
 use crate::preparation::Refusal;
 use crate::refused::{Role, unread_line};
 use std::alloc::Global;
+use thiserror::Error;
 
 /// Why a file wasn't read.
-#[derive(Clone, Copy)]
+#[derive(Clone, Copy, Debug, Error)]
 pub enum FileFault {
     /// There is no such file, or it can't be read.
+    #[error("cannot be read")]
     Unread,
     /// Allocation failed.
+    #[error("memory")]
     Memory,
 }
 

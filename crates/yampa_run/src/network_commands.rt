@@ -1,11 +1,10 @@
-// The commands that print a text on the network of one file: `types`, `outline`, `optimise`, `improve`.
+// The commands that print a text on the network of one file: `types`, `outline`, `optimise`.
 
 ghost use Rattle.std.specs.Prelude.{IfErr, IfOk, string_bytes};
 ghost use Rattle.yampa_run.specs.Loading.{HasNoNetwork};
 ghost use Rattle.yampa_run.specs.NetworkCommands.{Prints, PrintsOf};
 
 use crate::files::Files;
-use crate::improve::improved_text;
 use crate::load::load;
 use crate::optimise::optimised_text;
 use crate::preparation::Refusal;
@@ -26,8 +25,6 @@ pub(crate) enum NetworkCommand {
     Outline,
     /// The network that `optimise` makes of it, or the steps to that.
     Optimise(Wanted),
-    /// The network that `improve` makes of it, or the steps to that.
-    Improve(Wanted),
 }
 
 /// What the command prints on the network of the file of that name.
@@ -59,6 +56,5 @@ fn text_of(alloc: Global, command: NetworkCommand, net: &TypedNet) -> Result<Str
         NetworkCommand::Types => types_text(alloc, net),
         NetworkCommand::Outline => outline_text(alloc, net),
         NetworkCommand::Optimise(wanted) => optimised_text(alloc, wanted, net),
-        NetworkCommand::Improve(wanted) => improved_text(alloc, wanted, net),
     }
 }

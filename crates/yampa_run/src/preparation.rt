@@ -8,7 +8,6 @@ ghost use Rattle.yampa_run.specs.Loading.{RefusesWith};
 ghost use Rattle.yampa_run.specs.Preparation.{Fails, IsRequested, IsRefusal, Meets};
 
 use crate::apply::applied;
-use crate::certify::certified;
 use crate::check::{accepted, derived};
 use crate::compile::{compiled, compiled_checked};
 use crate::files::Files;
@@ -20,6 +19,7 @@ use command_line::{Reply, Request, parse};
 use net_syntax::TypedNet;
 use sample_core::Memory;
 use std::alloc::Global;
+use thiserror::Error;
 
 /// What is to be done.
 #[derive(Drop)]
@@ -46,11 +46,13 @@ impl Job {
 }
 
 /// Why nothing is to be done, or a run stopped before the end of its stream.
-#[derive(Drop)]
+#[derive(Debug, Drop, Error)]
 pub enum Refusal {
     /// The exit status, and the line that says why, without its line feed.
+    #[error("{line}")]
     Line { status: u8, line: String },
     /// Allocation failed.
+    #[error("memory")]
     Memory,
 }
 
@@ -144,15 +146,6 @@ fn job_of<F: Files>(alloc: Global, request: Request<'_>, files: &F) -> Result<Jo
             Ok(text) => Ok(Job::Print(text)),
             Err(refusal) => Err(refusal),
         },
-        Request::Improve { net, wanted } => match network_text(
-            alloc,
-            NetworkCommand::Improve(wanted),
-            net,
-            files,
-        ) {
-            Ok(text) => Ok(Job::Print(text)),
-            Err(refusal) => Err(refusal),
-        },
         Request::Check(names) => match accepted(alloc, names, files) {
             Ok(text) => Ok(Job::Print(text)),
             Err(refusal) => Err(refusal),
@@ -162,7 +155,6 @@ fn job_of<F: Files>(alloc: Global, request: Request<'_>, files: &F) -> Result<Jo
             Err(refusal) => Err(refusal),
         },
         Request::Apply(names) => applied(alloc, names, files),
-        Request::Certify { source, target } => certified(alloc, source, target, files),
         Request::Compile { net, printing } => match compiled(alloc, net, printing, files) {
             Ok(text) => Ok(Job::Print(text)),
             Err(refusal) => Err(refusal),

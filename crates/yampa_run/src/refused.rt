@@ -1,7 +1,7 @@
 // What the program prints of a file that is refused.
 
 ghost use Rattle.std.specs.Prelude.{◌≡◌, IfOk, string_bytes};
-ghost use Rattle.yampa_run.specs.RefusalLines.{byte_words, check_words, expression_words, line_on, no_layout_words, none_found_words, not_there_words, place_words, role_words, step_words, text_words, too_large_words, type_words, unread_words};
+ghost use Rattle.yampa_run.specs.RefusalLines.{byte_words, check_words, expression_words, line_on, no_layout_words, not_there_words, place_words, role_words, step_words, text_words, too_large_words, type_words, unread_words};
 
 use crate::printed::push_number;
 use cert_check::CheckFault;
@@ -146,13 +146,6 @@ pub(crate) fn no_layout_line(alloc: Global) -> Result<String, Memory>
     ensures { IfOk result (λ line. string_bytes line ≡ no_layout_words) }
 {
     line_of(alloc, Role::Network, "no layout")
-}
-
-/// The line where no certificate is found.
-pub(crate) fn none_found_line(alloc: Global) -> Result<String, Memory>
-    ensures { IfOk result (λ line. string_bytes line ≡ none_found_words) }
-{
-    line_of(alloc, Role::Certificate, "none found")
 }
 
 /// The line on a certificate that doesn't lead from its source to its target.

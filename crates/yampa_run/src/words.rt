@@ -57,20 +57,21 @@ pub(crate) fn name_of<'a>(alloc: Global, word: Option<&'a str>) -> Result<&'a st
     }
 }
 
-/// Whether names may begin with the word: letters, digits and `_`, at most 32, of which the first is
-/// no digit.
+/// Whether names may begin with the word: letters, digits and `_`, at most 32, which begin neither with
+/// a digit nor with `__`.
 fn is_name(word: &str) -> bool
     ensures { result ≡ is_name word.now }
 {
     word.len() <= MOST_NAME && begins_name(word.as_bytes()) && all_name_bytes(word.as_bytes())
 }
 
-/// Whether there is a first byte, and it is no digit.
+/// Whether there is a first byte, it is no digit, and the first two aren't both `_`.
 fn begins_name(bytes: &[u8]) -> bool
     ensures { result ≡ begins_name bytes.now }
 {
     match bytes {
-        [first, ..] => !first.is_ascii_digit(),
+        [first, second, ..] => !first.is_ascii_digit() && !(*first == b'_' && *second == b'_'),
+        [first] => !first.is_ascii_digit(),
         [] => false,
     }
 }

@@ -9,7 +9,7 @@ returns-clause-asked c = (refl, refl, refl)
 
 pub returns-clause-optimise : goal.returns-clause-optimise
 unfolding clap_on_literals request_in
-returns-clause-optimise c = (refl, refl, refl, refl)
+returns-clause-optimise c = (refl, refl, refl)
 
 pub returns-clause-derivations : goal.returns-clause-derivations
 unfolding clap_on_literals request_in
@@ -21,7 +21,7 @@ returns-clause-places c = (refl, refl, refl)
 
 pub returns-clause-steps : goal.returns-clause-steps
 unfolding clap_on_literals request_in
-returns-clause-steps c = (refl, refl, refl)
+returns-clause-steps c = (refl, refl)
 
 pub returns-clause-help : goal.returns-clause-help
 unfolding clap_on_literals AsksHelp

@@ -15,5 +15,6 @@ returns-in-None c =
 
 pub returns-in-Err : goal.returns-in-Err
 returns-in-Err c =
-    replied _ (map (λ w. w.now) c.args.words.now) c.in-Err.error c.in_ok-make_command.ensures c.in-Err.ensures.kinds c.reply_to-reply.result
-    c.reply_to-reply.ensures
+    c.or_beside.ensures (map (λ w. w.now) c.args.words.now)
+    (replied _ (map (λ w. w.now) c.args.words.now) c.in-Err.error c.in_ok-make_command.ensures c.in-Err.ensures.kinds c.reply_to-reply.result
+    c.reply_to-reply.ensures)
