@@ -6,6 +6,8 @@ import subprocess
 import tempfile
 from pathlib import Path
 
+from workbench.program import answering
+
 # What a call may take: the aim. A call that wants more than the guard is refused it, and one that works longer is ended, since it hangs.
 MEMORY = 200 << 20
 GUARD = 3 << 30
@@ -34,8 +36,9 @@ class Caller:
 
     def call(self, *words, stream=os.devnull):
         """The status of a call that reads the stream, and what it writes on both."""
+        os.environ["YAMPA"] = str(self.program)
         with open(stream, "rb") as samples, tempfile.TemporaryFile() as output, tempfile.TemporaryFile() as error:
-            child = subprocess.Popen([self.program, *words], stdin=samples, stdout=output, stderr=error)
+            child = subprocess.Popen([answering(words), *words], stdin=samples, stdout=output, stderr=error)
             _, status, used = os.wait4(child.pid, 0)
             child.returncode = os.waitstatus_to_exitcode(status)
             for file in output, error:

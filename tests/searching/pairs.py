@@ -44,7 +44,7 @@ def networks():
     yield "doubled 12 times and 16 times as much", doubled, arr("(mul x 16)"), APART
     staged = [arr("(if (less x 9) x (add x 1))")] * 14
     other = [*staged[:3], arr("(if (less x 9) x (add x 7))"), *staged[4:]]
-    yield "14 stages of ifs, one of another number", to_the_right(staged), to_the_right(other), ("gave up: (at 1 1 1 0 0 2 1), ",)
+    yield "14 stages of ifs, one of another number", to_the_right(staged), to_the_right(other), APART
     yield from multiplied()
     yield from looped()
     yield "8,000 clocks, and a sum one late", balanced(["time"] * 8_000), "(>>> integral (iPre 0))", ("gave up: (at 0), ",)
@@ -65,7 +65,7 @@ def multiplied():
     yield "a negated sum", arr(f"(neg {added})"), arr("(add (neg x) -1)"), APART
     terms = [f"(if (less x {k}) {k} x)" for k in range(9)]
     whole = to_the_right(terms, "add")
-    yield "a product of 81 terms", arr(f"(mul {whole} {whole})"), arr(to_the_right([f"(mul {e} {f})" for e in terms for f in terms], "add")), ("gave up: (at",)
+    yield "a product of 81 terms", arr(f"(mul {whole} {whole})"), arr(to_the_right([f"(mul {e} {f})" for e in terms for f in terms], "add")), APART
 
 
 def looped():
@@ -86,7 +86,7 @@ def looped():
     yield "a state that isn't heard", "(loopPre 7 (arr (pair (fst x) (snd x))))", arr("x"), 3
     yield "one beside a state that is", "(loopPre (pair 1 7) (arr (pair (add (fst x) (fst (snd x))) (pair (fst x) (snd (snd x))))))", heard, 120
     yield "two to the left of it", "(loopPre (pair (pair 7 3) 1) (arr (pair (add (fst x) (snd (snd x))) (pair (fst (snd x)) (fst x)))))", heard, 180
-    yield "a count that isn't heard", "(loopPre 7 (arr (pair (fst x) (add (snd x) 1))))", arr("x"), APART
+    yield "a count that isn't heard", "(loopPre 7 (arr (pair (fst x) (add (snd x) 1))))", arr("x"), 120
     for count in 4, 10:
         numbers = range(count)
         stages = [stage for k in numbers for stage in (f"(iPre {k})", arr(f"(add x {k})"))]

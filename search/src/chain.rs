@@ -1,0 +1,161 @@
+//! Chains of stages, and how drafts nest them.
+use crate::draft::{Draft, Path};
+use crate::laws;
+use crate::term::{node, Op, Term};
+
+/// The way to the chain behind so many stages.
+pub fn behind(path: &[u32], stages: usize) -> Path {
+    let mut way = path.to_vec();
+    way.resize(path.len() + stages, 1);
+    way
+}
+
+/// The way to a stage of the chain of so many at a path.
+pub fn stage_way(path: &[u32], stage: usize, count: usize) -> Path {
+    let mut way = behind(path, stage);
+    if stage + 1 < count {
+        way.push(0);
+    }
+    way
+}
+
+/// `(>>> f g)`.
+pub fn seq(f: Term, g: Term) -> Term {
+    node(Op::Seq, &[f, g])
+}
+
+/// The two parts of a chain.
+pub fn parts(chain: Term) -> Option<(Term, Term)> {
+    match (chain.op, chain.kids.as_slice()) {
+        (Op::Seq, &[f, g]) => Some((f, g)),
+        _ => None,
+    }
+}
+
+/// The first k stages of a chain.
+pub fn front(chain: Term, k: usize) -> Option<Term> {
+    match parts(chain) {
+        Some((f, _)) if k == 1 => Some(f),
+        _ if k == 1 => Some(chain),
+        Some((f, rest)) if k > 1 => Some(seq(f, front(rest, k - 1)?)),
+        _ => None,
+    }
+}
+
+/// The chain's first stage.
+pub fn head(chain: Term) -> Term {
+    parts(chain).map_or(chain, |(f, _)| f)
+}
+
+/// The chain's last stage.
+pub fn last(chain: Term) -> Term {
+    let mut found = chain;
+    while let Some((_, rest)) = parts(found) {
+        found = rest;
+    }
+    found
+}
+
+/// What stands behind so many stages of a chain.
+pub fn rest(chain: Term, stages: usize) -> Option<Term> {
+    (0..stages).try_fold(chain, |found, _| parts(found).map(|(_, rest)| rest))
+}
+
+/// How many stages a chain has that is nested to the right.
+pub fn length(chain: Term) -> usize {
+    let mut count = 1;
+    let mut found = chain;
+    while let Some((_, rest)) = parts(found) {
+        found = rest;
+        count += 1;
+    }
+    count
+}
+
+/// How many stages stand before the first that is itself a chain.
+fn before_chain(chain: Term) -> Option<usize> {
+    let mut left = chain;
+    for stages in 0.. {
+        let (f, rest) = parts(left)?;
+        if f.op == Op::Seq {
+            return Some(stages);
+        }
+        left = rest;
+    }
+    None
+}
+
+/// The chain with its first two stages as one.
+fn regrouped(chain: Term) -> Option<Term> {
+    let (f, rest) = parts(chain)?;
+    let (g, h) = parts(rest)?;
+    Some(seq(seq(f, g), h))
+}
+
+impl Draft {
+    /// Whether the chain at a path is nested to the right, or stays low enough when it is.
+    pub fn may_flatten(&self, path: &[u32]) -> Option<bool> {
+        let chain = self.at(path)?;
+        let height = (chain.stages + chain.highest_stage) as usize;
+        Some(before_chain(chain).is_none() || height + path.len() <= self.room)
+    }
+
+    /// Nests the chain at a path to the right; not where it would be too high.
+    pub fn flatten(&mut self, path: &[u32]) -> Option<()> {
+        if !self.may_flatten(path)? {
+            self.budget.cut();
+            return None;
+        }
+        let mut way = path.to_vec();
+        while let Some(stages) = before_chain(self.at(&way)?) {
+            way = behind(&way, stages);
+            self.forward(laws::NEST, &way)?;
+        }
+        Some(())
+    }
+
+    /// Makes k stages of the chain at a path, behind so many, one tree; answers where it stands.
+    pub fn gather(&mut self, path: &[u32], stages: usize, k: usize) -> Option<Path> {
+        let mut way = behind(path, stages);
+        if rest(self.at(&way)?, k).is_none() {
+            return Some(way);
+        }
+        for j in (1..k).rev() {
+            self.regroup(&behind(&way, j - 1))?;
+        }
+        way.push(0);
+        Some(way)
+    }
+
+    /// Nests to the right again what `gather` made one tree.
+    pub fn scatter(&mut self, path: &[u32]) -> Option<()> {
+        let mut way = path.to_vec();
+        while parts(self.at(&way)?).map_or(false, |(f, _)| f.op == Op::Seq) {
+            self.forward(laws::NEST, &way)?;
+            way.push(1);
+        }
+        Some(())
+    }
+
+    /// Makes the first two stages of the chain at a path one.
+    pub fn regroup(&mut self, path: &[u32]) -> Option<()> {
+        let given = regrouped(self.at(path)?)?;
+        self.backward(laws::NEST, path, given)
+    }
+
+    /// Makes `(>>> (first f) (first g))` at a path `(first (>>> f g))`.
+    pub fn join_firsts(&mut self, path: &[u32]) -> Option<()> {
+        let (a, b) = parts(self.at(path)?)?;
+        if a.op != Op::First || b.op != Op::First {
+            return None;
+        }
+        let given = node(Op::First, &[seq(a.kids[0], b.kids[0])]);
+        self.backward(laws::FIRST_CHAIN, path, given)
+    }
+
+    /// Makes `(>>> f (first g))` at a path `(>>> (first g) f)`.
+    pub fn exchange(&mut self, path: &[u32]) -> Option<()> {
+        let (f, g) = parts(self.at(path)?)?;
+        self.backward(laws::EXCHANGE, path, seq(g, f))
+    }
+}

@@ -1,0 +1,514 @@
+//! The search for a network that costs less: its parts first, then the chain that it is, from its right end to its left one.
+//!
+//! At each place of a chain the first move that pays is made, then it goes on at the last stage that this touched. Types aren't looked at
+//! meanwhile: at the end the moves are taken as a check would take them, and one that it would reject is left out.
+use crate::chain::{behind, front, head, length, parts, rest, seq, stage_way};
+use crate::cost::{cost_before, net_cost, Next};
+use crate::draft::{joined, Budget, Clearing, Draft, Path, Step};
+use crate::exprs::{cheap, cheap_in_part};
+use crate::joining::loops_made_one;
+use crate::laws;
+use crate::memo::Memo;
+use crate::moves::{cells_behind, windows, Built, Move, Shape, MOVES, WIDEST};
+use crate::optimise::optimised;
+use crate::print;
+use crate::read::MOST_BYTES;
+use crate::term::{Op, Term};
+use crate::tuning;
+use crate::types::Replay;
+
+/// The most steps of a certificate.
+pub const MOST_STEPS: usize = 10_000;
+
+/// A network, and the steps that lead to it.
+pub type Found = (Term, Vec<Step>);
+
+/// The cheapest network that is found: what the search makes of the source, what `optimise` makes of it, and what the search makes of that.
+/// The source itself, and no step, where none costs less. The last isn't looked for where the first was more than a certificate holds.
+pub fn improved(budget: &Budget, input: Term, source: Term) -> Found {
+    let mut search = Search::new();
+    let mut best = (source, vec![]);
+    take_if_better(&mut best, searched(&mut search, budget, input, source));
+    if let Some((net, steps)) = optimised(input, source).filter(|found| found.0 != source) {
+        if !search.is_full() {
+            let (further, more) = searched(&mut search, budget, input, net);
+            take_if_better(&mut best, (further, [steps.clone(), more].concat()));
+        }
+        take_if_better(&mut best, (net, steps));
+    }
+    if net_cost(best.0) > net_cost(source) / tuning::MOST_LEFT.1 * tuning::MOST_LEFT.0 {
+        let further = cleared_in_part(budget, input, &best);
+        take_if_better(&mut best, further);
+    }
+    best
+}
+
+/// What is found, with expressions that take too many steps cleared up in part.
+fn cleared_in_part(budget: &Budget, input: Term, found: &Found) -> Found {
+    let mut moves = vec![];
+    let mut todo = vec![(found.0, Path::new())];
+    while let Some((tree, path)) = todo.pop() {
+        if tree.op.is_net() {
+            todo.extend(tree.kids.iter().zip(0..).map(|(kid, k)| (*kid, joined(&path, &[k]))));
+        } else if cheap(budget, tree).to == tree {
+            let way = cheap_in_part(budget, tree, MOST_STEPS - found.1.len());
+            moves.push(way.steps().iter().map(|step| step.below(&path)).collect());
+        }
+    }
+    let (net, more) = taken(input, found.0, moves);
+    (net, [found.1.clone(), more].concat())
+}
+
+/// Takes what was found in place of the best so far, where it costs less and is within the limits of certificates.
+fn take_if_better(best: &mut Found, found: Found) {
+    if net_cost(found.0) < net_cost(best.0) && fits(&found.1) {
+        *best = found;
+    }
+}
+
+/// Whether steps are within the limits of certificates.
+fn fits(steps: &[Step]) -> bool {
+    steps.len() <= MOST_STEPS && print::length(steps) <= MOST_BYTES
+}
+
+/// What the search makes of a network, and of that with loops made one, where this costs less and a certificate holds it.
+fn searched(search: &mut Search, budget: &Budget, input: Term, source: Term) -> Found {
+    let before = budget.left();
+    let found = taken(input, source, search.moves(budget, source));
+    let room = search.room;
+    if search.is_full() {
+        return found;
+    }
+    let few = Budget::new(before.saturating_sub(budget.left()) / 4 + tuning::FEW_JOINING);
+    let joined = loops_made_one(&few, found.0);
+    if joined.is_empty() {
+        return found;
+    }
+    let (net, steps) = taken(input, found.0, joined);
+    let (net, more) = taken(input, net, search.moves(&few, net));
+    search.room = room;
+    let all = [found.1.clone(), steps, more].concat();
+    if net_cost(net) < net_cost(found.0) && fits(&all) {
+        (net, all)
+    } else {
+        found
+    }
+}
+
+/// The steps of a draft, by moves.
+fn moves_of(draft: &Draft) -> Vec<Vec<Step>> {
+    let mut begin = 0;
+    let mut moves = vec![];
+    for end in draft.ends.iter().copied().chain([draft.steps.len()]) {
+        moves.push(draft.steps[begin..end].to_vec());
+        begin = end;
+    }
+    moves
+}
+
+/// The network to which the moves lead, as far as a certificate has room for their steps, but for those that a check would reject.
+fn taken(input: Term, source: Term, moves: Vec<Vec<Step>>) -> Found {
+    let mut steps: Vec<Step> = vec![];
+    let mut bytes = 0;
+    let mut replay = match Replay::new(input, source) {
+        Some(replay) => replay,
+        None => return (source, steps),
+    };
+    for made in moves {
+        if let Some(made) = made_again(&replay, &made) {
+            let more = print::length(&made);
+            let is_room = bytes + more <= MOST_BYTES && steps.len() + made.len() <= MOST_STEPS;
+            if is_room && replay.take_all(&made).is_some() {
+                bytes += more;
+                steps.extend(made);
+            }
+        }
+    }
+    (replay.net(), steps)
+}
+
+/// The steps of a move that was found, as it is made of the network where the replay is: what stands behind its stages may be another,
+/// since a move was left out.
+fn made_again(replay: &Replay, made: &[Step]) -> Option<Vec<Step>> {
+    let first = made.first()?;
+    if replay.at(&first.at) == Some(first.before) {
+        return Some(made.to_vec());
+    }
+    let mut draft = Draft::new(&Budget::new(u64::MAX), replay.net(), 0, Clearing::ByCost);
+    for step in made {
+        match (step.law, step.ahead) {
+            (laws::NEST, false) => draft.regroup(&step.at)?,
+            (law, true) => draft.forward(law, &step.at)?,
+            (law, false) => draft.backward(law, &step.at, step.after)?,
+        }
+    }
+    Some(draft.steps)
+}
+
+/// A network in its surroundings: it, what stands behind it, how many frozen networks are in scope, how high it may be, and how deep moves
+/// are made in what moves build.
+type Case = (Term, Next, usize, usize, u32);
+
+/// What is found for each network, how often what moves build is improved yet, and how many steps and bytes a certificate still holds.
+struct Search {
+    room: (usize, usize),
+    shapes: Vec<(&'static Move, Shape)>,
+    tries: u32,
+    built: Memo<Case, Option<Draft>>,
+    parts: Memo<Case, Draft>,
+    fruitless: Memo<Case, ()>,
+}
+
+/// A move that pays, of so many stages, and what it makes of them.
+struct Paying {
+    moved: &'static Move,
+    stages: usize,
+    made: Draft,
+}
+
+fn case_of(draft: &Draft, next: Next, depth: u32) -> Case {
+    let net = draft.net();
+    let enough = (net.stages + net.highest_stage) as usize + tuning::ROOM;
+    (net, next, draft.olds, draft.room.min(enough), depth)
+}
+
+impl Search {
+    fn new() -> Search {
+        let shapes = MOVES.iter().filter(|moved| moved.is_for_cost).map(|moved| (moved, moved.shape())).collect();
+        Search { room: (0, 0), shapes, tries: 0, built: Memo::default(), parts: Memo::default(), fruitless: Memo::default() }
+    }
+
+    /// The moves that make a network cost less.
+    fn moves(&mut self, budget: &Budget, net: Term) -> Vec<Vec<Step>> {
+        self.tries = tuning::MOST_TRIES;
+        self.room = (MOST_STEPS, MOST_BYTES);
+        let mut draft = Draft::new(budget, net, 0, Clearing::ByCost);
+        self.improve(&mut draft, Next::Nothing);
+        moves_of(&draft)
+    }
+
+    /// Counts steps that were found, not those of what stands in the network.
+    fn count(&mut self, steps: &[Step]) {
+        self.room = (self.room.0.saturating_sub(steps.len()), self.room.1.saturating_sub(print::length(steps)));
+    }
+
+    /// Whether a certificate holds no more than was found.
+    fn is_full(&self) -> bool {
+        self.room.0 == 0 || self.room.1 == 0
+    }
+
+    /// Improves a network and what stands in it. A chain that would be too high where it is nested to the right is improved in the two
+    /// parts that it is made of.
+    fn improve(&mut self, draft: &mut Draft, next: Next) -> Option<()> {
+        let is_low = draft.may_flatten(&[])?;
+        if draft.net().op == Op::Seq && is_low {
+            self.improve_stages(draft)?;
+        } else {
+            self.improve_children(draft)?;
+        }
+        if !draft.may_flatten(&[])? {
+            return Some(());
+        }
+        let before = draft.steps.len();
+        let done = self.settle(draft, next, tuning::MOST_BUILT);
+        self.count(&draft.steps[before..]);
+        done
+    }
+
+    /// Improves the stages of the chain, from the last to the first.
+    fn improve_stages(&mut self, chain: &mut Draft) -> Option<()> {
+        chain.flatten(&[])?;
+        self.count(&chain.steps);
+        chain.end_move();
+        let count = length(chain.net());
+        (0..count).rev().try_for_each(|stage| self.improve_part(chain, &stage_way(&[], stage, count), Next::Nothing))
+    }
+
+    /// Improves the children of the network.
+    fn improve_children(&mut self, draft: &mut Draft) -> Option<()> {
+        let net = draft.net();
+        let next = if net.op == Op::LoopPre { Next::Feedback } else { Next::Nothing };
+        for (kid, k) in net.kids.iter().zip(0u32..) {
+            if kid.op.is_net() {
+                self.improve_part(draft, &[k], next)?;
+            } else {
+                let before = draft.steps.len();
+                draft.clear(&[k])?;
+                self.count(&draft.steps[before..]);
+                draft.end_move();
+            }
+        }
+        Some(())
+    }
+
+    /// Improves the network at a path.
+    fn improve_part(&mut self, draft: &mut Draft, path: &[u32], next: Next) -> Option<()> {
+        if self.is_full() || !draft.budget.spend(1) {
+            return Some(());
+        }
+        let mut inner = draft.inner(path)?;
+        let case = case_of(&inner, next, 0);
+        if let Some(done) = self.parts.get(&case) {
+            draft.adopt_moves(path, done)?;
+            let steps = done.steps.clone();
+            self.count(&steps);
+            return Some(());
+        }
+        self.improve(&mut inner, next)?;
+        draft.adopt_moves(path, &inner)?;
+        if inner.steps.len() <= tuning::MOST_KEPT {
+            self.parts.insert(case, inner);
+        }
+        Some(())
+    }
+
+    /// Makes moves in the chain, from its right end to its left one, as long as one pays.
+    fn settle(&mut self, chain: &mut Draft, next: Next, depth: u32) -> Option<()> {
+        chain.flatten(&[])?;
+        chain.end_move();
+        let mut stages = Stages::of(chain.net());
+        let mut place = stages.count();
+        for _ in 0..tuning::MOST_PLACES {
+            if place == 0 || self.is_full() || !chain.budget.spend(place as u64) {
+                break;
+            }
+            place -= 1;
+            if let Some(paying) = self.find(chain, stages.from(place), next, depth) {
+                let reach = place + 1 + paying.stages;
+                let count = stages.count();
+                stages.put(place, &paying)?;
+                place = (reach + stages.count()).saturating_sub(count).min(stages.count());
+            }
+        }
+        stages.end(chain)
+    }
+
+    /// The first move that pays at the first stages here.
+    fn find(&mut self, chain: &Draft, here: Term, next: Next, depth: u32) -> Option<Paying> {
+        let case = self.surroundings(chain, here, next, depth);
+        if case.map_or(false, |case| self.fruitless.contains_key(&case)) {
+            return None;
+        }
+        let windows = windows(here);
+        let found = (0..self.shapes.len()).find_map(|k| {
+            let (moved, shape) = &self.shapes[k];
+            let (moved, window) = (*moved, shape.of(here, &windows)?);
+            let stages = length(window);
+            let made = self.attempt(chain, here, moved, window, next, depth)?;
+            Some(Paying { moved, stages, made })
+        });
+        if let (None, Some(case), true) = (&found, case, chain.budget.left() > 0) {
+            self.fruitless.insert(case, ());
+        }
+        found
+    }
+
+    /// All that moves look at here, where that isn't more than they do but for one along cells.
+    fn surroundings(&self, chain: &Draft, here: Term, next: Next, depth: u32) -> Option<Case> {
+        if cells_behind(here) + 2 > WIDEST {
+            return None;
+        }
+        match front(here, WIDEST + 1) {
+            Some(seen) => Some((seen, Next::Nothing, chain.olds, chain.room, depth)),
+            None => Some((here, next, chain.olds, chain.room, depth)),
+        }
+    }
+
+    /// What the move makes of the first stages here, where that pays.
+    fn attempt(&mut self, chain: &Draft, here: Term, moved: &Move, window: Term, next: Next, depth: u32) -> Option<Draft> {
+        if !chain.budget.spend(tuning::MOVE) {
+            return None;
+        }
+        let mut made = Draft::new(&chain.budget, window, chain.olds, chain.clearing);
+        made.room = chain.room;
+        moved.make(&mut made)?;
+        self.improve_built(&mut made, moved.built, depth)?;
+        made.flatten(&[])?;
+        let behind = match rest(here, length(window)) {
+            Some(more) => Next::Stage(head(more)),
+            None => next,
+        };
+        Some(made).filter(|made| cost_before(made.net(), behind) < cost_before(window, behind))
+    }
+
+    /// Improves the networks that a move built.
+    fn improve_built(&mut self, made: &mut Draft, built: Built, depth: u32) -> Option<()> {
+        match built {
+            Built::Nothing => Some(()),
+            Built::Inside(path) => self.improve_at(made, path, Next::Nothing, depth),
+            Built::Body => self.improve_at(made, &[1], Next::Feedback, depth),
+            Built::Both => {
+                self.improve_at(made, &[0], Next::Nothing, depth)?;
+                self.improve_at(made, &[1], Next::Nothing, depth)
+            }
+            Built::Members => {
+                let members = made.net().kids.len() as u32;
+                (0..members).try_for_each(|k| self.improve_at(made, &[k], Next::Nothing, depth))
+            }
+        }
+    }
+
+    /// Improves the chain at a path, whose stages are improved but for the expressions of its `arr`s.
+    fn improve_at(&mut self, made: &mut Draft, path: &[u32], next: Next, depth: u32) -> Option<()> {
+        if depth == 0 {
+            return Some(());
+        }
+        let mut inner = made.inner(path)?;
+        let case = case_of(&inner, next, depth);
+        if let Some(done) = self.built.get(&case) {
+            return made.adopt(path, done.as_ref()?);
+        }
+        if self.tries == 0 {
+            return Some(());
+        }
+        self.tries -= 1;
+        let done = clear_stages(&mut inner).and_then(|()| self.settle(&mut inner, next, depth - 1));
+        let found = done.and_then(|()| made.adopt(path, &inner));
+        if inner.steps.len() <= tuning::MOST_KEPT {
+            self.built.insert(case, done.map(|()| inner));
+        }
+        found
+    }
+}
+
+/// Improves the expressions of the chain's `arr`s.
+fn clear_stages(chain: &mut Draft) -> Option<()> {
+    chain.flatten(&[])?;
+    let count = length(chain.net());
+    for stage in 0..count {
+        let way = stage_way(&[], stage, count);
+        if chain.arr_at(&way).is_some() {
+            chain.clear(&joined(&way, &[0]))?;
+        }
+    }
+    Some(())
+}
+
+/// The stages of a chain that is rewritten, with the steps so far. Only what stands from a place on is made a chain again.
+struct Stages {
+    stages: Vec<Term>,
+    /// The chains of the last stage, the last two, and so on, as far as they were asked for.
+    rests: Vec<Term>,
+    moves: Vec<Vec<Step>>,
+}
+
+impl Stages {
+    /// The stages of a chain that is nested to the right.
+    fn of(chain: Term) -> Stages {
+        Stages { stages: stages_of(chain), rests: vec![], moves: vec![] }
+    }
+
+    fn count(&self) -> usize {
+        self.stages.len()
+    }
+
+    /// The chain from a place on.
+    fn from(&mut self, place: usize) -> Term {
+        while self.rests.len() < self.count() - place {
+            let stage = self.stages[self.count() - 1 - self.rests.len()];
+            self.rests.push(self.rests.last().map_or(stage, |more| seq(stage, more)));
+        }
+        self.rests[self.count() - 1 - place]
+    }
+
+    /// Puts what a move makes in place of the stages, where so many stand before.
+    fn put(&mut self, place: usize, paying: &Paying) -> Option<()> {
+        let Paying { moved, stages, made } = paying;
+        let behind_them = self.count() - place - stages;
+        let mut here = Draft::new(&Budget::new(u64::MAX), self.from(place), made.olds, made.clearing);
+        if moved.fuses() && made.net().op == Op::Arr && behind_them > 0 {
+            // In place of its first step, which makes one `arr` of two, the law that has a stage behind them.
+            here.forward(laws::FUSE_FRONT, &[])?;
+            here.took(&[0], made.net(), &made.steps[1..])?;
+        } else {
+            let whole = here.gather(&[], 0, *stages)?;
+            here.adopt(&whole, made)?;
+            here.scatter(&[])?;
+        }
+        self.stages.splice(place..place + stages, stages_of(made.net()));
+        self.rests.truncate(behind_them);
+        let way = behind(&[], place);
+        self.moves.push(here.steps.iter().map(|step| step.below(&way)).collect());
+        Some(())
+    }
+
+    /// Puts the stages and the moves into the draft of the chain.
+    fn end(mut self, chain: &mut Draft) -> Option<()> {
+        let whole = self.from(0);
+        for steps in &self.moves {
+            chain.took(&[], whole, steps)?;
+            chain.end_move();
+        }
+        Some(())
+    }
+}
+
+/// The stages of a chain that is nested to the right.
+fn stages_of(chain: Term) -> Vec<Term> {
+    let mut stages = vec![];
+    let mut found = chain;
+    while let Some((f, more)) = parts(found) {
+        stages.push(f);
+        found = more;
+    }
+    stages.push(found);
+    stages
+}
+
+#[cfg(test)]
+mod tests {
+    use super::*;
+    use crate::read::read_file;
+    use crate::types::lead;
+
+    /// What is found for a network of numbers, by steps that a check takes.
+    fn found(net: &str) -> (Term, Term) {
+        let read = |net: &str| read_file(format!("yampa 1 input Int {}", net).as_bytes()).expect("a network");
+        let (input, net) = read(net);
+        let (better, steps) = improved(&Budget::new(tuning::MOST_IMPROVING), input, net);
+        assert!(lead(input, net, better, &steps));
+        assert!(net_cost(better) <= net_cost(net));
+        (net, better)
+    }
+
+    fn is_found(net: &str, better: &str) {
+        let wanted = read_file(format!("yampa 1 input Int {}", better).as_bytes()).expect("a network").1;
+        assert_eq!(print::text_of(found(net).1), print::text_of(wanted));
+    }
+
+    #[test]
+    fn forms_of_moves_are_read() {
+        assert!(MOVES.iter().all(|moved| match moved.shape() {
+            Shape::Stages(count, _) => (1..=crate::moves::WIDEST).contains(&count),
+            Shape::Cells => true,
+        }));
+    }
+
+    #[test]
+    fn stages_become_one() {
+        is_found("(>>> (arr (add x 1)) (arr (add x 2)))", "(arr (add x 3))");
+        is_found("(>>> (>>> time (iPre 0)) (>>> (arr x) time))", "time");
+    }
+
+    #[test]
+    fn what_never_switches_is_what_runs() {
+        let sum = "(loopPre 0 (arr (pair (add (fst x) (snd x)) (fst x))))";
+        is_found(&format!("(switch (>>> {} (arr (pair x (none Int)))) time)", sum), sum);
+    }
+
+    #[test]
+    fn members_that_nobody_hears_go() {
+        is_found("(>>> (parB integral time) (arr (add (nth x 0 0) 1)))", "(>>> integral (arr (add x 1)))");
+        let two = "(arr (add (nth x 0 0) (nth x 1 0)))";
+        is_found(
+            "(>>> (parB integral (delay 9 0) time) (arr (add (nth x 0 0) (nth x 2 0))))",
+            &format!("(>>> (parB integral time) {})", two),
+        );
+    }
+
+    #[test]
+    fn a_network_that_is_as_cheap_as_it_gets_stays() {
+        let (net, better) = found("(>>> integral (iPre 7))");
+        assert_eq!(net, better);
+    }
+}
