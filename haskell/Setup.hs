@@ -1,4 +1,0 @@
-import Distribution.Simple
-
-main :: IO ()
-main = defaultMain
