@@ -1,0 +1,1 @@
+"""What tests/haskell tries files of Haskell with."""
