@@ -1,9 +1,11 @@
-"""What the wrapper `yampa` adds to a line of the program: why a file can't be read, and which tools there are beside its commands."""
+"""What the wrapper `yampa` adds to a line of the program: why a file can't be read, where in it a byte is, what a mistyped word may be meant
+for, and which tools there are beside its commands."""
 from __future__ import annotations
 
 import difflib
 import os
 import re
+import shlex
 from pathlib import Path
 
 LIST = Path(__file__).resolve().parents[1] / "list"
@@ -11,6 +13,9 @@ LIST = Path(__file__).resolve().parents[1] / "list"
 FILES = {"types": 1, "run": 1, "outline": 1, "laws": 1, "optimise": 1, "improve": 1, "apply": 2, "certify": 2, "check": 3, "run-checked": 3}
 FILES |= {"compile": 1, "compile-checked": 3}
 PLACES = {"network": 0, "source": 0, "target": 1, "certificate": -1}
+# What else may be meant by a first word, and how like it a word must be.
+OPTIONS = ["--version", "--help"]
+ENOUGH = 0.65
 # The options behind which a value stands.
 VALUED = ["--at", "--first", "--name", "--most"]
 
@@ -39,15 +44,38 @@ def tools() -> dict[str, str]:
 def advice(said: str, words: list[str]) -> str | None:
     """What is added to what the program said of these words, in a line, or None."""
     role, _, fault = said.strip().partition(": ")
-    if fault == "cannot be read" and role in PLACES:
+    if role in PLACES:
         places, _ = named_files(words)
-        return unread(words[places[PLACES[role]]])
-    if "unrecognized subcommand" in said or not words:
-        wrong = re.search("subcommand '(.*)'", said)
-        near = difflib.get_close_matches(wrong[1], [*FILES, *tools()], 1) if wrong else []
-        meant = f"; did you mean {near[0]}?" if near else ""
-        return f"there are tools beside these commands: {', '.join(tools())}{meant}"
+        names = [words[place] for place in places]
+        return unread(names[PLACES[role]]) if fault == "cannot be read" else placed(names, PLACES[role], fault)
+    if not words:
+        return "--help lists the commands, and the tools beside them"
+    if wrong := re.search("unrecognized subcommand '(.*)'", said):
+        near = difflib.get_close_matches(wrong[1], [*FILES, *tools(), *OPTIONS], 1, ENOUGH)
+        return f"did you mean {near[0]}?" if near else f"there are tools beside the commands: {', '.join(tools())}"
+    if words[0] == "-v":
+        return "did you mean --version?"
+    if words[0] == "laws" and "--at" in words:
+        return "a position is one word: --at '(at 0 1)'"
     return None
+
+
+def placed(names: list[str], number: int, fault: str) -> str | None:
+    """Where the byte is that a fault names in one of these files, and which tool shows it there."""
+    byte, name = re.search(r" at byte (\d+)$", fault), as_called(names[number])
+    if byte is None or name.startswith("/dev/"):
+        return None
+    try:
+        with open(names[number], "rb") as file:
+            before = file.read(int(byte[1]))
+    except OSError:
+        return None
+    line = before.count(b"\n") + 1
+    column = len(before[before.rfind(b"\n") + 1 :].decode(errors="replace")) + 1
+    # The tool takes a network, or all that a certificate is checked with, as files that can be read again.
+    asked = names if len(names) == 3 else names[number : number + 1] if number == 0 else []
+    is_kept = asked and all(os.path.isfile(name) and not name.startswith("/dev/") for name in asked)
+    return f"{name}:{line}:{column}" + (f": ./yampa explain {shlex.join(asked)} shows it" if is_kept else "")
 
 
 def tools_listed() -> str:

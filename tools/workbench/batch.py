@@ -1,4 +1,5 @@
 """Many recordings through one network: each one's output, or whether it is what was expected."""
+import contextlib
 import itertools
 import os
 import subprocess
@@ -11,12 +12,16 @@ from collections.abc import Iterable, Iterator
 from concurrent.futures import ThreadPoolExecutor
 from dataclasses import dataclass
 from pathlib import Path
+from typing import Any
 
 from workbench import remote
-from workbench.cluster import RETRIES, connected, in_order, last_line, program_bytes, result_of
+from workbench.cluster import IN_FLIGHT, RETRIES, connected, in_order, last_line, program_bytes, result_of, sent
 from workbench.ending import REFUSED, UNREADABLE, WRONG_WORDS, Refused, Words, read, unreadable
+from workbench.native import c_of, make_room, program_of, room_of
 from workbench.program import again, answered, path
 
+# How many recordings are one task of a cluster, at most, and how many bytes of them are enough for one.
+MOST_TOGETHER, SHORT = 50, 1 << 18
 RIGHT, REFUSED_ROW, DIFFERENT, UNREAD = "as expected", "refused", "different", "unreadable"
 
 
@@ -76,58 +81,133 @@ def recordings_in(file: Path) -> Iterator[Recording]:
     yield from (Recording(str(path.relative_to(file)), path) for path in below)
 
 
+@dataclass(frozen=True)
+class Command:
+    """What runs a recording: its words, in which numbers stand for files, and the bytes of stack that it takes, if it tells them."""
+
+    words: list[int | str]
+    files: list[str]
+    stack: int = 0
+
+    def here(self) -> list[str]:
+        return [self.files[word] if isinstance(word, int) else word for word in self.words]
+
+
+def interpreted(net: str) -> Command:
+    return Command([0, "run", 1], [path(), net])
+
+
+@contextlib.contextmanager
+def compiled(net: str) -> Iterator[Command]:
+    """A network's own program."""
+    with program_of(c_of(net, None)) as (program, stack):
+        yield Command([0], [program], room_of(stack))
+
+
 # ---- here
 
 
-def run_here(program: str, net: str, recording: Recording, folder: Path) -> Ran:
+def run_here(command: Command, recording: Recording, folder: Path) -> Ran:
     """A run on this machine, whose output goes into a file of that folder."""
     output, began = folder / recording.name.replace("/", "\x1f"), time.perf_counter()
     try:
         with open(recording.file, "rb") as stream, open(output, "wb") as file:
-            ran = subprocess.run([program, "run", net], stdin=stream, stdout=file, stderr=subprocess.PIPE, check=False)
+            ran = subprocess.run(command.here(), stdin=stream, stdout=file, stderr=subprocess.PIPE, check=False)
     except OSError as error:
         output.touch()
         return Ran(UNREADABLE, output, str(unreadable(str(recording.file), error)), 0.0)
     return Ran(ran.returncode, output, last_line(ran.stderr.decode(errors="replace")), time.perf_counter() - began)
 
 
-def all_here(net: str, recordings: list[Recording], folder: Path, jobs: int) -> Iterator[Ran]:
+def all_here(command: Command, recordings: list[Recording], folder: Path, jobs: int) -> Iterator[Ran]:
     """The runs in their order, so many at once."""
+    make_room(command.stack)
     with ThreadPoolExecutor(jobs) as pool:
         try:
-            yield from pool.map(lambda one: run_here(path(), net, one, folder), recordings)
+            yield from pool.map(lambda one: run_here(command, one, folder), recordings)
         except BaseException:
             pool.shutdown(wait=False, cancel_futures=True)
             raise
 
 
+def confirm(command: Command, net: str, recordings: list[Recording], folder: Path) -> None:
+    """Looks whether `run` tells of the first recording what the compiled network does."""
+    make_room(command.stack)
+    for one in recordings[:1]:
+        wanted, found = ((ran, ran.output.read_bytes()) for ran in (run_here(how, one, folder) for how in (interpreted(net), command)))
+        if (wanted[0].status, wanted[0].fault, wanted[1]) != (found[0].status, found[0].fault, found[1]):
+            raise Refused(f"the compiled network doesn't do on {one.name} what `run` does", UNREADABLE)
+
+
 # ---- on a cluster
 
 
-def all_there(address: str, net: str, recordings: list[Recording], folder: Path) -> Iterator[Ran]:
-    """The runs in their order, on the workers of a Dask scheduler."""
-    program = program_bytes()
+def all_there(address: str, command: Command, recordings: list[Recording], folder: Path) -> Iterator[Ran]:
+    """The runs in their order, on the workers of a Dask scheduler: many short ones are one task."""
+    files = [sent(program_bytes() if file == path() else read(file)) for file in command.files]
     with connected(address) as client:
-        held = [client.submit(remote.held, data) for data in (program, read(net))]
-        yield from in_order(client, recordings, lambda one: begun(client, held, one), lambda one, future: come_back(one, future, folder))
+        held = [client.submit(remote.held, file) for file in files]
+        fair = len(recordings) // (IN_FLIGHT * max(1, sum(client.nthreads().values())))
+        tasks = map(task_of, groups(recordings, min(max(fair, 1), MOST_TOGETHER)))
+
+        def begin(task: Task) -> Any:
+            return client.submit(remote.runs_there, command.words, command.stack, task.streams, *held, pure=False, retries=RETRIES)
+
+        for runs in in_order(client, tasks, begin, lambda task, future: come_back(task, future, folder)):
+            yield from runs
 
 
-def begun(client, held, recording: Recording):
-    """A run that is under way on a worker, or why there is none."""
+def groups(recordings: list[Recording], most: int) -> Iterator[list[Recording]]:
+    """At most so many of them together, as long as they are short."""
+    group: list[Recording] = []
+    size = 0
+    for one in recordings:
+        with contextlib.suppress(OSError):
+            size += one.file.stat().st_size
+        group.append(one)
+        if len(group) == most or size > SHORT:
+            yield group
+            group, size = [], 0
+    if group:
+        yield group
+
+
+@dataclass(frozen=True)
+class Task:
+    """Recordings that are run together: for each why it can't be read, or None; and what the others hold, squeezed."""
+
+    recordings: list[Recording]
+    faults: list[Refused | None]
+    streams: list[bytes]
+
+
+def task_of(group: list[Recording]) -> Task:
+    task = Task(group, [], [])
+    for one in group:
+        try:
+            task.streams.append(zlib.compress(one.file.read_bytes(), 1))
+            task.faults.append(None)
+        except OSError as error:
+            task.faults.append(unreadable(str(one.file), error))
+    return task
+
+
+def come_back(task: Task, future: Any, folder: Path) -> list[Ran]:
+    """The runs of a task, whose outputs go into files of that folder."""
+    faults = task.faults
     try:
-        stream = zlib.compress(recording.file.read_bytes(), 1)
-    except OSError as error:
-        return unreadable(str(recording.file), error)
-    return client.submit(remote.run_there, *held, stream, pure=False, retries=RETRIES)
-
-
-def come_back(recording: Recording, future, folder: Path) -> Ran:
-    output = folder / recording.name.replace("/", "\x1f")
-    try:
-        status, squeezed, told, seconds = result_of(future)
+        answers = iter(result_of(future))
     except Refused as refused:
+        faults = [fault or refused for fault in faults]
+    outputs = [folder / one.name.replace("/", "\x1f") for one in task.recordings]
+    return [ran_there(output, fault, () if fault else next(answers)) for output, fault in zip(outputs, faults)]
+
+
+def ran_there(output: Path, fault: Refused | None, answer: tuple) -> Ran:
+    if fault:
         output.touch()
-        return Ran(UNREADABLE, output, str(refused), 0.0)
+        return Ran(UNREADABLE, output, str(fault), 0.0)
+    status, squeezed, told, seconds = answer
     output.write_bytes(zlib.decompress(squeezed))
     return Ran(status, output, last_line(told), seconds)
 
@@ -191,7 +271,8 @@ def told_rows(rows: Iterable[Row], count: int) -> Counter:
     return tally
 
 
-ABOUT = """Runs many recordings through one network, on all processors of this machine or on a Dask cluster.
+ABOUT = """Runs many recordings through one network, on all processors of this machine or on a Dask cluster. With --native it is
+compiled once, as `yampa native` does, and that program runs them: of the first recording it must tell what `run` does.
 
 It prints one row for each, with tabs between: the recording's name, the number of samples answered, the status, the
 seconds, and a remark: the error, or with --expect whether the output is as expected, else the first difference. The last
@@ -206,6 +287,7 @@ def arguments():
     words.add_argument("--out", metavar="FOLDER", type=Path, help="writes each output there, under the recording's name")
     words.add_argument("--expect", metavar="FOLDER", type=Path, help="compares each output with the file of that name there")
     words.add_argument("--jobs", metavar="N", type=int, default=len(os.sched_getaffinity(0)), help="how many run at once, each on a processor")
+    words.add_argument("--native", action="store_true", help="runs the network as a compiled program")
     words.add_argument("--cluster", metavar="ADDRESS", help="the Dask scheduler whose workers run them, such as 127.0.0.1:8786")
     given = words.parse_args()
     if given.jobs < 1:
@@ -217,9 +299,12 @@ def main() -> None:
     given = arguments()
     recordings, net = recordings_of(given.recordings), again(given.net)
     answered(["types", net])
-    with tempfile.TemporaryDirectory(prefix=".yampa-batch-", dir=made(given.out)) as name:
+    how = compiled(net) if given.native else contextlib.nullcontext(interpreted(net))
+    with how as command, tempfile.TemporaryDirectory(prefix=".yampa-batch-", dir=made(given.out)) as name:
         folder = Path(name)
-        runs = all_there(given.cluster, net, recordings, folder) if given.cluster else all_here(net, recordings, folder, given.jobs)
+        if given.native:
+            confirm(command, net, recordings, folder)
+        runs = all_there(given.cluster, command, recordings, folder) if given.cluster else all_here(command, recordings, folder, given.jobs)
         tally = told_rows(rows_of(recordings, runs, given), len(recordings))
     counts = ", ".join(f"{count} {kind}" for kind, count in sorted(tally.items()) if given.expect or kind != RIGHT)
     print(f"{len(recordings)} recordings" + (f": {counts}" if counts else ""))

@@ -1,5 +1,6 @@
 """Work that is handed to the workers of a Dask scheduler: what comes back does so in order, and a worker that dies loses nothing."""
 import contextlib
+import hashlib
 import itertools
 import logging
 import sys
@@ -17,6 +18,11 @@ from workbench.program import path
 IN_FLIGHT, RETRIES = 4, 3
 One = TypeVar("One")
 Back = TypeVar("Back")
+
+
+def sent(data: bytes) -> remote.Sent:
+    """What is sent along, with its sum."""
+    return hashlib.sha256(data).hexdigest(), data
 
 
 def program_bytes() -> bytes:
@@ -63,13 +69,11 @@ def in_order(client: Any, items: Iterable[One], begin: Callable[[One], Any], fin
                 return
             yield finish(*waiting.popleft())
     finally:
-        client.cancel([future for _, future in waiting if not isinstance(future, Refused)])
+        client.cancel([future for _, future in waiting])
 
 
 def result_of(future: Any) -> Any:
     """What a worker answered, or why it didn't."""
-    if isinstance(future, Refused):
-        raise future
     try:
         return future.result()
     except Exception as error:  # pylint: disable=broad-exception-caught

@@ -5,10 +5,12 @@ import tempfile
 from collections.abc import Iterator
 from itertools import zip_longest
 
+from front.spell import shape_of, spelt
 from model.trees import shown
 from workbench.ending import REFUSED, UNREADABLE, Refused, Words, pieces
 from workbench.program import Run, Told, again
 from workbench.recording import lines_of, types_of
+from workbench.signals import values_of
 
 COMPARE = """Prints the first sample of the stream on standard input at which two networks differ, with both
 outputs, and whether one of them stops there. The status is 1 if they differ, else 0. If one of them
@@ -30,8 +32,12 @@ def difference(first, second):
     return number, None
 
 
-def said(line: bytes | None) -> str:
-    return "nothing" if line is None else line.decode(errors="replace")
+def said(line: bytes | None, type_) -> str:
+    """An output of this type, in the words of its file where that has some."""
+    if line is None:
+        return "nothing"
+    shape = shape_of(type_)
+    return spelt(values_of([line])[0], shape) if shape is not None else line.decode(errors="replace")
 
 
 def same_types(source: str, target: str) -> tuple:
@@ -87,11 +93,11 @@ def compare_main() -> None:
     given = words.parse_args()
     names = [given.source, given.target]
     paths = [again(name) for name in names]
-    same_types(*paths)
+    _, output = same_types(*paths)
     same, found, fault = compared(names, paths)
     if found:
         number, mine, other = found
-        print(f"line {number}: {said(mine)} and {said(other)}")
+        print(f"line {number}: {said(mine, output)} and {said(other, output)}")
         sys.exit(REFUSED)
     if fault:
         raise Refused(f"the same on {same} samples, and then {fault}")

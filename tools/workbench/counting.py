@@ -9,7 +9,7 @@ from model.texts import read_stream
 from model.trees import children, head, is_network, preorder
 from model.typed import check_types
 from workbench.ending import REFUSED, UNREADABLE, Refused, missing, stream_bytes
-from workbench.origin import Program
+from workbench.origin import Haskell, Program
 from workbench.program import call
 
 try:
@@ -86,29 +86,27 @@ def count_in(machine: Machine, counts: Counts) -> None:
         count_in(part, counts)
 
 
-class Run:
-    """A network that counts its parts on one recording after the other."""
+class Counted:
+    """A network that counts its parts."""
+
+    state: Tree
 
     def __init__(self, program: Program):
-        self.program, self.tree = program, program.file.tree
-        terms = Terms()
-        self.counts, self.terms = Counts(terms), terms
-        self.given = program.file.input
+        self.program, self.tree, self.given = program, program.file.tree, program.file.input
+        self.terms = Terms()
+        self.counts = Counts(self.terms)
         self.machine = machine_of(check_types(self.given, self.tree))
         count_in(self.machine, self.counts)
-        self.env = Counting(terms, counts=self.counts)
+        self.env = Counting(self.terms, counts=self.counts)
 
-    def hear(self, recording: str) -> str:
-        """Counts a recording's samples; what is wrong with it, or nothing."""
-        stream = stream_bytes(recording)
-        told = call(["run", self.program.path()], stream)
-        if told.status not in (0, REFUSED):
-            raise Refused(f"{recording}: {told.fault()}", UNREADABLE)
-        state, answers = self.machine.start(self.env), told.output.count(b"\n")
-        for step, sample in read_stream(stream, self.given)[0][:answers]:
-            self.terms.steps = 0
-            _, state = self.machine.step(state, step, encoded(sample, self.given), self.env)
-        return f"{recording}: {told.fault()}" if told.status else ""
+    def begin(self) -> None:
+        self.state = self.machine.start(self.env)
+
+    def step(self, step: int, sample: Tree) -> Tree:
+        """What it outputs at a sample."""
+        self.terms.steps = 0
+        output, self.state = self.machine.step(self.state, step, sample, self.env)
+        return output
 
     def totals(self) -> dict[Position, int]:
         """How often each part was run; a constant as often as its network."""
@@ -124,6 +122,33 @@ class Run:
             self.add_totals(child, (*position, number), count, runs, found)
 
 
+class Run:
+    """A network, and what a file of Haskell says of it, on one recording after the other."""
+
+    def __init__(self, program: Program):
+        self.network = Counted(program)
+        stated = program.translation.stated if isinstance(program, Haskell) else []
+        self.properties = [(one.kind, Counted(program.with_network(one.network))) for one in stated]
+
+    def networks(self) -> list[Counted]:
+        return [self.network, *[one for _, one in self.properties]]
+
+    def hear(self, recording: str) -> str:
+        """Counts a recording's samples; what is wrong with it, or nothing."""
+        stream, given = stream_bytes(recording), self.network.given
+        told = call(["run", self.network.program.path()], stream)
+        if told.status not in (0, REFUSED):
+            raise Refused(f"{recording}: {told.fault()}", UNREADABLE)
+        for network in self.networks():
+            network.begin()
+        for step, sample in read_stream(stream, given)[0][: told.output.count(b"\n")]:
+            heard = encoded(sample, given)
+            output = self.network.step(step, heard)
+            for kind, one in self.properties:
+                one.step(step, heard if kind == "assume" else ("pair", heard, output))
+        return f"{recording}: {told.fault()}" if told.status else ""
+
+
 def counts_of(program: Program, recordings: list[str]) -> dict[Position, int]:
     """How often the recordings run each network, by its position."""
     run = Run(program)
@@ -131,5 +156,5 @@ def counts_of(program: Program, recordings: list[str]) -> dict[Position, int]:
         fault = run.hear(recording)
         if fault:
             raise Refused(fault)
-    totals = run.totals()
-    return {position: totals[position] for position, tree in preorder(run.tree) if is_network(tree)}
+    totals = run.network.totals()
+    return {position: totals[position] for position, tree in preorder(run.network.tree) if is_network(tree)}

@@ -18,13 +18,14 @@ WIDEST = 200
 def reached(run: Run) -> dict[tuple, tuple[Place, int]]:
     """Each piece of a file in which a part is written, and how often one that is written there was run."""
     found: dict[tuple, tuple[Place, int]] = {}
-    keys: dict[Position, tuple] = {}
-    for position, count in run.totals().items():
-        place = run.program.place_of(position)
-        keys[position] = key = (place.text.name, place.start, place.end)
-        # What a shorter way means stands where that does, and is counted once.
-        if not position or keys[position[:-1]] != key:
-            found[key] = (place, found.get(key, (place, 0))[1] + count)
+    for network in run.networks():
+        keys: dict[Position, tuple] = {}
+        for position, count in network.totals().items():
+            place = network.program.place_of(position)
+            keys[position] = key = (place.text.name, place.start, place.end)
+            # What a shorter way means stands where that does, and is counted once.
+            if not position or keys[position[:-1]] != key:
+                found[key] = (place, found.get(key, (place, 0))[1] + count)
     return found
 
 
@@ -54,9 +55,10 @@ def listing(name: str, data: bytes, places: list[tuple[Place, int]], never: list
     return lines
 
 
-ABOUT = """Counts how often some recordings run each part of NET: its branches, what its switches start, its members.
+ABOUT = """Counts how often some recordings run each part of NET: its branches, what its switches start, its members; and of what a
+file of Haskell says should hold.
 
-It prints the lines of the network's file, or of the files with names that it is made of, each after the number of runs of
+It prints the lines of the network's file, or of the files of Haskell that it is made of, each after the number of runs of
 the part that begins there. What was never run is underlined. The last line has the totals. With --all the status is 1 if a
 part was never run. The counts come from a run in Python, over as many samples as the program answers; they are not proved.
 Needs Debian's package python3-z3, whose numbers are replaced by plain ones here."""

@@ -8,7 +8,7 @@ from typing import Any, Optional
 from model.trees import SWAP, at_text, children, head, shown
 from workbench.layout import laid_out
 from workbench.outline import SWITCHES, Network, scope_of
-from workbench.records import shown_type
+from front.spell import shown_type
 from workbench.shorter import EDGE, shortened
 from workbench.signals import Position
 from workbench.watching import node_of

@@ -21,9 +21,9 @@ ABOUT = """Draws NET as boxes and arrows, from left to right; a chain that is to
 
 A dot forks: all branches get the same. A hollow bar splits a pair, its first part above; a full one joins
 a pair or a list, from above. Feedback runs back below, through its constant. A switch is a frame: what
-runs, what watches it, and dashed what takes over at the event. Each name of a file with names is a box
-with a double edge; --at draws its inside, --open all in one picture. A browser shows the whole text of the
-box under the pointer.
+runs, what watches it, and dashed what takes over at the event. Each wire that a file of Haskell names is a
+box with a double edge; --at draws its inside, --open all in one picture. A browser shows the whole text of
+the box under the pointer.
 
 Needs graphviz (Debian's package `graphviz`)."""
 
@@ -143,8 +143,9 @@ def rendered(canvas: Canvas, wide: float, high: float, ending: str) -> bytes:
 
 
 def hovering(svg: bytes) -> bytes:
-    """The drawing with what is told of a box as its title, and no other titles."""
+    """The drawing with what is told of a box as its title, and no other titles. The space before a label's line stays in browsers too."""
     bare = re.sub(rb"<title>[^<]*</title>\n?", b"", svg)
+    bare = re.sub(rb"<text ([^>]*)> ", rb'<text xml:space="preserve" \1> ', bare)
     return re.sub(rb'(<a [^>]*?) ?xlink:title="([^"]*)"([^>]*>)', rb"\1\3<title>\2</title>", bare)
 
 

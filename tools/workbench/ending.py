@@ -2,6 +2,7 @@
 import argparse
 import contextlib
 import os
+import re
 import signal
 import stat
 import sys
@@ -166,6 +167,8 @@ class Words(argparse.ArgumentParser):
             formatter_class=argparse.RawDescriptionHelpFormatter,
             allow_abbrev=False,
         )
+        # A span such as -5..20 is a value, as a negative number is.
+        self._negative_number_matcher = re.compile(r"^-\d+(\.\.-?\d+)?$")
 
 
 def ended(name: str, work: Callable[[], None]) -> None:

@@ -1,49 +1,40 @@
-"""The network that a file with names means, as a network's file."""
+"""The core network that a file of Haskell means, as a network's file."""
+import importlib
+
 from model.texts import FILE_BYTES
-from workbench.definitions import Fault, is_source, read_text
+from model.trees import shown
 from workbench.ending import Refused, Words, read, write
 from workbench.layout import flat, laid_out
-from workbench.origin import Program
-from workbench.source import read_file
+from workbench.origin import program_from
 from workbench.written import SyntaxFault
 
-EXPAND = """Prints the network that a file with names means, as a network's file.
+EXPAND = """Prints the core network that a file of Haskell means, as a network's file. Of a core network's file it prints
+the network laid out.
 
-Such a file begins `yampa source 1`. Definitions follow, and then `input TYPE NETWORK`:
+  yampa expand Cruise.hs
+  yampa expand --of smooth --flat Cruise.hs
+  yampa expand --try Cruise.hs
 
-  yampa source 1
-  include shared.defs
-  record Car speed:Int pedal:Bool
-  def step 5
-  def (scale f) (arr (mul x f))
-  def (both f g) (&&& f g)
-  input Car
-  (both (>>> (arr (speed x)) (scale step)) time)
-
-`def NAME TREE` names a network, an expression, a number or a type; `def (NAME A B ..) TREE` has
-parameters, which the parts of (NAME a b ..) replace as they are written. A parameter may stand for a
-name that itself takes parts, and `(let NAME TREE BODY)` defines a name inside a tree. A definition may
-use earlier ones. `record` names the parts of nested pairs: Car is the type (Pair Int Bool), (Car a b) a
-value of it, (speed x) its part. `include` takes the definitions of another file, by its path from this
-one.
-
-Every command and tool accepts such a file as a network."""
+What `yampa run` is proved of is this network; certificates are about it. --of takes another network of the file
+than the one that is named as its module. --try runs an interpreter of such files beside it, on 1,000 random
+samples."""
 
 
 def expanded(name: str, data: bytes, in_one_line: bool) -> bytes:
     """The network's file that a file means, laid out where that is no longer than a file may be."""
-    if is_source(data):
-        program = Program(name, data)
-        given, net = program.trees
-        text = program.text
-    else:
-        source = read_text(name, data)
-        read_file(name, data)
-        given, net = source.input, source.net
-        text = f"yampa {source.version}\ninput {flat(given)}\n{flat(net)}\n".encode()
-    head = text[: text.index(b"\n", text.index(b"\n") + 1) + 1]
-    made = head + "\n".join([*laid_out(net), ""]).encode()
-    return text if in_one_line or len(made) > FILE_BYTES else made
+    file = program_from(name, data).file
+    head = f"yampa {file.version}\ninput {shown(file.input)}\n"
+    made = f"{head}{chr(10).join(laid_out(file.node))}\n".encode()
+    return f"{head}{flat(file.node)}\n".encode() if in_one_line or len(made) > FILE_BYTES else made
+
+
+def try_haskell(name: str, data: bytes, seed: int) -> None:
+    """Tries the network of a file of Haskell beside the interpreter of such files."""
+    program = program_from(name, data)
+    if not program.is_haskell:
+        raise Refused(f"{name}: --try is for a file of Haskell")
+    agreeing = importlib.import_module("workbench.agreeing")  # it needs the interpreter, which nothing else here does
+    agreeing.tried(program, seed)
 
 
 def main() -> None:
@@ -51,12 +42,15 @@ def main() -> None:
     words.add_argument("file", metavar="FILE")
     words.add_argument("--flat", action="store_true", help="the network in one line")
     words.add_argument("-o", metavar="FILE", dest="to", help="writes the network there")
+    words.add_argument("--try", action="store_true", dest="tries", help="a file of Haskell: whether its network outputs what an interpreter does")
+    words.add_argument("--seed", type=int, default=1, metavar="N", help="with --try: another number tries other random samples")
     given = words.parse_args()
     data = read(given.file)
+    if given.tries:
+        try_haskell(given.file, data, given.seed)
+        return
     try:
         text = expanded(given.file, data, given.flat)
-    except Fault as fault:
-        raise Refused(fault.line()) from None
     except SyntaxFault as fault:
         raise Refused(fault.line(given.file, data)) from None
     write(given.to, text)

@@ -6,23 +6,18 @@ from typing import NoReturn
 
 from workbench.ending import REFUSED, UNREADABLE, Refused, Words, read, stream_bytes
 from workbench.faults import Files, explained, unread
-from workbench.foreseeing import foresee
-from workbench.origin import InNames
-from workbench.outline import read_type
-from workbench.program import again, call, is_trial
-from workbench.properties import first_fault
-from workbench.telling import Told, told_of
+from workbench.program import again, call
+from workbench.telling import Told
 
 ABOUT = """Runs the program on the files, and explains the error that it prints, if any.
 
-  yampa explain NET                 a network's file, or one with names
+  yampa explain NET                 a network
   yampa explain NET STREAM          a run of it on a recorded stream
   yampa explain SRC TGT CERT        a certificate
   yampa explain --line LINE FILE .. an error line that was printed before, for these files
 
-The types that it shows are the program's. If the program isn't built yet, one trial build usually answers
-all that is asked, in a minute or two. If nothing is rejected, the tool says so, and the status is 0; else
-it is 1, or 3 if a file can't be read."""
+The types that it shows are the program's. If nothing is rejected, the tool says so, and the status is 0;
+else it is 1, or 3 if a file can't be read."""
 
 
 def roles_of(names: list) -> tuple:
@@ -41,14 +36,6 @@ def fault_of(files: Files, stream) -> str:
     return call(["run", files.paths["network"]], stream[1]).line()
 
 
-def property_fault(files: Files, stream) -> str:
-    """Why the program doesn't take what a file with names says of its network, which it takes, or nothing."""
-    if stream is not None or "network" not in files.paths or not files.program("network").has_names:
-        return ""
-    types = call(["types", files.paths["network"]]).output.decode()
-    return first_fault(files.program("network"), read_type(types.partition("\n")[0].split(" -> ")[1]))
-
-
 def main():
     words = Words("explain", ABOUT)
     words.add_argument("--line", help="the error line")
@@ -59,13 +46,10 @@ def main():
     names, stream_name = roles_of(given.files)
     files = Files(names, {role: path_of(name) for role, name in names.items()})
     stream = (stream_name, stream_bytes(path_of(stream_name, stream_bytes))) if stream_name else None
-    if is_trial():
-        foresee(lambda: (explained(given.line or fault_of(files, stream), files, stream), property_fault(files, stream)))
     line = given.line or fault_of(files, stream)
     if not line:
-        fault = property_fault(files, stream)
-        print(fault or "nothing is refused")
-        sys.exit(REFUSED if fault else 0)
+        print("nothing is refused")
+        sys.exit(0)
     print(line)
     tell(explained(line, files, stream))
 
@@ -76,12 +60,11 @@ def tell(told: Told, status: int = REFUSED) -> NoReturn:
 
 
 def path_of(name: str, reading: Callable[[str], bytes] = read) -> str:
-    """A name under which the file can be read more than once; why it can't be read, or what is wrong with its names, is told."""
+    """A name under which the file can be read more than once; why it can't be read, or what is wrong in Haskell, is told."""
     try:
         path = again(name, reading)
         with open(path, "rb"):
             return path
     except (Refused, OSError) as refused:
         told = Told(str(refused)) if name == "-" or os.path.isfile(name) else unread(name)
-        told = told_of(refused.fault) if isinstance(refused, InNames) else told
         return tell(told, getattr(refused, "status", UNREADABLE))

@@ -3,7 +3,6 @@ import re
 from dataclasses import dataclass
 
 from model.trees import at
-from workbench.definitions import Fault
 from workbench.ending import read
 from workbench.missteps import nothing_there, of_steps
 from workbench.misread import of_stream
@@ -89,7 +88,7 @@ def of_text(role: str, files: Files):
         else:
             data = files.program(role).data
             _ = files.program(role).file
-    except (Fault, SyntaxFault) as fault:
+    except SyntaxFault as fault:
         return told_of(fault, name, data)
     return None
 

@@ -16,7 +16,7 @@ class Reader:
 
     def __init__(self, data):
         self.data = data
-        self.tokens, self.comments = tokens_of(data)
+        self.tokens, self.left = tokens_of(data)
         self.read = 0
         self.open = []
         self.missing = []
@@ -86,8 +86,7 @@ class Reader:
             return SyntaxFault(self.tokens[0].at, why, mend, "header", len(texts[0]))
         if len(texts) < 2 or texts[1] not in VERSIONS["yampa"]:
             at = self.tokens[1].at if len(texts) > 1 else len(data)
-            named = "a file with names, which begins `yampa source 1`, is made one by `yampa expand`"
-            return SyntaxFault(at, "behind yampa stands the version, 1 or 2", f"{mend}; {named}", "header")
+            return SyntaxFault(at, "behind yampa stands the version, 1 or 2", mend, "header")
         at = self.tokens[2].at if len(texts) > 2 else len(data)
         return SyntaxFault(at, "the word input is missing", "write `input` and the type of the samples", "header")
 
@@ -103,7 +102,7 @@ class Reader:
             raise SyntaxFault(token.at, "a number is written without leading zeros, and 0 without a sign", f"write {int(text)}", "number", len(text))
         if not least <= int(text) <= greatest:
             raise SyntaxFault(token.at, f"this number is from {least} to {greatest}", kind="number", length=len(text))
-        return Node(int(text), [], token.at, token.end(), "number")
+        return leaf_node(int(text), token, "number")
 
     def no_number(self, token, kind, form):
         if kind == "literal":
@@ -123,7 +122,7 @@ class Reader:
         if token.text == "(":
             return self.form(sort, forms, token)
         if token.text in words:
-            return Node(token.text, [], token.at, token.end(), sort)
+            return leaf_node(token.text, token, sort)
         if sort == "E" and re.fullmatch(r"-?[0-9]+", token.text):
             self.read -= 1
             node = self.number("literal")
@@ -138,7 +137,7 @@ class Reader:
             raise self.no_form(token, sort)
         parts = self.parts(word, forms[word])
         closed = self.close(word, forms[word], opened)
-        return Node(word, parts, opened.at, closed.end(), sort)
+        return form_node(opened, token, parts, closed, sort)
 
     def parts(self, word, sorts):
         found = []
@@ -168,7 +167,7 @@ class Reader:
         while self.peek() not in (")", None):
             found.append(self.tree("N"))
         closed = self.take("a parenthesis that closes the list of members")
-        return Node("col", found, opened.at, closed.end(), "col")
+        return form_node(opened, token, found, closed, "col")
 
     def close(self, word, sorts, opened):
         if self.peek() == ")":
@@ -299,6 +298,17 @@ class Reader:
             found.append(self.number("child").word)
         self.take("a parenthesis that closes the position")
         return tuple(found)
+
+
+def leaf_node(word, token, sort):
+    """The node of a word or a number, with its comments."""
+    return Node(word, [], token.at, token.end(), sort, token.before, token.behind)
+
+
+def form_node(opened, head, parts, closed, sort):
+    """The node of a form between these parentheses, with its comments."""
+    comments = [*opened.before, *opened.behind, *head.before]
+    return Node(head.text, parts, opened.at, closed.end(), sort, comments, closed.behind, head.behind, closed.before)
 
 
 def takes(sorts):

@@ -22,7 +22,7 @@ TOOL = Path(__file__).resolve().parents[1] / "tool"
 OPTION = re.compile(r"^ +((?:-\w, )?)(--[a-z][a-z-]*)", re.M)
 # The first word of a file, behind comments, as vim looks for it.
 FIRST_WORD = r"\%^\%(\s*\%(;.*\)\=\n\)*\s*\%(yampa\|laws\)\s"
-HEADER = ["yampa", "source", "laws", "input", "def", "record", "include", "let", "step", "at", "forward", "backward", "col"]
+HEADER = ["yampa", "laws", "input", "step", "at", "forward", "backward", "col"]
 
 
 def help_of(command: list[str]) -> str:
@@ -32,10 +32,15 @@ def help_of(command: list[str]) -> str:
     return ran.stdout
 
 
+def commands() -> list[str]:
+    """The commands that the program itself has."""
+    return [name for name in FILES if name not in tools()]
+
+
 def all_helps(program: Path) -> dict[str, str]:
     """The help of the program, whose name is empty, of its commands and of the tools."""
     helps = {"": help_of([str(program), "--help"])}
-    helps |= {name: help_of([str(program), name, "--help"]) for name in FILES}
+    helps |= {name: help_of([str(program), name, "--help"]) for name in commands()}
     return helps | {name: help_of([str(TOOL), name, "--help"]) for name in tools()}
 
 
@@ -54,7 +59,7 @@ def pages(helps: dict[str, str]) -> dict[str, str]:
 
 def abouts(helps: dict[str, str]) -> dict[str, str]:
     """What each command and each tool does, in a line."""
-    return {name: helps[name].split("\n", 1)[0] for name in FILES} | {name: about for name, about in tools().items() if name in helps}
+    return {name: helps[name].split("\n", 1)[0] for name in commands()} | {name: about for name, about in tools().items() if name in helps}
 
 
 def options(text: str) -> list[str]:
@@ -79,7 +84,7 @@ def man_page(helps: dict[str, str]) -> str:
         ".SH SYNOPSIS\n\\fByampa\\fR \\fICOMMAND\\fR [\\fIWORD\\fR ..]",
         section("SH", "DESCRIPTION", "\n".join(rest).strip("\n")),
         ".SH COMMANDS",
-        *[section("SS", f"yampa {name}", helps[name]) for name in FILES],
+        *[section("SS", f"yampa {name}", helps[name]) for name in commands()],
         ".SH TOOLS\nTools beside these commands. They are not proved.",
         *[section("SS", f"yampa {name}", helps[name]) for name in tools() if name in helps],
     ]
@@ -172,7 +177,7 @@ def pattern(words: list[str]) -> str:
 
 
 def vim() -> str:
-    lines = ['" Syntax of networks, files with names and certificates of the Yampa workbench.', 'if exists("b:current_syntax") | finish | endif']
+    lines = ['" Syntax of networks and certificates of the Yampa workbench.', 'if exists("b:current_syntax") | finish | endif']
     for group, words in groups().items():
         each = "\\|".join(re.sub(r"([*.&>-])", lambda found: "\\" + found[1] if found[1] in "*." else found[1], word) for word in sorted(words, key=len, reverse=True))
         lines += [f"syntax match yampa{group} '\\%(^\\|[ \\t(]\\)\\zs\\%({each}\\)\\ze\\%([ \\t();]\\|$\\)'", f"highlight default link yampa{group} {group}"]

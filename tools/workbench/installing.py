@@ -8,11 +8,12 @@ from pathlib import Path
 
 from workbench import helping
 from workbench.ending import UNREADABLE, WRONG_WORDS, Refused, unreadable
+from workbench.proposing import searcher
 
 TOP = Path(__file__).resolve().parents[2]
 HOME = Path("lib/yampa")
 # What the clone alone needs, or what only this script does.
-LEFT_OUT = {"prove", "prove.times", "trial"}
+LEFT_OUT = {"prove", "prove.times", "sources.py", "trial", "trying.py"}
 NOT_LISTED = ["tour"]
 USAGE = "usage: ./yampa --install PREFIX, or ./yampa --uninstall PREFIX"
 
@@ -66,6 +67,7 @@ def stage(program: Path, prefix: Path, made: Path) -> None:
     rows = (TOP / "tools/list").read_text(encoding="utf-8").splitlines(keepends=True)
     put(home / "tools/list", "".join(row for row in rows if row.split()[0] not in NOT_LISTED).encode())
     put(home / "crates/yampa/out/yampa", program.read_bytes(), runs=True)
+    put(home / "search/out/yampa-search", Path(searcher()).read_bytes(), runs=True)
     put(home / "installed", b"")
     wrapper = (TOP / "yampa").read_text(encoding="utf-8")
     put(made / "bin/yampa", with_top(wrapper, prefix / HOME).encode(), runs=True)
@@ -75,10 +77,9 @@ def stage(program: Path, prefix: Path, made: Path) -> None:
 
 
 def with_top(wrapper: str, home: Path) -> str:
-    """The wrapper, which knows where its folder and its shell are, so that nothing is looked for."""
+    """The wrapper, which knows where its folder is, so that nothing is looked for."""
     quoted = "'" + str(home).replace("'", "'\\''") + "'"
-    text = re.sub(r"^here=.*?^top=[^\n]*$", lambda _: f"top={quoted}", wrapper, flags=re.S | re.M)
-    return text.replace("#!/usr/bin/env bash", f"#!{shutil.which('bash') or '/usr/bin/env bash'}", 1)
+    return re.sub(r"^here=.*?^top=[^\n]*$", lambda _: f"top={quoted}", wrapper, flags=re.S | re.M)
 
 
 def put(path: Path, data: bytes, runs: bool = False) -> None:

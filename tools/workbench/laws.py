@@ -1,12 +1,11 @@
 """The laws, and where a tree first differs from a law's left side. Each law is a line of laws.tsv: its name, its two sides, and words on
 the letters in them, if there are any; docs/LAWS.md tells the same."""
 import re
+from collections.abc import Iterator
 from dataclasses import dataclass
 from pathlib import Path
 
 from model.trees import child_places, children, is_form, part_at
-from workbench.definitions import Text, TreeReader
-from workbench.source import plain
 
 # What words in capitals stand for, in sides of laws.
 MEANINGS = {
@@ -56,7 +55,15 @@ def unlike(law, tree):
     pattern = LAWS[law].pattern
     if ".." in pattern or re.search(r"\bO\b", pattern):
         return None
-    return unlike_form(plain(TreeReader(Text(law, pattern.encode())).tree()), tree, {}, ())
+    return unlike_form(tree_in(re.finditer(r"[()]|[^() ]+", pattern)), tree, {}, ())
+
+
+def tree_in(found: Iterator[re.Match]) -> object:
+    """The tree that begins with the next of these words and parentheses."""
+    word = next(found).group()
+    if word != "(":
+        return word
+    return tuple(iter(lambda: tree_in(found), ")"))
 
 
 def unlike_form(pattern, tree, letters, position):

@@ -4,7 +4,7 @@ A form stands in one line where there is room for it; else its parts stand below
 has room there, else two columns from its parenthesis. How wide a part must be is known from its own parts, so one walk up and one
 walk down lay out all.
 """
-from dataclasses import dataclass, replace
+from dataclasses import dataclass
 from typing import Any
 
 WIDTH = 100
@@ -61,8 +61,6 @@ def box_of(node, behind: int = 0) -> Box:
     if not is_form(node):
         width = len(str(node.word))
         return Box(node, str(node.word), [], "", behind, width, NEVER, width + behind)
-    if node.word == "let" and len(node.parts) % 2:
-        return form_box(node, "(let", [*bindings(node.parts[:-1]), box_of(node.parts[-1], behind + 1)], behind)
     opening, rest = f"({node.word}", node.parts
     if opening[1:] in SIDE_BY_SIDE and len(rest) > 1 and stands_alone(rest[0]) and not node.opened:
         opening, rest = f"{opening} {rest[0].word}", rest[1:]
@@ -84,28 +82,6 @@ def form_box(node, opening: str, parts: list, behind: int) -> Box:
     low = max(len(opening), 2 + widest)
     least = whole + behind if whole <= SHORT else min(whole + behind, hanging, low)
     return Box(node, opening, parts, ")", behind, whole, hanging, least)
-
-
-def bindings(parts: list) -> list:
-    """The names of a `let` with their trees, each pair a box without parentheses."""
-    found = []
-    for name, tree in zip(parts[::2], parts[1::2]):
-        opening, body = flat(name), box_of(tree)
-        name = replace(name, comments=[*name.comments, *comments_within(name)])
-        whole = len(opening) + 1 + body.flat
-        if name.trailing or tree.comments or tree.trailing:
-            whole = NEVER
-        width = len(opening) + 1 + body.least
-        found.append(Box(name, opening, [body], "", 0, whole, width, min(whole, width)))
-    return found
-
-
-def comments_within(node) -> list:
-    """The comments between a form's parentheses."""
-    found = list(node.opened)
-    for part in node.parts:
-        found += [*part.comments, *comments_within(part), *part.trailing]
-    return [*found, *node.closing]
 
 
 # ---- lines
@@ -143,14 +119,13 @@ class Lines:
     def comments_of_their_own(self, texts: list, indent: int) -> None:
         """Comments in lines of their own, before a line that is begun behind them."""
         self.end()
-        self.done += [" " * indent + text for text in texts if text]
+        self.done += [" " * indent + text for text in texts]
 
 
-def laid_out(node, indent: int = 0, behind: int = 0) -> list:
-    """The lines of a node whose first word stands at that column; so many characters follow its last one. The first line has no
-    indentation."""
+def laid_out(node, indent: int = 0) -> list:
+    """The lines of a node whose first word stands at that column. The first line has no indentation."""
     lines = Lines()
-    lay(box_of(node, behind), indent, lines)
+    lay(box_of(node), indent, lines)
     lines.end()
     return lines.done
 
@@ -161,7 +136,7 @@ def lay(box: Box, indent: int, lines: Lines) -> None:
         lay_flat(box, lines, indent)
     else:
         lay_parts(box, indent, lines)
-    for comment in box.node.trailing if box.closing or not box.parts else []:
+    for comment in box.node.trailing:
         lines.comment_behind(comment, indent)
 
 
@@ -181,21 +156,20 @@ def write_box(box: Box, pieces: list) -> None:
 
 def lay_parts(box: Box, indent: int, lines: Lines) -> None:
     """A form's parts below one another, behind its word where there is room for that, else below it."""
-    hangs = indent + box.hanging <= WIDTH or not box.closing
+    hangs = indent + box.hanging <= WIDTH
     inner = indent + len(box.opening) + 1 if hangs else min(indent + 2, DEEPEST)
     lines.put(box.opening, indent)
-    opened = box.node.opened if box.closing else box.node.trailing
-    for comment in opened:
+    for comment in box.node.opened:
         lines.comment_behind(comment, indent)
     for number, part in enumerate(box.parts):
         if part.node.comments:
             lines.comments_of_their_own(part.node.comments, inner)
-        if number == 0 and hangs and not part.node.comments and not opened:
+        if number == 0 and hangs and not part.node.comments and not box.node.opened:
             lines.put(" ", indent)
         else:
             lines.start(inner)
         lay(part, inner, lines)
-    if box.node.closing and box.closing:
+    if box.node.closing:
         lines.comments_of_their_own(box.node.closing, inner)
         lines.start(indent)
     lines.put(box.closing, indent)

@@ -3,7 +3,7 @@ import re
 
 from model.texts import LINE_BYTES, ValueFault, ValueReader
 from model.trees import is_form
-from workbench.records import RecordType
+from front.spell import RecordType
 from workbench.written import near
 from workbench.telling import Told, article
 

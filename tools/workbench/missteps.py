@@ -1,12 +1,12 @@
 """Why a certificate is refused: the step, what stands at its place, the law, and the first difference."""
 import re
 
-from model.trees import at, at_text, children, difference, is_network, shown
+from model.trees import at, at_text, children, difference, is_network
 from workbench.laws import LAWS, unlike
 from workbench.program import answered
-from workbench.records import shown_type
+from front.spell import shown_type
 from workbench.source import core, read_file, read_steps
-from workbench.telling import Told, short, shortened
+from workbench.telling import Told, short
 from workbench.tracing import steps_shown
 
 
@@ -29,8 +29,7 @@ def of_end(files):
     if found is None:
         return None
     where, made, wanted = found
-    made, wanted = shortened(files.program("source").folded(shown(made))), shortened(target.folded(shown(wanted)))
-    return Told(f"the steps end elsewhere: at {at_text(where)} they make {made}, and the target has {wanted}", files.names["certificate"])
+    return Told(f"the steps end elsewhere: at {at_text(where)} they make {short(made)}, and the target has {short(wanted)}", files.names["certificate"])
 
 
 def network_made(paths, first=10_000):
@@ -57,7 +56,7 @@ def of_step(fault, number, files):
     else:
         why, note = no_match(law, direction, where, given, step)
     told.why = f"step {number}: {why}"
-    told.notes = [f"at {where} stands {shortened(files.program('source').folded(shown(step.before)))}", f"{law}: {LAWS[law].left} = {LAWS[law].right}", note]
+    told.notes = [f"at {where} stands {short(step.before)}", f"{law}: {LAWS[law].left} = {LAWS[law].right}", note]
     return told
 
 

@@ -5,7 +5,7 @@ from dataclasses import dataclass
 from model.trees import at, children, head, is_network, shown
 from workbench.asking import asked, asked_by_name
 from workbench.outline import scope_of
-from workbench.records import shown_type
+from front.spell import shown_type
 from workbench.telling import article, spelt_at, told_at
 
 

@@ -13,8 +13,8 @@ import tempfile
 from collections.abc import Iterator
 from pathlib import Path
 
+from workbench.cache import cache_folder, keep
 from workbench.ending import UNREADABLE, Refused, Words
-from workbench.origin import cache_folder, keep
 from workbench.program import again, call
 from workbench.stacks import deepest
 
@@ -25,7 +25,8 @@ of `run`; but a list of the stream that has more than N elements is refused. A C
 
 Its stack may become as large as the values ask for, where gcc compiles it and the system's hard limit
 (`ulimit -Hs`) allows it. `--stack` prints these bytes, of the longest chain of calls, and runs nothing:
-for yampa_init and yampa_step, and for main, to which some kilobytes of the C library's own come."""
+for yampa_init and yampa_step, and for main, to which some kilobytes of the C library's own come. CC may
+name another gcc with its flags, `CC="arm-none-eabi-gcc -mcpu=cortex-m4 -Os"`: it has only to compile."""
 
 UNWRITTEN = b"output: cannot be written\n"
 # What the stack has room for besides: the words of the call, the variables of the environment, the C library.
@@ -34,6 +35,7 @@ TOLD = ["yampa_init", "yampa_step", "main"]
 # What compiler and linker say of values that no program holds.
 TOO_LARGE = [b"relocation truncated", b"exceeds maximum", b"too large"]
 SHORTER = "--most makes lists shorter"
+GRAPHS = ["-fcallgraph-info=su"]
 
 
 def main() -> None:
@@ -42,17 +44,17 @@ def main() -> None:
     words.add_argument("--most", metavar="N", help="how many elements a list of the stream may have (32765)")
     words.add_argument("--stack", action="store_true", help="prints how many bytes of stack it takes, and runs nothing")
     given = words.parse_args()
+    if given.stack:
+        sys.stdout.write(stack_of(given.net, given.most))
+        return
     with program_of(c_of(given.net, given.most)) as (program, stack):
-        if given.stack:
-            sys.stdout.write(stack or none_told())
-        else:
-            run(program, int(stack.split()[-1]) if stack else 0)
+        run(program, room_of(stack))
 
 
-def c_of(name: str, most: str | None) -> bytes:
+def c_of(name: str, most: str | None, *options: str) -> bytes:
     """The network as C. What the program refuses is told as it tells it."""
     path = again(name) if os.path.exists(name) else name
-    told = call(["compile", *(["--most", most] if most is not None else []), path])
+    told = call(["compile", *options, *(["--most", most] if most is not None else []), path])
     if told.status:
         print(told.fault(), file=sys.stderr)
         sys.exit(told.status)
@@ -60,14 +62,16 @@ def c_of(name: str, most: str | None) -> bytes:
 
 
 def compiler() -> list[str]:
-    return shlex.split(os.environ.get("CC") or "cc")
+    """The compiler, which optimises where its own flags don't say otherwise."""
+    name, *flags = shlex.split(os.environ.get("CC") or "cc") or ["cc"]
+    return [name, "-O2", *flags]
 
 
 @contextlib.contextmanager
 def program_of(text: bytes) -> Iterator[tuple[str, str]]:
     """The program of a C text, and what is told of its stack. It is compiled where it isn't kept yet; where there is no cache, it is
     there as long as it is used."""
-    command = [*compiler(), "-O2"]
+    command = compiler()
     kept = cache_folder() / f"native-{hashlib.sha256(repr((command, text)).encode()).hexdigest()}"
     beside = kept.with_suffix(".stack")
     if kept.is_file() and beside.is_file():
@@ -90,27 +94,52 @@ def program_of(text: bytes) -> Iterator[tuple[str, str]]:
 
 def compiled(command: list[str], text: bytes, folder: Path) -> tuple[Path, str]:
     """The program that a compiler makes of a C text, in this folder, and what it tells of the stack: nothing where it isn't gcc."""
+    for more in (GRAPHS, []):
+        ran = compile_in(folder, text, [*command, *more])
+        if not ran.returncode:
+            return folder / "network", told_in(folder)
+    raise not_compiled(command, ran)
+
+
+def stack_of(name: str, most: str | None) -> str:
+    """What gcc tells of the stack: of `main` too, where it finds what that includes."""
+    command = compiler()
+    for options, more in (([], GRAPHS), (["--no-main"], GRAPHS), (["--no-main"], [])):
+        with tempfile.TemporaryDirectory(prefix="yampa-") as folder:
+            ran = compile_in(Path(folder), c_of(name, most, *options), [*command, "-c", *more])
+            told = told_in(Path(folder))
+        if told:
+            return told
+    if ran.returncode:
+        raise not_compiled(command, ran)
+    raise Refused(f"{command[0]} tells nothing of the stack: it takes gcc (CC=gcc, Debian: apt-get install gcc)", UNREADABLE)
+
+
+def compile_in(folder: Path, text: bytes, command: list[str]) -> subprocess.CompletedProcess[bytes]:
+    """What a compiler tells of a C text, of which it makes the file `network` of a folder."""
     if not shutil.which(command[0]):
         raise Refused(f"there is no C compiler {command[0]} on the path: install one (Debian: apt-get install gcc)", UNREADABLE)
-    source, made = folder / "network.c", folder / "network"
+    source = folder / "network.c"
     source.write_bytes(text)
-    for more in (["-fcallgraph-info=su"], []):
-        ran = subprocess.run([*command, *more, "-o", str(made), str(source)], capture_output=True, check=False)
-        if not ran.returncode:
-            graphs = list(folder.glob("*.ci"))
-            return made, told_of(graphs[0].read_text()) if graphs else ""
+    return subprocess.run([*command, "-o", str(folder / "network"), str(source)], capture_output=True, check=False)
+
+
+def not_compiled(command: list[str], ran: subprocess.CompletedProcess[bytes]) -> Refused:
     said = ran.stderr.decode(errors="replace").strip().splitlines() or [f"status {ran.returncode}"]
-    why = f"its values are too large ({SHORTER})" if any(words in ran.stderr for words in TOO_LARGE) else said[-1]
-    raise Refused(f"{command[0]} doesn't compile the network: {why}", UNREADABLE)
+    why = f"its values are too large ({SHORTER})" if any(words in ran.stderr for words in TOO_LARGE) else next((line for line in said if "error" in line), said[-1])
+    return Refused(f"{command[0]} doesn't compile the network: {why}", UNREADABLE)
 
 
-def told_of(graph: str) -> str:
-    taken = deepest(graph)
-    return "".join(f"{name} {taken[name]}\n" for name in TOLD)
+def told_in(folder: Path) -> str:
+    """What gcc left in a folder of the stack, or nothing."""
+    graphs = list(folder.glob("*.ci"))
+    taken = deepest(graphs[0].read_text()) if graphs else {}
+    return "".join(f"{name} {taken[name]}\n" for name in TOLD if name in taken)
 
 
-def none_told() -> str:
-    raise Refused(f"{compiler()[0]} tells nothing of the stack: it takes gcc (CC=gcc, Debian: apt-get install gcc)", UNREADABLE)
+def room_of(stack: str) -> int:
+    """The bytes of stack that the whole program takes, of what was told; 0 where nothing was."""
+    return int(stack.split()[-1]) if stack else 0
 
 
 def make_room(stack: int) -> None:

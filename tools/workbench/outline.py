@@ -26,12 +26,19 @@ def read_type(text):
     return tree_of(text, "T")
 
 
+def position_in(text: str) -> tuple:
+    """The position that is spelt first in a text."""
+    found = re.search(r"\(at([ \d]*)\)", text)
+    assert found is not None
+    return tuple(map(int, found[1].split()))
+
+
 def rows_of(output):
     """The rows of an outline, by their positions, in order."""
     rows = {}
     for line in output.decode().splitlines():
         position, word, type_, *weight = line.split("\t")
-        rows[tuple(map(int, re.findall(r"\d+", position)))] = Row(word, read_type(type_), *weight)
+        rows[position_in(position)] = Row(word, read_type(type_), *weight)
     return rows
 
 

@@ -4,17 +4,18 @@ from __future__ import annotations
 import io
 from typing import Any, Iterator
 
+from front.spell import is_told, parts_of, shape_of, shown_type
 from model.trees import is_form
 from workbench.ending import missing
 from workbench.parts import Track, columns, reached
-from workbench.records import shown_type
-from workbench.signals import ABSENT, Several, spelt
+from workbench.signals import ABSENT, Several, spelt, told
 
 # How many columns of dots a panel is thinned out to, how many of a list's places are drawn, and characters side by side.
 DOTS = 1_600
 PLACES = 16
 CHARACTERS = 110
 INCHES = 9.0
+SHAPES = "os^vDXP|<>p*"
 Axis = Any
 
 
@@ -34,7 +35,7 @@ def libraries() -> tuple:
 def panels_of(track: Track) -> Iterator[Track]:
     """The panels of a column: one, but of a list of pairs one for each part of these."""
     listed = track.type if track.members else track.type[1] if is_form("List", track.type) else None
-    if not is_form("Pair", listed):
+    if not parts_of(listed):
         yield track
         return
     for names, type_, way in columns(listed):
@@ -81,11 +82,33 @@ def type_text(panel: Track) -> str:
     return f"each {text}" if panel.members else text
 
 
+def data_of(panel: Track) -> dict:
+    """A panel for the script of a page: how it is drawn, and its texts where they change, with the numbers of these samples."""
+    texts = [told_at(panel, value) for value in panel.values]
+    at = [number for number, text in enumerate(texts) if number == 0 or text != texts[number - 1]]
+    of = panel.type if panel.members else panel.type[1] if is_form("List", panel.type) and not is_told(panel.type) else None
+    found = {"name": panel.name, "at": at, "texts": [texts[number] for number in at], "isEvent": is_form("Event", panel.type) and not panel.members}
+    if of is not None:
+        return {**found, "draw": "dots" if of == "Int" and not is_told(of) else "marks"}
+    if panel.type == "Int" and is_told(panel.type):
+        return {**found, "draw": "steps", "words": [made.name for made in shape_of(panel.type).constructors]}
+    return {**found, "draw": {"Int": "steps", "Bool": "bands", "Unit": "bands"}.get(panel.type if isinstance(panel.type, str) else "", "marks")}
+
+
+def told_at(panel: Track, value: Any) -> str:
+    """What is told of a value; of an event only its own, and nothing where there is none."""
+    if is_form("Event", panel.type) and not is_told(panel.type) and not panel.members and value is not ABSENT:
+        return "" if value is None else told(value[0], panel.type[1])
+    return told(value, panel.type)
+
+
 def draw(axis: Axis, numpy: Any, times: Any, panel: Track) -> None:
     """Draws a panel by its type."""
     end = times[-1] + max((times[-1] - times[0]) * 0.01, 0.5)
     if panel.members or panel.type in (("List", "Int"), ("List", "Bool")):
         places(axis, numpy, times, panel, end)
+    elif is_told(panel.type) and panel.type == "Int":
+        levels(axis, numpy, times, panel, end)
     elif panel.type == "Bool":
         bands(axis, numpy, times, panel.values, end)
     elif panel.type == "Int":
@@ -114,6 +137,14 @@ def line(axis: Axis, numpy: Any, times: Any, values: list, end: float, **how: An
         axis.plot(times[:-1], numbers[:-1], ".", markersize=3, color=axis.lines[-1].get_color())
 
 
+def levels(axis: Axis, numpy: Any, times: Any, panel: Track, end: float) -> None:
+    """Names as steps between levels, of which each has its name; the first of them is at the top."""
+    names = [made.name for made in shape_of(panel.type).constructors]
+    line(axis, numpy, times, panel.values, end)
+    axis.set_yticks(range(len(names)), names, fontsize=6)
+    axis.set_ylim(len(names) - 0.5, -0.5)
+
+
 def thinned(numpy: Any, times: Any, numbers: Any) -> tuple:
     """The points of a line, of each column of dots the first, the least, the greatest and the last."""
     if len(times) <= 2 * DOTS:
@@ -132,9 +163,9 @@ def places(axis: Axis, numpy: Any, times: Any, panel: Track, end: float) -> None
     columns = [
         [value[place] if value is not ABSENT and place < len(value) else ABSENT for value in panel.values] for place in range(min(longest, PLACES))
     ]
-    if of == "Int":
+    if of == "Int" and not is_told(of):
         for place, values in enumerate(columns):
-            line(axis, numpy, times, values, end, linestyle=["-", "--", ":", "-."][place // 4 % 4], label=str(place))
+            dots(axis, numpy, times, values, place)
         if 1 < len(columns):
             axis.legend(fontsize=6, loc="center left", bbox_to_anchor=(1, 0.5), ncols=1 + len(columns) // 7, frameon=False)
         return
@@ -147,6 +178,18 @@ def places(axis: Axis, numpy: Any, times: Any, panel: Track, end: float) -> None
     there = [value if value is ABSENT else "[" + " ".join(spelt(one, of) for one in value) + "]" for value in panel.values]
     changes = [number for number, text in enumerate(there) if text is not ABSENT and (number == 0 or text != there[number - 1])]
     marks(axis, [(times[number], there[number]) for number in changes], None, "|", end - times[0])
+
+
+def dots(axis: Axis, numpy: Any, times: Any, values: list, place: int) -> None:
+    """The elements in one place of lists as dots, which nothing joins: the next list may have another one there. Each place has a shape of
+    its own; dots that can't be told apart are one."""
+    there = numpy.array([value is not ABSENT for value in values])
+    at, numbers = times[there], numpy.array([float(value) for value in values if value is not ABSENT])
+    if len(at) > DOTS:
+        rows = numpy.stack([numpy.floor((at - times[0]) / (times[-1] - times[0]) * DOTS), numbers], 1)
+        kept = numpy.unique(rows, axis=0, return_index=True)[1]
+        at, numbers = at[kept], numbers[kept]
+    axis.plot(at, numbers, SHAPES[place % len(SHAPES)], linestyle="none", markersize=3, label=str(place))
 
 
 # ---- truth

@@ -2,15 +2,15 @@
 from __future__ import annotations
 
 import sys
-from dataclasses import dataclass, replace
-from typing import Any, Callable, Iterator
+from dataclasses import dataclass
+from typing import Any, Callable, Iterable, Iterator
 
 from model.trees import SWAP, at_text, head
 from workbench.ending import Refused, Words
 from workbench.outline import Network, network_of
 from workbench.program import again
-from workbench.records import parts_of
-from workbench.running import Run, Watched, run_of, signals_of, watchable
+from front.spell import parts_of
+from workbench.running import Piece, Pieces, Run, Tellers, run_of, signals_of, tellers_of, watchable
 from workbench.shorter import shortened
 from workbench.signals import ABSENT, Position
 from workbench.watching import position_in
@@ -67,10 +67,10 @@ def reached(values: list, way: tuple) -> list:
 
 @dataclass
 class Look:
-    """A run, with the columns of its inputs, its outputs and its parts, and lines on what is not among them."""
+    """A run, or a piece of one, with the columns of its inputs, its outputs and its parts, and lines on what is not among them."""
 
     whole: Network
-    run: Run
+    run: Run | Piece
     ends: list
     inside: list
     notes: list
@@ -82,7 +82,7 @@ class Look:
 
 def named(whole: Network) -> dict:
     """The names that stand for networks, by their positions."""
-    return {position: name for name, position in whole.program.signals}
+    return {position: name for name, position in whole.program.signals if whole.program.is_wire(position, whole.output(position))}
 
 
 def chosen(whole: Network, everything: bool, below: Position = ()) -> list:
@@ -96,31 +96,55 @@ def chosen(whole: Network, everything: bool, below: Position = ()) -> list:
     return [position for position in found if not is_wiring(whole.at(position))]
 
 
+def named_parts(whole: Network) -> list:
+    """The positions of the parts that have names."""
+    names = named(whole)
+    return [position for position in chosen(whole, False) if position in names]
+
+
 def looked_at(net: str, stream: bytes, choose: Callable, start: int | None = None, stop: int | None = None) -> Look:
     """The run of a network from one time to another with the signals of the parts that are chosen of it."""
     path = again(net)
     whole = network_of(path)
     run = run_of(path, stream, start, stop)
-    positions = choose(whole)
-    watched = signals_of(whole, run, positions)
+    watched = signals_of(whole, run, choose(whole))
+    return look_of(whole, run, watched.signals, names_of(whole, watched.signals), list(notes_on(watched.tellers)))
+
+
+def look_of(whole: Network, run: Run | Piece, signals: dict, names: dict, notes: list) -> Look:
     ends = list(tracks(("input",), whole.program.input, run.inputs))
     ends += tracks(("output",), whole.program.output_type(whole.output(())), run.outputs)
     inside = list[Track]()
-    for position, signal in watched.signals.items():
-        name, type_ = (called(whole, position),), whole.program.named_type(signal.type)
+    for position, signal in signals.items():
+        name, type_ = (names[position],), whole.program.signal_type(position, signal.type)
         inside += [Track(name, type_, signal.values, True, position)] if signal.members else tracks(name, type_, signal.values, position)
-    return Look(whole, run, ends, inside, list(notes_on(watched, positions)))
+    return Look(whole, run, ends, inside, notes)
 
 
-def stepped(net: str, stream: bytes, everything: bool, below: list) -> Look:
-    """The same with all parts that a person looks at, from those on that the words of `--at` name."""
-    look = looked_at(net, stream, lambda whole: chosen(whole, everything, position_in(whole, below)))
-    return replace(look, notes=[*look.notes, *unseen(look.whole)])
+class Looks:
+    """A run with all parts that a person looks at, from those on that the words of `--at` name, piece by piece."""
+
+    def __init__(self, net: str, stream: str, everything: bool, below: list):
+        path = again(net)
+        self.whole = network_of(path)
+        tellers = tellers_of(self.whole, chosen(self.whole, everything, position_in(self.whole, below)))
+        self.pieces, self.names = Pieces(path, tellers, stream), names_of(self.whole, tellers.told)
+        self.notes = [*notes_on(tellers), *unseen(self.whole)]
+
+    def __iter__(self) -> Iterator[Look]:
+        for piece in self.pieces:
+            yield look_of(self.whole, piece, piece.signals, self.names, self.notes)
+
+    @property
+    def fault(self) -> str:
+        """What ended the run, behind its last piece."""
+        return self.pieces.fault
 
 
-def called(whole: Network, position: Position) -> str:
-    """What a part is called: by its name, or its form and where it stands."""
-    return named(whole).get(position) or f"{word_of(whole, position)} {at_text(position)}"
+def names_of(whole: Network, positions: Iterable[Position]) -> dict:
+    """What parts are called, by their positions: by their names, or their forms and where they stand."""
+    names = named(whole)
+    return {position: names.get(position) or f"{word_of(whole, position)} {at_text(position)}" for position in positions}
 
 
 def word_of(whole: Network, position: Position) -> str:
@@ -129,13 +153,13 @@ def word_of(whole: Network, position: Position) -> str:
     return str(head(tree)) if head(tree) in (">>>", "parB", "pSwitch", "rpSwitchB") else str(head(shortened(tree)))
 
 
-def notes_on(watched: Watched, positions: list) -> Iterator[str]:
-    """What is to be said of signals that took several runs, and of those that are missing."""
-    if watched.runs > 1:
-        yield f"{len(positions)} signals don't fit into one run of the program: {watched.runs} runs"
-    if watched.missing:
-        position, fault = next(iter(watched.missing.items()))
-        others = f" and {len(watched.missing) - 1} other parts" if len(watched.missing) > 1 else ""
+def notes_on(tellers: Tellers) -> Iterator[str]:
+    """What is to be said of signals that take several runs, and of those that are missing."""
+    if len(tellers.found) > 1:
+        yield f"{len(tellers.told)} signals don't fit into one run of the program: {len(tellers.found)} runs"
+    if tellers.missing:
+        position, fault = next(iter(tellers.missing.items()))
+        others = f" and {len(tellers.missing) - 1} other parts" if len(tellers.missing) > 1 else ""
         yield f"{at_text(position)}{others} can't be watched within the limits ({fault})"
 
 
@@ -147,12 +171,12 @@ def unseen(whole: Network) -> Iterator[str]:
         yield f"what watches a switch can't be watched itself: {', '.join(map(at_text, left[:8]))}{' ..' * (len(left) > 8)}"
 
 
-def tell_rest(tool: str, look: Look) -> None:
+def tell_rest(tool: str, notes: list, fault: str) -> None:
     """Says on standard error what isn't among the signals, and refuses a run that a fault has ended."""
-    for note in look.notes:
+    for note in notes:
         print(f"yampa {tool}: {note}", file=sys.stderr)
-    if look.run.fault:
-        raise Refused(look.run.fault)
+    if fault:
+        raise Refused(fault)
 
 
 def add_choice(words: Words) -> None:

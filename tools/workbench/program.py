@@ -1,8 +1,11 @@
 """Calls of the program `yampa`, which alone says what is accepted and what a network outputs."""
 import atexit
 import contextlib
+import functools
 import os
+import resource
 import subprocess
+import sys
 import tempfile
 from collections.abc import Callable
 from pathlib import Path
@@ -14,21 +17,47 @@ from workbench.origin import network_path
 
 TOP = Path(__file__).resolve().parents[2]
 SECONDS = 600
+# The commands that searches beside the program answer, by its word.
+SEARCHES = ("improve", "certify")
 # The names of what was copied, by the paths of the copies.
 COPIES: dict[str, str] = {}
-# Who answers a call in the place of the program, while it is foreseen what that will be asked.
-ANSWERING: list[Callable[[list, bytes], "Told"]] = []
+UNPROVED = "yampa: unproved, with run-time checks; ./yampa --prove proves it"
 
 
-def path():
-    """The program: the one that YAMPA names, else the one that is built, else the wrapper at the top, which builds it."""
-    built = TOP / "crates/yampa/out/yampa"
-    return os.environ.get("YAMPA") or str(built if os.access(built, os.X_OK) else TOP / "yampa")
+def path() -> str:
+    """The program: the one that YAMPA names, else one of the sources that are there, which is built where there is none. Of one that
+    isn't proved that is told, once."""
+    if not os.environ.get("YAMPA"):
+        made = subprocess.run([TOP / "tools/trial"], stdout=subprocess.PIPE, check=False)
+        if made.returncode:
+            sys.exit(made.returncode)
+        os.environ["YAMPA"] = os.fsdecode(made.stdout).rstrip("\n")
+        if os.environ["YAMPA"] != str(TOP / "crates/yampa/out/yampa"):
+            os.environ["YAMPA_UNPROVED"] = "1"
+    if os.environ.pop("YAMPA_UNPROVED", None) and not os.environ.get("YAMPA_TOLD"):
+        print(UNPROVED, file=sys.stderr, flush=True)
+    return os.environ["YAMPA"]
 
 
-def is_trial():
-    """Whether a trial build answers, which takes minutes."""
-    return os.path.realpath(path()) == str(TOP / "yampa")
+def answering(words):
+    """Who answers these words: the searches beside the program, or the program."""
+    return str(TOP / "tools/search") if words and words[0] in SEARCHES else path()
+
+
+@functools.cache
+def has_sanitizer(program: str) -> bool:
+    """Whether AddressSanitizer is in a program, as in an unproved build that couldn't do without: it takes addresses without end."""
+    with contextlib.suppress(OSError):
+        return b"AddressSanitizer" in Path(program).read_bytes()
+    return False
+
+
+def with_room() -> Callable[[], None] | None:
+    """What a program does before it begins that has the sanitizer, where the memory of this process is bounded: it lifts the bound."""
+    soft, hard = resource.getrlimit(resource.RLIMIT_AS)
+    if soft == hard or not has_sanitizer(path()):
+        return None
+    return lambda: resource.setrlimit(resource.RLIMIT_AS, (hard, hard))
 
 
 class Told:
@@ -38,7 +67,7 @@ class Told:
         self.words, self.status, self.output, self.error = words, status, output, error
 
     def fault(self):
-        """The one line of a refusal; of a network with names in its words and lines."""
+        """The one line of a refusal; of a network of Haskell in its words and lines."""
         from workbench.speaking import spoken  # pylint: disable=import-outside-toplevel  # it calls the program itself
 
         return spoken(self.words, self.line())
@@ -59,10 +88,8 @@ class Told:
 
 def call(words, stream=b""):
     """What the program tells of these words and of the stream on standard input."""
-    if ANSWERING:
-        return ANSWERING[-1](words, stream)
     try:
-        ran = subprocess.run([path(), *words], input=stream, capture_output=True, timeout=SECONDS)
+        ran = subprocess.run([answering(words), *words], input=stream, capture_output=True, timeout=SECONDS, preexec_fn=with_room())
     except OSError as error:
         raise unreadable(path(), error) from None
     except subprocess.TimeoutExpired:
@@ -76,7 +103,7 @@ class Run:
     def __init__(self, words: list[str], stream: int | IO[bytes]):
         self.words, self.error = words, tempfile.TemporaryFile()
         try:
-            self.process = subprocess.Popen([path(), *words], stdin=stream, stdout=subprocess.PIPE, stderr=self.error)
+            self.process = subprocess.Popen([answering(words), *words], stdin=stream, stdout=subprocess.PIPE, stderr=self.error, preexec_fn=with_room())
         except OSError as error:
             raise unreadable(path(), error) from None
 
@@ -113,7 +140,7 @@ def kept(text):
 
 def again(name, reading=read):
     """A name under which the file can be read more than once, by the program too: of a pipe, and of a number under which a file is open
-    here alone, that of a copy; of a network with names that of what it means."""
+    here alone, that of a copy; of a network of Haskell that of what it means."""
     if os.path.isfile(name) and not name.startswith(("/dev/", "/proc/")):
         return network_path(name, name)
     stack = contextlib.ExitStack()

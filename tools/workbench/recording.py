@@ -6,10 +6,11 @@ from dataclasses import dataclass
 from typing import IO, Any
 
 from model.texts import ValueFault, read_value, step_of
+from front import spell
+from front.spell import columns, parts_of
 from model.trees import is_form, shown
 from workbench.ending import Refused, Words, writing
 from workbench.program import again
-from workbench.records import columns
 from workbench.speaking import named_types
 from workbench.streaming import MARK, MOST_LINE, lines
 from workbench.times import Times, number_in
@@ -25,7 +26,7 @@ The table's first row names its columns: `time`, and one for each part of the ty
 and for a record in it names such as `place.along`. Other columns are ignored. With --columns a column
 has another name in the table: `--columns time=seconds,x.fst=speed`.
 A cell holds the value as a stream has it: 5, true, unit, (list 1 2); for an event nothing if there is
-none, else its value. A list may have a column for each element instead, `x.0`, `x.1` and so on,
+none, else its value. Of a file of Haskell it is in Haskell's words: On, Event 3, (1, True). A list may have a column for each element instead, `x.0`, `x.1` and so on,
 empty after its end: a table's first row shows that, and going back --lists says how many.
 Times are decimal and rise; a step is the time since the row before in ticks. A tick is one unit of
 time, or --ticks says how many are in one: `--ticks 1000` for times in seconds and steps in
@@ -33,7 +34,7 @@ milliseconds. Going back, the first time is 0, or the one that --start gives."""
 
 
 def types_of(net: str) -> tuple:
-    """The input type and the output type of a network's file, as the program tells them, with the records of one with names."""
+    """The input type and the output type of a network's file, as the program tells them, in the words of one of Haskell."""
     return named_types(net)
 
 
@@ -95,16 +96,23 @@ def columns_of(type_, spread: int | None = None) -> list[Column]:
 
 
 def parts(value, type_) -> list[tuple]:
-    """The parts of a value that are no pairs, each with its type."""
-    if is_form("Pair", type_):
-        return parts(value[1], type_[1]) + parts(value[2], type_[2])
-    return [(value, type_)]
+    """The parts of a value that have columns of their own, each with its type."""
+    inner = parts_of(type_)
+    if not inner:
+        return [(value, type_)]
+    return [found for part, (_, of) in zip(spell.parts_in(value, len(inner)), inner) for found in parts(part, of)]
 
 
 def cell_of(value, type_) -> str:
     if is_form("Event", type_):
-        return "" if value == "none" else shown(value[1])
-    return shown(value)
+        return "" if value == "none" else told(value[1], type_[1])
+    return told(value, type_)
+
+
+def told(value, type_) -> str:
+    """A value as a cell has it: as a stream does, or in the program's words."""
+    shape = spell.shape_of(type_)
+    return shown(value) if shape is None else spell.spelt(spell.in_json(value), shape)
 
 
 def text_in(cell: str, type_, name: str) -> str:
@@ -113,20 +121,30 @@ def text_in(cell: str, type_, name: str) -> str:
     if is_event and not cell:
         return "none"
     of = type_[1] if is_event else type_
+    found = spelling(cell, of, f"column {name}")
+    return f"(event {found})" if is_event else found
+
+
+def spelling(text: str, type_, where: str) -> str:
+    """How a stream spells the value of a text."""
+    shape, why = spell.shape_of(type_), ""
     try:
-        read_value(cell.encode(), of)
+        if shape is not None:
+            return spell.read(text, shape)
+        read_value(text.encode(), type_)
+        return text
+    except spell.Misspelt as misspelt:
+        why = f": {misspelt}"
     except ValueFault:
-        told = cell if len(cell) <= 60 else cell[:60] + ".."
-        raise Refused(f"column {name}: {told or 'nothing'} is no {shown(of)}") from None
-    return f"(event {cell})" if is_event else cell
+        pass
+    brief = text if len(text) <= 60 else text[:60] + ".."
+    raise Refused(f"{where}: {brief or 'nothing'} is no {spell.shown_type(type_)}{why}")
 
 
 def joined(texts: Iterator[str], type_) -> str:
     """The text of the value whose parts these are, in order."""
-    if is_form("Pair", type_):
-        left, right = joined(texts, type_[1]), joined(texts, type_[2])
-        return f"(pair {left} {right})"
-    return next(texts)
+    inner = parts_of(type_)
+    return spell.nested([joined(texts, of) for _, of in inner]) if inner else next(texts)
 
 
 def is_column(name: str, type_) -> bool:

@@ -13,26 +13,26 @@ from workbench.ending import Refused, Words, missing, stream_bytes, write
 from workbench.laws import LAWS
 from workbench.layout import laid_out
 from workbench.outline import Network
-from workbench.parts import Look, looked_at
-from workbench.plotting import plot_of
+from workbench.parts import Look, looked_at, named, named_parts
+from workbench.plotting import beside, panels_in_page
 from workbench.program import again, answered, call
-from workbench.records import shown_type
+from front.spell import shown_type
 from workbench.shorter import shortened
 from workbench.speaking import spoken_types
 from workbench.tracing import steps_shown
 from workbench.watching import node_of
 
 ABOUT = """Writes one self-contained page on NET and its run on STREAM: the drawing, a drawing of each name's network, the
-outline with types, the plots; with TGT and CERT also each step of the certificate, with what was at its position
+outline with types, the plots, which can be zoomed and read at a sample; with TGT and CERT also each step of the certificate, with what was at its position
 before and what is there then. A line says what is too large for the page.
 
   yampa report NET STREAM -o FILE.html
   yampa report NET STREAM TGT CERT -o FILE.html
 
 The page is made by tools that are not proved; it marks what the program printed. Needs
-graphviz, python3-matplotlib and python3-jinja2 (Debian's packages)."""
+graphviz and python3-jinja2 (Debian's packages)."""
 
-ROWS, TEXT_BYTES, DEFINITIONS, SAMPLES = 2_000, 200_000, 60, 100_000
+ROWS, TEXT_BYTES, DEFINITIONS = 2_000, 200_000, 60
 
 
 def template() -> Any:
@@ -101,17 +101,25 @@ def certificate_of(net: str, target: str, name: str, files: tuple) -> dict:
     return {"name": name, "target": target, "verdict": verdict, "steps": steps}
 
 
-def plot(look: Look) -> bytes:
-    count = len(look.run.times)
-    if count > SAMPLES:
-        raise Refused(f"a page's plot takes {SAMPLES:,} samples, and the run has {count:,}: see `yampa plot --from --to`")
-    return plot_of(look, "", "svg")
+def plot(look: Look, safe: Callable) -> dict:
+    """The panels of the run, or why there are none."""
+    try:
+        return {"fault": "", "html": safe(panels_in_page(look))}
+    except Refused as refused:
+        return {"fault": str(refused)}
+
+
+def parts_by_name(whole: Network) -> list:
+    """A row for each part that has a name, by these names."""
+    rows, named_type = whole.rows, whole.program.named_type
+    found = [(name, at_text(at), shown_type(named_type(rows[at].type)), rows[at].weight) for at, name in named(whole).items()]
+    return sorted(found)[:ROWS]
 
 
 def page(given: Any) -> str:
     form, safe = template()
     net = again(given.net)
-    look = looked_at(net, stream_bytes(given.stream), lambda whole: [])
+    look = looked_at(net, stream_bytes(given.stream), named_parts)
     whole, count = look.whole, len(look.run.times)
     told = "; ".join(spoken_types(whole.program, answered(["types", net]).decode()).splitlines())
     drawing, definitions = drawings_of(whole, safe)
@@ -124,7 +132,9 @@ def page(given: Any) -> str:
         text=laid(whole.tree),
         stream=given.stream,
         run=f"{count:,} samples" + (f", up to {look.run.fault}" if look.run.fault else ""),
-        plot=picture("plot", safe, lambda: plot(look)),
+        plot=plot(look, safe),
+        style=safe(beside("panels.css")),
+        named=parts_by_name(whole),
         rows=outline(whole),
         left=f"The network has {len(whole.rows):,} parts; these are the first {ROWS:,}." if len(whole.rows) > ROWS else "",
         certificate=certificate_of(net, given.target, given.certificate, files) if files else None,

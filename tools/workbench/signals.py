@@ -5,6 +5,7 @@ import json
 from dataclasses import dataclass
 from typing import Any, Iterator, Union
 
+from front import spell
 from model.trees import is_form
 
 Tree = Any
@@ -151,10 +152,18 @@ def values_of(lines: list) -> list:
     return json.loads(b"[" + text.replace(b"\n", b",") + b"]")
 
 
+def told(value: Any, type_: Tree) -> str:
+    """What is shown of a value, or of the several values of a part in members, each of the type."""
+    return "[" + " ".join(spelt(one, type_) for one in value) + "]" if isinstance(value, Several) else spelt(value, type_)
+
+
 def spelt(value: Any, type_: Tree) -> str:
-    """The spelling of a value of the type; of a part that doesn't run `-`."""
+    """The spelling of a value of the type, in its program's words where it has some; of a part that doesn't run `-`."""
     if value is ABSENT:
         return "-"
+    shape = spell.shape_of(type_)
+    if shape is not None:
+        return spell.spelt(value, shape)
     if type_ == "Bool":
         return "true" if value else "false"
     if is_form("Pair", type_):

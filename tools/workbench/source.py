@@ -96,8 +96,9 @@ class File:
     version: str
 
 
-def read_file(name, data):
-    """The file, or the first word that doesn't fit."""
+def read_words(data):
+    """The reader of a network's file, whose version, input type and network, as they are written, follow; or the first word that
+    doesn't fit."""
     if len(data) > FILE_BYTES:
         raise SyntaxFault(FILE_BYTES, f"the file has over {FILE_BYTES:,} bytes", kind="too long")
     reader = Reader(data)
@@ -105,6 +106,12 @@ def read_file(name, data):
     input_type = reader.tree("T")
     node = reader.tree("N")
     reader.end()
+    return reader, version, input_type, node
+
+
+def read_file(name, data):
+    """The file, or the first word that doesn't fit."""
+    _, version, input_type, node = read_words(data)
     tree, origins = core(node)
     return File(name, data, plain(input_type), node, tree, origins, version)
 

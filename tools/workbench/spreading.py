@@ -12,18 +12,20 @@ from typing import Any
 
 from workbench import remote
 from workbench.batch import made
-from workbench.cluster import RETRIES, connected, in_order, last_line, program_bytes, result_of
-from workbench.definitions import is_source
+from workbench.cluster import RETRIES, connected, in_order, last_line, program_bytes, result_of, sent
 from workbench.ending import REFUSED, UNREADABLE, WRONG_WORDS, Refused, Words, read, write
 from workbench.origin import program_from
+from workbench.proposing import searcher
+from workbench.translated import is_haskell
 
 TOOLS = Path(__file__).resolve().parents[1]
 # What `falsify` and `prove` take that has a value; those of FILES name a file.
-ASKED = ["--assume", "--depth", "--seconds"]
+PACES = ["--step", "--steps", "--most-step", "--total", "--lists", "--samples", "--ints"]
+ASKED = ["--assume", "--depth", "--seconds", *PACES]
 OPTIONS = {
     "improve": [],
-    "falsify": [*ASKED, "--from", "--length", "--steps", "--seed"],
-    "prove": [*ASKED, "--invariant", "--step", "--most-step", "--total", "--lists", "--goal"],
+    "falsify": [*ASKED, "--from", "--length", "--seed"],
+    "prove": [*ASKED, "--invariant", "--goal"],
 }
 FILES = ["--assume", "--invariant", "--from"]
 # What stands in the statuses of several, the worst first: 4 is that something isn't known.
@@ -79,7 +81,7 @@ def task_of(command: str, name: str, options: list[tuple[str, str]], seed: int |
     named = [value for flag, value in options if flag in FILES] + [name]
     files = {path: data for one in named for path, data in files_of(one).items()}
     if command == "improve":
-        # The program takes what a file with names means.
+        # The program takes what a file of Haskell means.
         files = {os.path.realpath(name): program_from(name, read(name)).text}
     top = os.path.commonpath([os.path.dirname(path) for path in files])
 
@@ -93,16 +95,18 @@ def task_of(command: str, name: str, options: list[tuple[str, str]], seed: int |
 def files_of(name: str) -> dict[str, bytes]:
     """The files that a network is made of, or the one that a recording is, by their paths."""
     data = read(name)
-    texts = program_from(name, data).texts if is_source(data) else []
-    return {os.path.realpath(text.name): text.data for text in texts} or {os.path.realpath(name): data}
+    besides = program_from(name, data).read_besides() if is_haskell(name, data) else {}
+    return {os.path.realpath(path): held for path, held in {name: data, **besides}.items()}
 
 
-def packed_tools() -> bytes:
-    """The tools, as one file."""
+def packed_tools(command: str) -> bytes:
+    """The tools that a command wants, as one file."""
     packed = io.BytesIO()
     with tarfile.open(fileobj=packed, mode="w") as file:
-        for name in ("tool", "list", "model", "workbench"):
+        for name in ("tool", "search", "list", "front", "model", "workbench"):
             file.add(TOOLS / name, name, filter=lambda info: None if "__pycache__" in info.name else info)
+        if command == "improve":
+            file.add(searcher(), "yampa-search")
     return zlib.compress(packed.getvalue())
 
 
@@ -126,8 +130,10 @@ def told(command: str, task: Task, done: Done, out: Path | None) -> str:
     """The lines on a task, whose files are put into their places."""
     lines = done.output.splitlines() if command == "prove" else []
     lines = lines or [last_line(done.error).removeprefix(f"yampa {command}: ") or f"status {done.status}"]
-    if command == "improve" and not done.status:
-        lines = [f"improved: {kept(task, '', done.output.encode(), out)}"]
+    if command == "improve" and not done.status and out is not None:
+        to = str(out / made_name(command, task.name))
+        write(to, done.output.encode())
+        lines = [f"improved: {to}"]
     if command == "falsify" and done.output:
         lines = [f"{lines[0]}: {kept(task, '.false', done.output.encode(), out)}"]
     for name, data in done.made.items():
@@ -144,6 +150,12 @@ def kept(task: Task, ending: str, data: bytes, out: Path | None) -> str:
     return to
 
 
+def made_name(command: str, net: str) -> str:
+    """What is made of a network is called as that; but what `improve` makes of a file of Haskell is a core network."""
+    name = Path(net).name
+    return name.removesuffix(".hs") if command == "improve" else name
+
+
 # ---- the call
 
 
@@ -158,7 +170,7 @@ def arguments(command: str) -> Namespace:
     words.add_argument("nets", metavar="NET", nargs="+")
     words.set_defaults(seeds=0, options=[])
     given = words.parse_args()
-    twice = [name for name, count in Counter(Path(net).name for net in given.nets).items() if count > 1]
+    twice = [name for name, count in Counter(made_name(command, net) for net in given.nets).items() if count > 1]
     if given.out and twice:
         words.error(f"two networks are called {twice[0]}, and what is made goes into one folder")
     return given
@@ -169,9 +181,9 @@ def main(command: str) -> None:
     tasks, statuses = tasks_of(command, given), set()
     if given.out:
         made(given.out)
-    program, tools = program_bytes(), packed_tools()
+    program, tools = program_bytes(), packed_tools(command)
     with connected(given.cluster) as client:
-        held = [client.submit(remote.held, data) for data in (program, tools)]
+        held = [client.submit(remote.held, sent(data)) for data in (program, tools)]
         for task, done in in_order(client, tasks, lambda one: begun(client, held, command, one), come_back):
             print(told(command, task, done, given.out), end="", flush=True)
             statuses.add(done.status)

@@ -1,26 +1,38 @@
-"""Streams that pass through line by line: outputs with their steps, and lines that are nearly a stream."""
+"""Streams that pass through line by line, or are kept in files, and outputs with their steps."""
+import contextlib
 import os
 import re
 import select
+import stat
 import subprocess
-import sys
-from collections import Counter, deque
+import tempfile
+from collections import deque
 from collections.abc import Callable, Iterator
 
-from workbench.ending import PIECE, Refused, Words, called, unreadable, writing
+from workbench.ending import PIECE, Refused, Words, called, opened, pieces, unreadable, writing
 from workbench.program import Run, again
 
 MOST_LINE = 1 << 20
+# A byte order mark.
+MARK = b"\xef\xbb\xbf"
 
 TIMED = """Runs NET on the stream on standard input, and prints each output with the step of its sample: so the
 output of one network is a stream for the next one. It prints outputs as they come.
 
   yampa timed NET < STREAM | yampa run NEXT"""
 
-TIDY = """Makes a stream from lines that are nearly one: it removes a byte order mark, carriage returns, blank lines,
-blanks at the ends and comments (from ; or # on), and says on standard error what it mended.
 
-  yampa tidy < LINES > STREAM"""
+@contextlib.contextmanager
+def stream_file(name: str) -> Iterator[str]:
+    """The name of a file that holds a stream and can be read more than once: of a pipe, a copy of what the program can take of it."""
+    with opened(name) as file:
+        if name != "-" and stat.S_ISREG(os.fstat(file).st_mode):
+            yield name
+            return
+        with tempfile.NamedTemporaryFile("wb", prefix="yampa-") as copy:
+            copy.writelines(pieces(file, name))
+            copy.flush()
+            yield copy.name
 
 
 def piece_of_input() -> bytes:
@@ -111,40 +123,3 @@ def timed_main() -> None:
         told = run.told()
     if told.status:
         raise Refused(told.refusal(), told.status)
-
-
-# ---- lines that are nearly a stream
-
-MARK = b"\xef\xbb\xbf"
-
-
-def tidied(untidy: Iterator[bytes], mended: Counter) -> Iterator[bytes]:
-    """The lines of the stream that the lines are meant for; what was mended is counted."""
-    for number, line in enumerate(untidy):
-        if number == 0 and line.startswith(MARK):
-            mended["byte order marks"] += 1
-            line = line.removeprefix(MARK)
-        if line.endswith(b"\r"):
-            mended["carriage returns"] += 1
-            line = line[:-1]
-        if re.search(rb"[;#]", line):
-            mended["comments"] += 1
-            line = re.split(rb"[;#]", line, maxsplit=1)[0]
-        bare = line.strip(b" \t")
-        if not bare:
-            mended["blank lines"] += 1
-            continue
-        mended["lines with blanks at their ends"] += bare != line
-        yield bare + b"\n"
-
-
-def tidy_main() -> None:
-    words = Words("tidy", TIDY)
-    words.add_argument("-o", metavar="FILE", dest="to", help="writes there")
-    given = words.parse_args()
-    mended: Counter[str] = Counter()
-    with writing(given.to) as out:
-        out.writelines(tidied(lines(out.flush), mended))
-    for what, count in mended.items():
-        if count:
-            print(f"yampa tidy: {what} taken off: {count}", file=sys.stderr)

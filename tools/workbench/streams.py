@@ -3,6 +3,9 @@ import random
 from dataclasses import dataclass
 from typing import Any, NamedTuple, Optional
 
+from front.shapes import Shape, core_type
+from front.spell import is_told, named, shape_of, whole_of
+from model.texts import read_value
 from model.trees import GREATEST, is_form, shown
 
 LIMITS = [GREATEST, -GREATEST - 1, GREATEST - 1, 2**32, 2**31, 2**62]
@@ -23,13 +26,14 @@ Recording = list  # of pairs of a step and a Value; the first step counts nothin
 
 @dataclass
 class Wishes:
-    """What recordings are asked for: how long they are at most, which steps they have, how many elements a list has, and recordings
-    of which those that are made are variations."""
+    """What recordings are asked for: how long they are at most, which steps they have, how many elements a list has, between which
+    the numbers are, and recordings of which those that are made are variations."""
 
     length: int = LENGTH
     steps: Optional[list[int]] = None
     most_step: int = GREATEST
     lists: int = 5
+    ints: Optional[tuple[int, int]] = None
     recordings: tuple = ()
 
 
@@ -44,6 +48,11 @@ class Streams:
         self.long = [step for step in LONG_STEPS if step <= wishes.most_step] or [1]
 
     def number(self) -> int:
+        least, most = self.wishes.ints or (LIMITS[1], GREATEST)
+        found = self.any_number()
+        return found if least <= found <= most else self.rng.randint(least, most)
+
+    def any_number(self) -> int:
         way = self.rng.random()
         if way < 0.45 and self.numbers:
             return self.rng.choice(self.numbers)
@@ -54,6 +63,8 @@ class Streams:
         return self.rng.choice(LIMITS)
 
     def value(self, type_: Any) -> Any:
+        if is_told(type_):
+            return self.made(shape_of(type_))
         if type_ == "Int":
             return self.number()
         if not isinstance(type_, tuple):
@@ -64,8 +75,16 @@ class Streams:
             return ("event", self.value(type_[1])) if self.rng.random() < 0.4 else "none"
         return ("list", *[self.value(type_[1]) for _ in range(self.rng.randint(0, self.wishes.lists))])
 
+    def made(self, shape: Shape) -> Any:
+        """A name, or a constructor with its parts."""
+        one = self.rng.choice(shape.constructors)
+        text = whole_of(shape, one, [shown(self.value(named(part))) for _, part in one.parts])
+        return read_value(text.encode(), core_type(shape))
+
     def changed(self, value: Any, type_: Any) -> Any:
         """A value that is another one in one of its parts."""
+        if is_told(type_):
+            return self.value(type_)
         if type_ == "Int" and self.rng.random() < 0.4:
             return min(max(value + self.rng.choice([-10, -2, -1, 1, 2, 10]), -GREATEST - 1), GREATEST)
         if is_form("Pair", type_):

@@ -2,10 +2,9 @@
 from dataclasses import dataclass, field
 
 from model.trees import shown
-from workbench.definitions import Fault
 from workbench.origin import Program
-from workbench.records import shown_type
-from workbench.written import excerpt, place, readable
+from front.spell import shown_type
+from workbench.written import SyntaxFault, excerpt, place
 
 
 @dataclass
@@ -43,11 +42,8 @@ def told_at(program: Program, position: tuple, why: str, notes=()) -> Told:
     return Told(why, place_of.text.name, place_of.text.data, place_of.start, place_of.end - place_of.start, list(notes))
 
 
-def told_of(fault, name: str = "", data: bytes = b"") -> Told:
-    """What is told of a fault in a text: of one with names where that says, else in the file of that name."""
-    if isinstance(fault, Fault):
-        inside = [f"in the definition of {readable(fault.inside)}"] if fault.inside else []
-        return Told(str(fault), fault.text.name, fault.text.data, min(fault.at, len(fault.text.data)), fault.length, inside)
+def told_of(fault: SyntaxFault, name: str, data: bytes) -> Told:
+    """What is told of a fault in the text of the file of that name."""
     return Told(fault.why, name, data, min(fault.at, len(data)), fault.length or 1, [fault.mend], fault.also)
 
 

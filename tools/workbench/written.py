@@ -1,7 +1,8 @@
 """Words of files with their places: trees as they are written, faults, and what a word may be meant for."""
 import difflib
 import re
-from dataclasses import dataclass, field
+from collections.abc import Sequence
+from dataclasses import dataclass
 from typing import Any
 
 # What people write in the place of the language's words.
@@ -43,6 +44,14 @@ ELSEWHERE = {
 CONTROL = re.compile("[\x00-\x08\x0b-\x1f\x7f-\x9f]")
 
 
+@dataclass(frozen=True)
+class Text:
+    """A file: its name, and what it holds."""
+
+    name: str
+    data: bytes
+
+
 @dataclass
 class Node:
     """A tree as it is written: its word or number, its parts, and the bytes that it takes; the comments before it and behind it,
@@ -53,10 +62,10 @@ class Node:
     start: int
     end: int
     sort: str
-    comments: list = field(default_factory=list)
-    trailing: list = field(default_factory=list)
-    opened: list = field(default_factory=list)
-    closing: list = field(default_factory=list)
+    comments: Sequence[str] = ()
+    trailing: Sequence[str] = ()
+    opened: Sequence[str] = ()
+    closing: Sequence[str] = ()
 
 
 class SyntaxFault(Exception):
@@ -71,22 +80,33 @@ class SyntaxFault(Exception):
         return f"{name}:{line}:{column}: {self.why}"
 
 
-@dataclass(frozen=True)
+@dataclass(slots=True)
 class Token:
+    """A word or a parenthesis, its byte, the comments before it, and the one behind it in its line."""
+
     text: str
     at: int
+    before: Sequence[str] = ()
+    behind: Sequence[str] = ()
 
-    def end(self):
+    def end(self) -> int:
         return self.at + len(self.text)
 
 
-def tokens_of(data):
-    """The words and parentheses of a text, and its comments apart, each with its byte."""
-    tokens, comments = [], []
+def tokens_of(data: bytes) -> tuple[list[Token], list[str]]:
+    """The words and parentheses of a text with their comments, and the comments behind all of them."""
+    tokens: list[Token] = []
+    before: list[str] = []
     for found in re.finditer(rb";[^\n]*|[()]|[^ \t\r\n();]+", data):
-        token = Token(found.group().decode("latin-1"), found.start())
-        (comments if token.text.startswith(";") else tokens).append(token)
-    return tokens, comments
+        text, end = found.group().decode("latin-1"), tokens[-1].end() if tokens else 0
+        if not text.startswith(";"):
+            tokens.append(Token(text, found.start(), before or ()))
+            before = []
+        elif tokens and not before and not data.count(b"\n", end, found.start()):
+            tokens[-1].behind = [text.rstrip(" \t\r")]
+        else:
+            before.append(text.rstrip(" \t\r"))
+    return tokens, before
 
 
 def decoded(text: str) -> str:

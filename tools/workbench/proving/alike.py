@@ -7,6 +7,7 @@ import z3
 
 from workbench.proving.bounded import known, satisfied, solver_of
 from workbench.proving.induction import Candidate
+from workbench.proving.saying import equal, leaf_at
 from workbench.proving.system import Link, System
 from workbench.proving.terms import Leaf, Terms, formula, negation
 
@@ -30,20 +31,11 @@ class Class:
             groups.setdefault(values[place], []).append(place)
         return [Class(tuple(places), value if value == self.value else None) for value, places in groups.items()]
 
-    def candidates(self, terms: Terms, names: list[str]) -> list[Candidate]:
-        one, others = self.places[0], self.places[1:]
+    def candidates(self) -> list[Candidate]:
         if self.value is not None:
-            return [constant(terms, place, self.value, names) for place in self.places]
-        return [equality(terms, one, other, names) for other in others]
-
-
-def constant(terms: Terms, place: int, value: Any, names: list[str]) -> Candidate:
-    told = f"{names[place]} = {str(value).lower()}"
-    return Candidate(told, lambda s: terms.equal(s[place], value), (place, value), True)
-
-
-def equality(terms: Terms, one: int, other: int, names: list[str]) -> Candidate:
-    return Candidate(f"{names[one]} = {names[other]}", lambda s: terms.equal(s[one], s[other]), (one, other))
+            return [Candidate(equal(leaf_at(place), self.value), (place, self.value), True) for place in self.places]
+        one, *others = self.places
+        return [Candidate(("equal", leaf_at(one), leaf_at(other)), (one, other)) for other in others]
 
 
 def classes_of(system: System, rows: list[tuple]) -> list[Class]:
@@ -59,9 +51,8 @@ def equal_leaves(system: System, rows: list[tuple], held: list[Candidate], until
     """What of that holds behind each sample, where what is held does."""
     classes = kept_by(system, classes_of(system, rows), system.beginning, None, until)
     (link,) = system.chain(1)
-    classes = kept_by(system, classes, link, [candidate.of(link.before) for candidate in held], until)
-    names = system.names()
-    return [candidate for one in classes for candidate in one.candidates(system.terms, names)]
+    classes = kept_by(system, classes, link, [candidate.of(system.terms, link.before) for candidate in held], until)
+    return [candidate for one in classes for candidate in one.candidates()]
 
 
 def kept_by(system: System, classes: list[Class], link: Link, held: Optional[list[Leaf]], until: float) -> list[Class]:

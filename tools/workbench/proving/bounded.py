@@ -84,13 +84,19 @@ class Unrolling:
         broken = self.broken[first:count]
         if all(leaf is False for leaf in broken):
             return None
-        solver = self.solver(until)
-        solver.add(z3.Or([formula(leaf) for leaf in broken]))
+        solver = self.breaking(first, count, until)
         if not satisfied(solver):
             return None
         model = solver.model()
         at = next(number for number, leaf in enumerate(broken, first) if known(model, leaf))
         return self.recording(model, at + 1)
+
+    def breaking(self, first: int, count: int, until: float) -> z3.Solver:
+        """A recording on which the goal is false at a sample from the first on, before that number."""
+        self.extend(count, until)
+        solver = self.solver(until)
+        solver.add(z3.Or([formula(leaf) for leaf in self.broken[first:count]]))
+        return solver
 
     def is_fair(self, count: int, until: float) -> bool:
         """Whether there is a recording of so many samples on which all that is assumed holds."""

@@ -2,6 +2,7 @@
 import contextlib
 import os
 import random
+import sys
 import time
 from dataclasses import dataclass, field, replace
 from typing import Any, Callable, Iterator, Optional
@@ -9,17 +10,16 @@ from typing import Any, Callable, Iterator, Optional
 from model.texts import read_stream
 from model.trees import GREATEST
 from workbench.batches import Observer, Shortening, read_recording
-from workbench.ending import Refused, defect, missing
+from workbench.ending import UNREADABLE, Refused, defect, missing
 from workbench.program import call
 from workbench.proving.question import Pace, Question
 from workbench.proving.race import raced
 from workbench.proving.told import Hindered, Holds, Search, Searched, Tried, Unfair, Wrong
 from workbench.streams import Recording, Streams, Wishes, stream_text
 
-SHORTENING, CERTIFYING, BATCH, CONTRADICTING = 8.0, 10.0, 4_000, 100
-EARLY = 64
+SHORTENING, LEAST, CERTIFYING, BATCH, CONTRADICTING = 8.0, 5.0, 10.0, 4_000, 100
 # The ways that decide most questions, and soon.
-FIRST = ("narrow", "induction", "spacer", "certify")
+FIRST = ("states", "narrow", "induction", "spacer", "certify")
 Way = Callable[[Search], None]
 
 
@@ -34,7 +34,10 @@ class Verdict:
     unfair: Optional[int] = None
     searched: dict[str, str] = field(default_factory=dict)
     tried: dict[str, int] = field(default_factory=dict)
-    hindered: list[str] = field(default_factory=list)
+    hindered: dict[str, str] = field(default_factory=dict)
+    ways: int = 0
+    found_after: float = 0.0
+    condition: str = ""
     interrupted: bool = False
 
     def hear(self, way: str, told: Any) -> None:
@@ -51,28 +54,43 @@ class Verdict:
                 self.tried[way] = streams
             case Unfair(samples):
                 self.unfair = samples
-            case Hindered(why) if why not in self.hindered:
-                self.hindered.append(why)
+            case Hindered(why):
+                self.hindered[way] = why
 
     def streams(self) -> int:
         return sum(self.tried.values())
 
+    def why_nothing_was_tried(self) -> str:
+        """Where no way to an answer worked, the reasons; else nothing."""
+        decided = self.holds or self.recording or self.certified or self.unfair is not None or self.interrupted
+        return "" if decided or len(self.hindered) < self.ways else "; ".join(dict.fromkeys(self.hindered.values()))
+
+    def after(self, other: "Verdict") -> "Verdict":
+        """The verdict with what was searched before."""
+        return replace(self, searched={**other.searched, **self.searched}, tried={**{f"before {way}": count for way, count in other.tried.items()}, **self.tried})
+
     def what_was_searched(self) -> str:
-        random_ones = [f"{self.streams():,} random streams"] if self.tried else []
-        return "; ".join([*self.searched.values(), *random_ones, *self.hindered]) or "the time was over"
+        count = self.streams()
+        return "; ".join([*self.searched.values(), f"{count:,} random stream{'s' * (count != 1)}", *dict.fromkeys(self.hindered.values())])
 
 
 @dataclass
 class Limits:
-    """How long is looked, and how deep."""
+    """How long is looked, how deep, and whether what a proof rests on is written down."""
 
     seconds: float = 60.0
     depth: int = 2048
+    obliged: bool = False
+
+
+def breaks(question: Question, verdict: Verdict) -> bool:
+    """Whether a question is false where the verdict's recording ends."""
+    return Observer(question.observer()).first(verdict.recording) == verdict.sample
 
 
 def allowed(pace: Pace, wishes: Optional[Wishes] = None) -> Callable[[Recording], bool]:
     """Whether a recording has the steps that are asked for."""
-    steps = [pace.step] if pace.step else wishes.steps if wishes else None
+    steps = pace.steps or (wishes.steps if wishes else None)
 
     def holds(recording: Recording) -> bool:
         later = [step for step, _ in recording[1:]]
@@ -84,7 +102,7 @@ def allowed(pace: Pace, wishes: Optional[Wishes] = None) -> Callable[[Recording]
 
 def wishes_of(pace: Pace) -> Wishes:
     """Random recordings of this pace."""
-    return Wishes(steps=[pace.step] if pace.step else None, most_step=pace.most or GREATEST, lists=pace.lists)
+    return Wishes(steps=pace.steps, most_step=pace.most or GREATEST, lists=pace.lists)
 
 
 class Decision:
@@ -110,25 +128,40 @@ class Decision:
         """What the ways lead to. One that finds a certificate says more than z3, which waits for it a while."""
         with contextlib.suppress(Refused):
             self.question.parts  # found here, and once for all ways
-        search = Search(self.question, self.until, self.limits.depth, self.confirmed)
+        search = Search(self.question, self.until, self.limits.depth, self.confirmed, self.limits.obliged)
         running = {name: guarded(way, search) for name, way in ways.items()}
-        seconds, waits = self.limits.seconds, "certify" in ways
+        self.verdict.ways = len(ways)
         try:
-            for name, told in raced(running, FIRST, seconds):
+            for name, told in raced(running, FIRST, self.limits.seconds):
                 if isinstance(told, Holds) and name != "certify":
                     told = self.contradicted() or told
                 if isinstance(told, Wrong):
                     if self.shortened(name, told.recording):
                         return self.verdict
                     continue
+                self.verdict.found_after = self.verdict.found_after or (self.passed() if isinstance(told, Holds) else 0.0)
                 self.verdict.hear(name, told)
-                if self.verdict.unfair == 0 or self.verdict.certified or self.verdict.holds and not waits:
-                    break
-                if self.verdict.holds and time.monotonic() > self.until - self.limits.seconds + CERTIFYING:
+                if self.is_decided("certify" in ways):
                     break
         except KeyboardInterrupt:
             self.verdict.interrupted = True
+        if why := self.verdict.why_nothing_was_tried():
+            raise Refused(f"nothing could be tried: {why}", UNREADABLE)
+        if self.verdict.unfair == 0:
+            raise Refused("no recording keeps to what is assumed: it is false at the first sample, whatever the input")
         return self.verdict
+
+    def passed(self) -> float:
+        """How many seconds it has been looked at."""
+        return time.monotonic() - (self.until - self.limits.seconds)
+
+    def is_decided(self, certifying: bool) -> bool:
+        """Whether nothing better than what is known is waited for: a certificate for a while, and for as long again as it took to find
+        that it holds of recordings that aren't too long, that it holds of all."""
+        verdict, passed = self.verdict, self.passed()
+        if verdict.holds and verdict.holds.bounded:
+            return passed > 2 * verdict.found_after
+        return verdict.unfair == 0 or bool(verdict.certified or verdict.holds and (not certifying or passed > CERTIFYING))
 
     def contradicted(self) -> Optional[Wrong]:
         """A recording on which the program outputs false, of some random ones that are run where z3 says that there is none."""
@@ -144,11 +177,29 @@ class Decision:
         if first is None:
             self.verdict.hear(name, Hindered("a recording was found that the program doesn't confirm"))
             return False
-        until = min(time.monotonic() + SHORTENING, max(self.until, time.monotonic() + 0.5))
-        shortening = Shortening(self.observer, self.question.given, self.allowed, until)
-        best = shortening.shortest(recording, first)
+        best = self.simplest(recording, first)
+        while (shorter := self.shorter(best)) is not None:
+            best = self.simplest(shorter, len(shorter))
         self.verdict.recording, self.verdict.sample = best, len(best)
         return True
+
+    def simplest(self, recording: Recording, first: int) -> Recording:
+        """The recording made short, and its numbers small, in a while."""
+        until = min(time.monotonic() + SHORTENING, max(self.until, time.monotonic() + 0.5))
+        return Shortening(self.observer, self.question.given, self.allowed, until).shortest(recording, first)
+
+    def shorter(self, best: Recording) -> Optional[Recording]:
+        """A recording of fewer samples, if z3 is there and finds one in a while."""
+        until = min(self.until, time.monotonic() + LEAST)
+        if len(best) == 1 or until <= time.monotonic():
+            return None
+        with contextlib.suppress(Refused, KeyboardInterrupt):
+            way = guarded(shorter_than(len(best)), Search(self.question, until, self.limits.depth, self.confirmed))
+            for _, told in raced({"least": way}, ("least",), until - time.monotonic()):
+                if isinstance(told, Wrong):
+                    recording = self.read(told.recording)
+                    return recording[: self.first(recording)]
+        return None
 
 
 def guarded(way: Way, search: Search) -> Callable:
@@ -197,16 +248,11 @@ def at_random(seed: str, numbers: list[int], wishes: Wishes) -> Way:
 
 
 def in_long_recordings(wishes: Wishes) -> Way:
-    """Random recordings of as many samples as are searched. Those that are false early are left to z3 at first, which finds the
-    shortest; for that it has as long again as a late one took."""
+    """Random recordings of as many samples as are searched."""
 
     def way(search: Search) -> None:
-        begun, half = time.monotonic(), search.left() / 2
         for recording in tried_at_random(search, "long", search.question.numbers, replace(wishes, length=search.depth)):
-            taken = time.monotonic() - begun
-            if len(recording) > EARLY or taken > half:
-                time.sleep(min(taken, half))
-                search.tell(Wrong(stream_text(recording)))
+            search.tell(Wrong(stream_text(recording)))
 
     return way
 
@@ -223,7 +269,7 @@ def certifying(source: str, target: str) -> Way:
         told = call(["certify", source, target])
         steps = told.output.count(b"(step ")
         if told.status == 0:
-            search.tell(Holds(f"a certificate of {steps:,} steps, which `yampa certify` prints and `yampa check` accepts"))
+            search.tell(Holds(f"a certificate of {steps:,} steps, which `yampa certify` prints and `yampa check` accepts", ""))
         else:
             search.tell(Searched("certify", "`yampa certify` finds no certificate"))
 
@@ -231,6 +277,25 @@ def certifying(source: str, target: str) -> Way:
 
 
 # ---- ways of z3
+
+
+def shorter_than(count: int) -> Way:
+    """Refused where z3 isn't there."""
+    ways_of_z3(False)
+    from workbench.proving import search
+
+    return search.shorter_than(count)
+
+
+def ways_or_none(name: str, proving: bool) -> dict[str, Way]:
+    """Those of z3; where it isn't there that is told, and there are none."""
+    try:
+        return ways_of_z3(proving)
+    except Refused as refused:
+        if refused.status != UNREADABLE:
+            raise
+        print(f"yampa {name}: {refused}; so without z3", file=sys.stderr)
+        return {}
 
 
 def ways_of_z3(proving: bool) -> dict[str, Way]:

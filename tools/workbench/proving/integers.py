@@ -1,12 +1,15 @@
 """Invariants that z3's Spacer finds by itself, over unbounded integers: they are enough for the goal where none leaves 64 bits."""
 import time
+from functools import reduce
 from typing import Any, Optional
 
 import z3
 
 from workbench.proving.induction import Candidate
+from workbench.proving.saying import leaf_at
 from workbench.proving.system import System
 from workbench.proving.terms import Leaf, formula, is_truth, negation
+from workbench.proving.values import Tree
 
 
 def unknowns(found: list[z3.ExprRef]) -> list[z3.ExprRef]:
@@ -33,6 +36,8 @@ class Horn:
         self.wrong = z3.Function("wrong", z3.BoolSort())
         self.rules = z3.Fixedpoint()
         self.rules.set(engine="spacer", timeout=max(1, int((until - time.monotonic()) * 1000)))
+        # What Spacer finds soon depends on chance: by this number it decides what the tests want.
+        self.rules.set(**{"spacer.random_seed": 42})
         self.rules.register_relation(self.reached, self.wrong)
         self.add(system.start, True, [])
         state, lengths = system.unknown("state")
@@ -61,18 +66,46 @@ class Horn:
         return self.rules.query(self.wrong()) == z3.unsat
 
     def invariant(self) -> Optional[Candidate]:
-        """What Spacer found to hold of each state."""
-        answer = self.rules.get_answer()
+        """What Spacer found to hold of each state, if it is an expression of the language."""
+        answer, count = self.rules.get_answer(), len(self.system.truths)
         for part in [answer, *answer.children()]:
-            if z3.is_quantifier(part) and part.num_vars() == len(self.system.truths):
-                return Candidate(" ".join(str(said_of(part, self.named())).split()), lambda leaves, part=part: said_of(part, self.terms(leaves)))
+            if z3.is_quantifier(part) and part.num_vars() == count:
+                said = said_by(part.body().children()[-1], count)
+                return None if said is None else Candidate(said)
         return None
 
-    def named(self) -> list[z3.ExprRef]:
-        """A variable for each leaf of the state, by the leaf's name."""
-        return [z3.Bool(name) if truth else z3.Int(name) for name, truth in zip(self.system.names(), self.system.truths)]
+
+# The operations of z3 that are those of the language, and which of these on how many operands.
+OPERATIONS = {
+    z3.Z3_OP_AND: "and",
+    z3.Z3_OP_OR: "or",
+    z3.Z3_OP_NOT: "not",
+    z3.Z3_OP_EQ: "equal",
+    z3.Z3_OP_ITE: "if",
+    z3.Z3_OP_LT: "less",
+    z3.Z3_OP_ADD: "add",
+    z3.Z3_OP_SUB: "sub",
+    z3.Z3_OP_MUL: "mul",
+    z3.Z3_OP_UMINUS: "neg",
+}
 
 
-def said_of(part: z3.QuantifierRef, terms: list[z3.ExprRef]) -> z3.BoolRef:
-    """What a rule of Spacer's answer says of these terms, in the places of its variables."""
-    return z3.substitute_vars(part.body().children()[-1], *reversed(terms))
+def said_by(term: z3.ExprRef, count: int) -> Optional[Tree]:
+    """The expression that is a term on so many variables, the last of which is the state's first leaf; None where there is none."""
+    if z3.is_var(term):
+        return leaf_at(count - 1 - z3.get_var_index(term))
+    if z3.is_int_value(term):
+        return term.as_long()
+    if z3.is_true(term) or z3.is_false(term):
+        return str(term).lower()
+    parts = [said_by(part, count) for part in term.children()]
+    kind = term.decl().kind()
+    if not parts or None in parts:
+        return None
+    if kind in (z3.Z3_OP_LE, z3.Z3_OP_GE):
+        return ("not", ("less", *(reversed(parts) if kind == z3.Z3_OP_LE else parts)))
+    if kind == z3.Z3_OP_GT:
+        return ("less", *reversed(parts))
+    if kind in (z3.Z3_OP_AND, z3.Z3_OP_OR, z3.Z3_OP_ADD, z3.Z3_OP_MUL):
+        return reduce(lambda left, right: (OPERATIONS[kind], left, right), parts)
+    return (OPERATIONS[kind], *parts) if kind in OPERATIONS else None

@@ -59,7 +59,10 @@ class Machine:
     def step(self, state: Tree, d: Any, a: Tree, env: Environment) -> tuple:
         """The output at a sample, and the state behind it."""
         env.terms.step()
-        return self.advance(state, d, a, env)
+        output, behind = self.advance(state, d, a, env)
+        if env.terms.outputs is not None:
+            env.terms.outputs[self] = output
+        return output, behind
 
     def advance(self, state: Tree, d: Any, a: Tree, env: Environment) -> tuple:
         raise NotImplementedError

@@ -1,13 +1,14 @@
 """What may hold of a system's states: guessed from the states of random recordings, by templates."""
 import random
-from dataclasses import dataclass
+from dataclasses import dataclass, field
 from itertools import combinations, permutations
 from typing import Any, Iterator, Optional
 
 from model.trees import GREATEST
 from workbench.proving.induction import Candidate
+from workbench.proving.saying import at_least, at_most, equal, in_modes, leaf_at, one_of
 from workbench.proving.system import System
-from workbench.proving.terms import LEAST, Leaf, Terms, both, either, implied, negation
+from workbench.proving.terms import LEAST
 from workbench.proving.values import encoded
 from workbench.streams import Streams, Wishes
 
@@ -21,7 +22,7 @@ FEW, MODES, MOST, RAISED = 12, 20, 2_000, 12
 class Bound(Candidate):
     """A candidate with a number that may be raised."""
 
-    raise_: Any = None
+    raise_: Any = field(default=None, compare=False)
 
     def weaker(self, after: list, value: Any) -> Optional[Candidate]:
         return self.raise_(after, value)
@@ -43,7 +44,7 @@ class States:
 
     def simulated(self) -> Iterator[tuple]:
         system, pace = self.system, self.system.pace
-        wishes = Wishes(LENGTH, [pace.step] if pace.step else None, pace.most or 2**63 - 1, pace.lists)
+        wishes = Wishes(LENGTH, pace.steps, pace.most or 2**63 - 1, pace.lists, pace.ints)
         streams = Streams(system.question.given, system.question.numbers, random.Random(SEED), wishes)
         for _ in range(RUNS):
             state = system.start
@@ -56,7 +57,8 @@ class States:
     def behind(self, state: Any, step: int, sample: Any) -> Optional[Any]:
         """The state behind a sample, or None where it isn't fair; it is tried with a step of 1 too."""
         system, pace = self.system, self.system.pace
-        for length in [step, 1] if step and system.timed and not pace.step else [step and (pace.step or 1)]:
+        others = [pace.step or 1] if not system.timed else [step] if pace.steps else [step, 1]
+        for length in others if step else [0]:
             frame = system.step(state, length, sample)
             self.taken += system.terms.steps
             if frame.fair is True and frame.inside is True:
@@ -68,9 +70,8 @@ class Templates:
     """The candidates that some states leave."""
 
     def __init__(self, system: System, rows: list[tuple]):
-        self.terms: Terms = system.terms
-        self.names, self.truths = system.names(), system.truths
-        self.columns = list(zip(*rows)) or [()] * len(self.names)
+        self.truths = system.truths
+        self.columns = list(zip(*rows)) or [()] * len(self.truths)
         near = {number + by for number in [0, *system.question.numbers] for by in (-1, 0, 1)}
         self.numbers = sorted(number for number in near if LEAST <= number <= GREATEST)
         self.far = 4 * sum(abs(number) for number in system.question.numbers if abs(number) < 2**20) + 16
@@ -85,34 +86,30 @@ class Templates:
         """Bounds and differences."""
         return [*self.bounds(), *self.differences()][:MOST]
 
-    def in_modes(self) -> list[Candidate]:
-        """The same in modes; what is plain is guessed before."""
+    def values_in_modes(self) -> list[Candidate]:
+        """Values and bounds in modes."""
+        return [found for mode, rows in self.modes() for found in self.values_in((mode,), rows)][:MOST]
+
+    def differences_in_modes(self) -> list[Candidate]:
         return [*self.of_modes()][:MOST]
 
     def bounds(self) -> Iterator[Candidate]:
         for place in self.ints:
             values = sorted(set(self.columns[place]))
-            yield from self.bounded(place, values, "", lambda s: True)
+            yield from self.bounded(place, values, ())
             if 1 < len(values) <= FEW:
-                told = f"{self.names[place]} is one of {', '.join(map(said, values))}"
-                yield Candidate(told, lambda s, i=place, vs=values: self.one_of(s[i], vs))
+                is_span = values[-1] - values[0] == len(values) - 1
+                few = [at_least(leaf_at(place), values[0]), at_most(leaf_at(place), values[-1])] if is_span else [one_of(leaf_at(place), values)]
+                yield from map(Candidate, few)
 
-    def one_of(self, leaf: Leaf, values: list) -> Leaf:
-        found: Leaf = False
-        for value in values:
-            found = either(found, self.terms.equal(leaf, value))
-        return found
-
-    def bounded(self, place: int, values: Any, told: str, given: Any) -> Iterator[Candidate]:
-        """The numbers of the file that bound a leaf where something is given, and more closely so than everywhere."""
-        terms, least, most = self.terms, min(values), max(values)
-        everywhere = (min(self.columns[place]), max(self.columns[place])) if told else (least - 1, most + 1)
-        below = [number for number in self.numbers if everywhere[0] < number <= least or number <= least and not told][-2:]
-        above = [number for number in self.numbers if most <= number < everywhere[1] or number >= most and not told][:2]
-        for number in below:
-            yield Candidate(f"{told}{self.names[place]} >= {number}", lambda s, c=number: implied(given(s), negation(terms.less(s[place], c))))
-        for number in above:
-            yield Candidate(f"{told}{self.names[place]} <= {number}", lambda s, c=number: implied(given(s), negation(terms.less(c, s[place]))))
+    def bounded(self, place: int, values: Any, modes: tuple) -> Iterator[Candidate]:
+        """The numbers of the file that bound a leaf in some modes, and more closely so than everywhere."""
+        least, most = min(values), max(values)
+        everywhere = (min(self.columns[place]), max(self.columns[place])) if modes else (least - 1, most + 1)
+        below = [number for number in self.numbers if everywhere[0] < number <= least or number <= least and not modes][-2:]
+        above = [number for number in self.numbers if most <= number < everywhere[1] or number >= most and not modes][:2]
+        yield from (Candidate(in_modes(modes, at_least(leaf_at(place), number))) for number in below)
+        yield from (Candidate(in_modes(modes, at_most(leaf_at(place), number))) for number in above)
 
     def differences(self) -> Iterator[Candidate]:
         for pair in permutations(self.ints, 2):
@@ -124,24 +121,20 @@ class Templates:
         most = self.farthest[pair, modes] = max(apart[row] for row in rows)
         fewer = [self.farthest.get((pair, tuple(mode for mode in modes if mode != one))) for one in modes]
         if most not in fewer and -self.far <= most <= self.far:
-            yield self.within(pair, most, self.told(modes), self.given(modes), 0)
+            yield self.within(pair, most, modes, 0)
 
-    def within(self, pair: tuple, most: int, told: str, given: Any, raised: int) -> Candidate:
+    def within(self, pair: tuple, most: int, modes: tuple, raised: int) -> Candidate:
         """That one number is at most so much greater than another; what a model refutes is raised a few times."""
-        terms, (one, other) = self.terms, pair
-
-        def holds(s: list) -> Leaf:
-            if most == 0:
-                return implied(given(s), negation(terms.less(s[other], s[one])))
-            return implied(given(s), negation(terms.less(most, terms.minus(s[one], s[other]))))
+        one, other = pair
+        claim = at_most(("sub", leaf_at(one), leaf_at(other)), most) if most else ("not", ("less", leaf_at(other), leaf_at(one)))
 
         def weaker(after: list, value: Any) -> Optional[Candidate]:
             more = value(after[one]) - value(after[other])
             if raised == RAISED or not most < more <= self.far:
                 return None
-            return self.within(pair, more, told, given, raised + 1)
+            return self.within(pair, more, modes, raised + 1)
 
-        return Bound(f"{told}{self.names[one]} - {self.names[other]} <= {most}", holds, raise_=weaker)
+        return Bound(in_modes(modes, claim), raise_=weaker)
 
     def distance(self, pair: tuple) -> list[int]:
         """How far two numbers are apart in each row."""
@@ -167,45 +160,24 @@ class Templates:
     def of_modes(self) -> Iterator[Candidate]:
         modes = self.modes()
         for mode, rows in modes:
-            yield from self.in_mode((mode,), rows)
+            yield from self.apart_in((mode,), rows)
         if len(modes) <= MODES:
             for (first, rows), (second, others) in combinations(modes, 2):
                 rows = sorted({*rows} & {*others})
                 if first[0] != second[0] and rows:
                     yield from self.apart_in((first, second), rows)
 
-    def in_mode(self, modes: tuple, rows: list[int]) -> Iterator[Candidate]:
-        given, told = self.given(modes), self.told(modes)
+    def values_in(self, modes: tuple, rows: list[int]) -> Iterator[Candidate]:
         for place in [*self.bools, *self.ints]:
             values = {self.columns[place][row] for row in rows}
             if place == modes[0][0]:
                 continue
             if len(values) == 1:
-                known = values.pop()
-                yield Candidate(f"{told}{self.names[place]} = {said(known)}", lambda s, i=place, c=known: implied(given(s), self.terms.equal(s[i], c)))
+                yield Candidate(in_modes(modes, equal(leaf_at(place), values.pop())))
             elif place in self.ints:
-                yield from self.bounded(place, values, told, given)
-        yield from self.apart_in(modes, rows)
+                yield from self.bounded(place, values, modes)
 
     def apart_in(self, modes: tuple, rows: list[int]) -> Iterator[Candidate]:
         for pair in permutations(self.ints, 2):
             if all(mode not in pair for mode, _ in modes):
                 yield from self.apart(pair, rows, modes)
-
-    def given(self, modes: tuple) -> Any:
-        """Whether a state is in these modes."""
-
-        def holds(s: list) -> Leaf:
-            found: Leaf = True
-            for place, value in modes:
-                found = both(found, self.terms.equal(s[place], value))
-            return found
-
-        return holds
-
-    def told(self, modes: tuple) -> str:
-        return "" if not modes else "where " + " and ".join(f"{self.names[place]} is {said(value)}" for place, value in modes) + ": "
-
-
-def said(value: Any) -> str:
-    return str(value).lower()

@@ -8,6 +8,7 @@ from model.trees import expanded
 from model.typed import TypeFault, Typed, check_types
 from workbench.ending import Refused
 
+# How many ticks a recording has at most, and how many samples one that `run` takes.
 TOTAL, SAMPLES = 2**62, 1_000_000
 OUTPUT = ("arr", ("snd", "x"))
 TIMED = ("delay", "after", "repeatedly", "time", "integral")
@@ -16,19 +17,39 @@ ALIKE = ("arr", ("equal", ("fst", ("snd", "x")), ("snd", ("snd", "x"))))
 
 @dataclass(frozen=True)
 class Pace:
-    """What steps a recording may have, and how many elements its lists."""
+    """What steps a recording may have, how many elements its lists, between which its numbers are, and how many samples it has at most:
+    any number, or where nothing is known of these the bound to fall back to."""
 
     step: Optional[int] = None
     most: Optional[int] = None
     total: Optional[int] = TOTAL
     lists: int = 4
+    among: Optional[tuple[int, ...]] = None
+    ints: Optional[tuple[int, int]] = None
+    samples: Optional[int] = None
+    fallback: Optional[int] = SAMPLES
+
+    def most_samples(self) -> Optional[int]:
+        """How many samples may come behind the first, where that is bounded, also by the sum of the steps."""
+        by_total = [self.total // min(self.steps or [1])] if self.total not in (None, TOTAL) else []
+        by_count = [self.samples - 1] if self.samples else []
+        return min(by_total + by_count, default=None)
+
+    @property
+    def steps(self) -> Optional[list[int]]:
+        """The steps that it may have, if these are few."""
+        return [self.step] if self.step else list(self.among) if self.among else None
 
     def told(self, timed: bool, listed: bool) -> str:
         """Which recordings these are, in words."""
         words = [f"of at most {power(self.total)} ticks"] if self.total and (timed or self.total != TOTAL) else []
         if timed:
-            words += [f"with steps of {self.step}"] if self.step else [f"with steps of at most {self.most}"] if self.most else []
+            few = " or ".join(map(str, self.steps or []))
+            words += [f"with steps of {few}"] if few else [f"with steps of at most {self.most}"] if self.most else []
+        elif self.samples:
+            words.append(f"of at most {self.samples:,} samples")
         words += [f"with lists of at most {self.lists} elements"] if listed else []
+        words += [f"with numbers from {self.ints[0]} to {self.ints[1]}"] if self.ints else []
         return "".join(f" {word}" for word in words)
 
 
@@ -49,6 +70,12 @@ class Question:
     pace: Pace = field(default_factory=Pace)
 
     @cached_property
+    def observed(self) -> tuple:
+        """All observers of the input that hold on the recordings that are asked of: what is assumed, and the span of the numbers."""
+        tests = within(self.given, "x", self.pace.ints, self.pace.lists) if self.pace.ints else []
+        return (*self.assumed, ("arr", all_hold(tests))) if tests else self.assumed
+
+    @cached_property
     def output(self) -> Any:
         """The type of what the networks output: of two of them the pair."""
         types = [check_types(self.given, net).output for net in self.nets]
@@ -61,7 +88,7 @@ class Question:
         try:
             nets = [check_types(self.given, net) for net in self.nets]
             watching = [check_types(seen, net) for net in (self.goal, *self.lemmas)]
-            return nets + watching + [check_types(self.given, net) for net in self.assumed]
+            return nets + watching + [check_types(self.given, net) for net in self.observed]
         except TypeFault as fault:
             raise Refused(f"with what it is asked of, the network is refused: {fault}") from None
 
@@ -84,9 +111,48 @@ class Question:
         net = self.nets[0] if len(self.nets) == 1 else ("&&&", *self.nets)
         goal = net if self.goal == OUTPUT else (">>>", ("&&&", "identity", net), self.goal)
         fair: Any = ("constant", "true")
-        for assumed in self.assumed:
+        for assumed in self.observed:
             fair = (">>>", ("&&&", fair, assumed), ("arr", ("and", ("fst", "x"), ("snd", "x"))))
         return network_text(self.given, expanded(("&&&", fair, goal)))
+
+
+def within(type_: Any, place: Any, ints: tuple[int, int], lists: int) -> list:
+    """The tests that all numbers of a value of this type, an expression, are in a span; its lists have at most so many elements."""
+    match type_:
+        case "Int":
+            return [("not", ("less", place, ints[0])), ("not", ("less", ints[1], place))]
+        case ("Pair", left, right):
+            return within(left, ("fst", place), ints, lists) + within(right, ("snd", place), ints, lists)
+        case ("Event", part):
+            tests = within(part, ("snd", "x"), ints, lists)
+            return [("on", place, "true", all_hold(tests))] if tests else []
+        case ("List", part):
+            items = [(at, all_hold(within(part, ("nth", place, at, least(part)), ints, lists))) for at in range(lists)]
+            return [("or", ("not", ("less", at, ("len", place))), test) for at, test in items if test != "true"]
+    return []
+
+
+def all_hold(tests: list) -> Any:
+    found: Any = "true"
+    for test in tests:
+        found = test if found == "true" else ("and", found, test)
+    return found
+
+
+def least(type_: Any) -> Any:
+    """An expression of a type's simplest value."""
+    match type_:
+        case "Unit":
+            return "unit"
+        case "Bool":
+            return "false"
+        case "Int":
+            return 0
+        case ("Pair", left, right):
+            return ("pair", least(left), least(right))
+        case ("Event", part):
+            return ("none", part)
+    return ("list", type_[1])
 
 
 def words_in(tree: Any) -> list:

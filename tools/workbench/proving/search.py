@@ -1,20 +1,31 @@
 """The ways to answer a question, run side by side: bounded search, induction, unbounded integers."""
+import time
 from dataclasses import replace
-from typing import Callable, Optional, Sequence
+from typing import Callable, Iterator, Optional, Sequence
 
 import z3
 
 from workbench.proving.alike import equal_leaves
 from workbench.proving.bounded import Unknown, Unrolling, depths, fair_samples
-from workbench.proving.induction import Candidate, is_inductive, kept
+from workbench.proving.induction import Candidate, broken_goal, broken_invariants, is_inductive, kept, needed
 from workbench.proving.integers import Horn
+from workbench.proving.linear import Linear
 from workbench.proving.mining import FEW_STEPS, STEPS, States, Templates
-from workbench.proving.question import Pace
+from workbench.proving.question import Pace, Question
+from workbench.proving.reached import by_reaching
 from workbench.proving.system import System
 from workbench.proving.terms import Terms
 from workbench.proving.told import Holds, Search, Searched, Unfair, Wrong
+from workbench.proving.views import viewed
 
 SPARE_BITS, LATER, SHALLOW, FIRST_SAMPLES = 4, 2**40, 8, 6
+# Over how many samples induction is tried, before one more.
+FEW, MORE = (0, 1), (0, 1, 2, 4, 8)
+# How many seconds there are to write down what a proof rests on.
+OBLIGED = 60.0
+# For how many seconds it is looked which invariants a proof needs.
+NEEDED = 5.0
+Way = Callable[[Search], None]
 WITHIN = " over integers, of which none leaves 64 bits"
 
 
@@ -31,6 +42,9 @@ def looked_into(search: Search, system: System, until: float, told: str, most: O
             return None
         if found:
             return found
+        if system.terms.width == 64 and search.question.observed and not unrolling.is_fair(depth, until):
+            search.tell(Unfair(fair_samples(system, depth, until)))
+            return None
         clear = depth
         search.tell(Searched(told, f"none up to {clear} sample{'s' * (clear != 1)}{told}"))
     return None
@@ -39,7 +53,7 @@ def looked_into(search: Search, system: System, until: float, told: str, most: O
 def paces(search: Search) -> list[Pace]:
     """Steps of one first, which are easier, then any."""
     pace, question = search.question.pace, search.question
-    return [pace] if pace.step or not question.timed else [replace(pace, step=1), pace]
+    return [pace] if pace.steps or not question.timed else [replace(pace, step=1), pace]
 
 
 def told_steps(search: Search, pace: Pace) -> str:
@@ -47,11 +61,15 @@ def told_steps(search: Search, pace: Pace) -> str:
     return " with steps of 1" if one else " with any steps" if len(paces(search)) == 2 else ""
 
 
+def narrow_width(question: Question) -> int:
+    """How many bits the numbers of the networks need, but those that are far away, and a few more."""
+    return max([8, *[abs(number).bit_length() for number in question.numbers if abs(number) < LATER]]) + SPARE_BITS
+
+
 def by_narrow_numbers(search: Search) -> None:
     """Numbers of few bits are searched faster; the program tells whether what is found holds of 64. A few samples of any steps come
     before many with steps of one."""
-    numbers = [abs(number) for number in search.question.numbers if abs(number) < LATER]
-    width = max([8, *[number.bit_length() for number in numbers]]) + SPARE_BITS
+    width = narrow_width(search.question)
     plans = [(width, search.question.pace, 0.1, SHALLOW)] if len(paces(search)) == 2 else []
     plans += [(min(bits, 64), pace, 0.4, None) for bits in (width, 2 * width) for pace in paces(search)]
     for bits, pace, share, most in plans:
@@ -66,6 +84,18 @@ def by_all_bits(search: Search) -> None:
         found = looked_into(search, System(search.question, Terms(), pace), search.by(share), told_steps(search, pace))
         if seen(search, found):
             return
+
+
+def shorter_than(count: int) -> Way:
+    """The way to a recording of fewer samples, with few bits and then with all."""
+
+    def way(search: Search) -> None:
+        for bits in (min(narrow_width(search.question), 64), 64):
+            found = Unrolling(System(search.question, Terms(bits))).search(0, count - 1, search.by(0.5))
+            if seen(search, found):
+                return
+
+    return unless_unknown(way)
 
 
 # ---- a proof
@@ -83,12 +113,14 @@ def by_induction(search: Search) -> None:
 
 
 def by_integers(search: Search) -> None:
-    """Over integers, of which it is proved that none leaves 64 bits; recordings that are found so are plausible ones."""
-    system = System(search.question, Terms(None))
-    if not keeps_to_it(search):
-        return
-    if not proved(search, System(search.question, Terms(None)), States(system), search.by(0.6)):
-        seen(search, looked_into(search, system, search.until, " where no number leaves 64 bits"))
+    """Over integers, of which it is proved that none leaves 64 bits."""
+    if keeps_to_it(search):
+        proved(search, System(search.question, Terms(None)), States(System(search.question, Terms(None))), search.by(0.6))
+
+
+def in_integers(search: Search) -> None:
+    """Recordings on which no number leaves 64 bits are plausible ones."""
+    seen(search, looked_into(search, System(search.question, Terms(None)), search.until, " where no number leaves 64 bits"))
 
 
 def by_spacer(search: Search) -> None:
@@ -104,7 +136,7 @@ def by_spacer(search: Search) -> None:
 
 def keeps_to_it(search: Search) -> bool:
     """Whether some recording keeps to what is assumed; how short all are is told."""
-    if not search.question.assumed:
+    if not search.question.observed:
         return True
     try:
         count = fair_samples(System(search.question, Terms()), FIRST_SAMPLES, search.by(0.3))
@@ -116,28 +148,36 @@ def keeps_to_it(search: Search) -> bool:
 
 
 def proved(search: Search, system: System, states: States, until: float, given: Sequence[Candidate] = (), way: str = "") -> bool:
-    """Tries induction from any state: with what is given, with equal leaves, with bounds and differences, with all that is guessed. What is proved is told."""
+    """Tries induction from any state: with what is given, with equal leaves, and with what is guessed, ever more of it. What is proved is
+    told."""
     try:
         found = kept(system, [*given], until)
-        if by_depths(search, system, (0, 1), found, min(until, search.by(0.1)), way):
+        if by_depths(search, system, FEW, found, min(until, search.by(0.1)), way):
             return True
         equal = found + equal_leaves(system, states.by(FEW_STEPS), found, until)
         for candidate in equal:
             if candidate.equal:
                 system.learn(candidate.equal, candidate.fixed)
-        if len(equal) > len(found) and by_depths(search, system, (0, 1), equal, until, way):
+        if len(equal) > len(found) and by_depths(search, system, FEW, equal, until, way):
             return True
-        templates = Templates(system, states.by(STEPS))
-        plain, others = templates.plain(), templates.in_modes()
-        bounded = kept(system, equal + plain, until)
-        if len(bounded) > len(equal) and by_depths(search, system, (0, 1), bounded, until, way):
-            return True
-        invariants = kept(system, bounded + others, until)
-        guessed = len(equal) + len(plain) + len(others)
-        search.tell(Searched("induction", f"induction with {len(invariants)} invariants of {guessed} guessed"))
-        return by_depths(search, system, (0, 1, 2, 4, 8), invariants, until, way)
+        return by_guesses(search, system, states, equal, until, way)
     except Unknown:
         return False
+
+
+def by_guesses(search: Search, system: System, states: States, held: list[Candidate], until: float, way: str) -> bool:
+    """Induction with equations and with values in modes, then with bounds and differences, then with sums, then with differences in modes."""
+    templates, guessed = Templates(system, states.by(STEPS)), len(held)
+    linear = Linear(templates)
+    stages = (FEW, linear.exact), (FEW, templates.plain), (FEW, linear.sums), (MORE, templates.differences_in_modes)
+    for depths_, guesses in stages:
+        more = guesses()
+        guessed += len(more)
+        before, held = held, kept(system, held + more, until)
+        search.tell(Searched("induction", f"induction with {len(held)} invariants of {guessed} guessed"))
+        if (len(held) > len(before) or depths_ == MORE) and by_depths(search, system, depths_, held, until, way):
+            return True
+    return False
 
 
 def by_depths(search: Search, system: System, depths: tuple, invariants: list[Candidate], until: float, way: str = "") -> bool:
@@ -152,10 +192,32 @@ def by_depths(search: Search, system: System, depths: tuple, invariants: list[Ca
         found = Unrolling(System(search.question, terms), strict=True).search(0, depth + 1, search.until)
         if found:
             return seen(search, found)
+        invariants = shortened(system, depth, invariants)
         told = way or f"induction over {depth + 1} sample{'s' * (depth > 0)}"
-        search.tell(Holds(told + ("" if terms.width else WITHIN), [one.told for one in invariants]))
+        bounded = system.pace.samples is not None and system.pace.fallback is not None
+        holds = Holds(told + ("" if terms.width else WITHIN), search.question.told(), bounded, viewed(system, invariants))
+        holds.obligations = obligations(search, system, depth, invariants) if search.obliged else []
+        search.tell(holds)
         return True
     return False
+
+
+def shortened(system: System, depth: int, invariants: list[Candidate]) -> list[Candidate]:
+    """The invariants that are needed, if that is known in a while."""
+    try:
+        return needed(system, depth, invariants, time.monotonic() + NEEDED)
+    except (Unknown, z3.Z3Exception):
+        return invariants
+
+
+def obligations(search: Search, system: System, depth: int, invariants: list[Candidate]) -> list[tuple[str, str]]:
+    """What has no solution where it holds, as SMT-LIB, each with what it says."""
+    until, samples = time.monotonic() + OBLIGED, f"{depth + 1} sample{'s' * (depth > 0)}"
+    first = Unrolling(System(search.question, Terms(system.terms.width)), strict=True).breaking(0, depth + 1, until)
+    found = [(f"the goal holds at the first {samples}", first)]
+    found += broken_invariants(system, invariants, until) if invariants else []
+    found.append((f"the goal holds at the last of {samples} if it held at those before", broken_goal(system, depth, invariants, until)))
+    return [(told, solver.to_smt2()) for told, solver in found]
 
 
 def seen(search: Search, found: Optional[bytes]) -> bool:
@@ -166,7 +228,37 @@ def seen(search: Search, found: Optional[bytes]) -> bool:
     return True
 
 
-def unless_unknown(way: Callable[[Search], None]) -> Callable[[Search], None]:
+def also_bounded(way: Way, last: Optional[Way] = None) -> Way:
+    """A way that is gone again, for recordings of at most so many samples, where it finds nothing for all; and one behind it."""
+
+    def run(search: Search) -> None:
+        heard: list = []
+
+        def tell(said: object) -> None:
+            heard.append(said)
+            search.tell(said)
+
+        for part in with_bounds(search):
+            unless_unknown(way)(replace(part, tell=tell))
+            if any(isinstance(said, Holds) for said in heard):
+                return
+        if last:
+            last(search)
+
+    return run
+
+
+def with_bounds(search: Search) -> Iterator[Search]:
+    """What is asked, and where steps don't matter, behind half of the time at most, the same of recordings that aren't too long."""
+    question = search.question
+    if question.timed or question.pace.samples or not question.pace.fallback:
+        yield search
+        return
+    yield replace(search, until=search.by(0.5))
+    yield replace(search, question=replace(question, pace=replace(question.pace, samples=question.pace.fallback)))
+
+
+def unless_unknown(way: Way) -> Way:
     """A way that ends where z3 gives up."""
 
     def run(search: Search) -> None:
@@ -178,5 +270,6 @@ def unless_unknown(way: Callable[[Search], None]) -> Callable[[Search], None]:
     return run
 
 
-REFUTING = {"narrow": unless_unknown(by_narrow_numbers), "bits": unless_unknown(by_all_bits)}
-PROVING = {**REFUTING, "induction": unless_unknown(by_induction), "integers": unless_unknown(by_integers), "spacer": unless_unknown(by_spacer)}
+REFUTING = {"narrow": unless_unknown(by_narrow_numbers), "bits": unless_unknown(by_all_bits), "reached": unless_unknown(by_reaching)}
+INDUCTIVE = {"induction": also_bounded(by_induction), "integers": also_bounded(by_integers, in_integers), "spacer": also_bounded(by_spacer)}
+PROVING = {**REFUTING, **{name: unless_unknown(way) for name, way in INDUCTIVE.items()}}

@@ -4,11 +4,11 @@ from functools import cached_property
 from typing import Any, Optional
 
 from workbench.ending import Refused
-from workbench.proving.machines import Environment, Machine
-from workbench.proving.question import SAMPLES, TOTAL, Pace, Question
+from workbench.proving.machines import Environment
+from workbench.proving.question import TOTAL, Pace, Question
 from workbench.proving.switching import machine_of
-from workbench.proving.terms import Leaf, Terms, TooLarge, all_of, both, either, implied, is_truth, negation
-from workbench.proving.values import UNIT, Tree, is_leaf, leaves, lists_in, padded, rebuilt
+from workbench.proving.terms import Leaf, Terms, TooLarge, all_of, any_of, both, either, implied, is_truth, negation
+from workbench.proving.values import UNIT, Tree, leaves, lists_in, padded, rebuilt
 
 GROWTHS = 70
 MOST_LEAVES = 20_000
@@ -17,8 +17,8 @@ MOST_LEAVES = 20_000
 @dataclass
 class Frame:
     """What a sample leads to: whether it is one that counts, since all that is assumed holds; whether each lemma does; whether the
-    goal does, and all numbers have their bits; whether one hasn't in what is assumed, so that `fair` tells nothing; and the state
-    behind it."""
+    goal does, and all numbers have their bits; whether one hasn't in what is assumed, so that `fair` tells nothing; the state behind
+    it; and the pair of its input and its output."""
 
     fair: Leaf
     known: Leaf
@@ -26,6 +26,7 @@ class Frame:
     inside: Leaf
     doubtful: Leaf
     state: Tree
+    seen: Tree
 
     @property
     def passed(self) -> Leaf:
@@ -53,7 +54,7 @@ class System:
     def __init__(self, question: Question, terms: Terms, pace: Optional[Pace] = None):
         self.question, self.terms, self.pace = question, terms, pace or question.pace
         self.timed, self.machines = question.timed, [machine_of(part) for part in question.parts]
-        terms.most_step = self.pace.step or self.pace.most
+        terms.most_step = max(self.pace.steps or [0]) or self.pace.most
         self.env = Environment(terms)
         self.start = self.started(self.env)
         self.begun = all_of(terms.ranges)
@@ -96,17 +97,11 @@ class System:
         """The leaves of a state, as many as its shape has."""
         return leaves(padded(state, self.shape))
 
-    def names(self) -> list[str]:
-        """What each leaf of the state is."""
-        parts = zip(self.owners(), self.machines, self.shape[1:])
-        found = [owner + name for owner, machine, state in parts for name in leaf_names(machine, state)]
-        return [*found, "the sum of all steps" if self.timed else "the number of samples before"]
-
     def owners(self) -> list[str]:
         """What each machine is for, in a word; a network that is alone has none."""
         question = self.question
-        nets = [""] if len(question.nets) == 1 else ["source ", "target "]
-        return [*nets, "goal ", *["invariant "] * len(question.lemmas), *["assumed "] * len(question.assumed)]
+        nets = [""] if len(question.nets) == 1 else ["source", "target"]
+        return [*nets, "goal", *["invariant"] * len(question.lemmas), *["assumed"] * len(question.observed)]
 
     def learn(self, equal: tuple, fixed: bool) -> None:
         """Takes in that a leaf is always equal to one before it, or to a fixed value; so it is in an unknown state from now on."""
@@ -137,6 +132,8 @@ class System:
         if self.pace.step:
             return self.pace.step, tree, bounds
         step = self.terms.variable(f"step.{name}", False)
+        if self.pace.among:
+            return step, tree, [*bounds, any_of([self.terms.equal(step, one) for one in self.pace.among])]
         most = self.pace.most or (TOTAL * 2 - 1 if self.terms.width is None else None)
         return step, tree, [*bounds, step >= 1, *([step <= most] if most else [])]
 
@@ -187,7 +184,7 @@ class System:
         inside = all_of([self.begun, *[inside for _, inside in outputs + helping]])
         known = implied(inside, all_of([truth for truth, _ in helping]))
         facts = all_of(self.terms.facts)
-        return Frame(both(facts, fair), known, good, both(inside, more), both(facts, doubtful), ("state", *states, total))
+        return Frame(both(facts, fair), known, good, both(inside, more), both(facts, doubtful), ("state", *states, total), seen)
 
     def part(self, states: list, number: int, step: Leaf, given: Tree) -> tuple:
         """What a network outputs, and whether all its numbers have their bits; its state is put in the place of the one before."""
@@ -200,7 +197,7 @@ class System:
         assumed before it holds; and the sum of the steps."""
         fair, total = self.in_time(total, step)
         doubtful: Leaf = False
-        for number in range(len(self.machines) - len(self.question.assumed), len(self.machines)):
+        for number in range(len(self.machines) - len(self.question.observed), len(self.machines)):
             truth, inside = self.part(states, number, step, sample)
             doubtful = either(doubtful, both(fair, negation(inside)))
             fair = both(fair, truth)
@@ -208,37 +205,12 @@ class System:
 
     def in_time(self, total: Leaf, step: Leaf) -> tuple:
         """Whether the recording is short enough with this step, and the sum of the steps; of one whose steps don't matter the samples
-        are counted."""
-        most = self.pace.total
-        if not self.timed:
-            most, step = min(SAMPLES - 1, (most or SAMPLES) // (self.pace.step or 1)), min(step, 1)
+        are counted, where these have a bound."""
+        most = self.pace.total if self.timed else self.pace.most_samples()
+        step = step if self.timed else min(step, 1)
         if most is None:
             return True, total
         if self.terms.width not in (None, 64):
             most = min(most, 2 ** (self.terms.width - 2))
         now = self.terms.plus(total, step)
         return both(negation(self.terms.less(most, now)), negation(self.terms.less(now, total))), now
-
-
-def leaf_names(machine: Machine, state: Tree) -> list[str]:
-    """What each leaf of a machine's state is, by the machine's word and position."""
-    own, found = len(machine.cells), []
-    for number, part in enumerate(state[1:]):
-        if number < own or machine.word == "rpSwitchB":
-            name = f"{machine.named()} {machine.cells[min(number, own - 1)]}"
-            found += [name + suffix for suffix in suffixes(part)]
-        else:
-            found += leaf_names(machine.parts[number - own], part)
-    return found
-
-
-def suffixes(tree: Tree) -> list[str]:
-    """The way to each leaf of a tree."""
-    if is_leaf(tree):
-        return [""]
-    if tree[0] == "list":
-        rows = [("[len]", 0), *[(f"[{at}]", item) for at, item in enumerate(tree[2])]]
-    else:
-        words = {"pair": (".fst", ".snd"), "event": (".is", ".of")}.get(tree[0])
-        rows = [(words[at] if words else f".{at}", part) for at, part in enumerate(tree[1:])]
-    return [way + rest for way, part in rows for rest in suffixes(part)]

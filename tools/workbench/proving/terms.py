@@ -59,6 +59,13 @@ def implied(a: Leaf, b: Leaf) -> Leaf:
     return either(negation(a), b)
 
 
+def any_of(truths: Iterable[Leaf]) -> Leaf:
+    found: Leaf = False
+    for truth in truths:
+        found = either(found, truth)
+    return found
+
+
 def all_of(truths: Iterable[Leaf]) -> Leaf:
     found: Leaf = True
     for truth in truths:
@@ -73,7 +80,8 @@ def formula(a: Leaf) -> z3.BoolRef:
 
 class Terms:
     """Numbers of `width` bits, which wrap; where that is None they are unbounded integers, `ranges` keeps what must hold so that
-    none leaves 64 bits, and `facts` what new numbers are. With `named` the product of two unknown numbers is a function of which nothing else is known."""
+    none leaves 64 bits, and `facts` what new numbers are. With `named` the product of two unknown numbers is a function of which nothing
+    else is known. What each part outputs is put into `outputs`, where that is asked for."""
 
     def __init__(self, width: Optional[int] = 64, named: bool = False):
         self.width, self.named = width, named
@@ -81,6 +89,7 @@ class Terms:
         self.ranges: list[Leaf] = []
         self.facts: list[Leaf] = []
         self.steps, self.most_step, self.uses_function = 0, None, False
+        self.outputs: Optional[dict] = None
         sort = self.sort()
         self.function = z3.Function("product", sort, sort, sort)
 
@@ -162,6 +171,12 @@ class Terms:
         rest, times = z3.FreshInt("rest"), z3.FreshInt("times")
         self.facts += [a == q * times + rest, rest >= 0, rest < q]
         return rest
+
+    def low_bits(self, a: Leaf, power: int) -> Leaf:
+        """What a number leaves when it is divided by this power of two, rounded down."""
+        if is_known(a):
+            return a % power
+        return a & (power - 1) if self.width else a % power
 
     def equal(self, a: Leaf, b: Leaf) -> Leaf:
         if identical(a, b):

@@ -5,13 +5,34 @@ from typing import Any, Callable
 
 from workbench.proving.question import Question
 
+Tree = Any
+Path = tuple[str, ...]
+
+
+@dataclass(frozen=True)
+class Cell:
+    """A leaf of the state that a sample doesn't show: what of a network it is, in words and by its position, and the parts of the
+    network that output the same, each with the way to it there."""
+
+    owner: str
+    word: str
+    position: tuple
+    cell: str
+    way: Path
+    outputs: tuple[tuple[tuple, Path], ...] = ()
+
 
 @dataclass
 class Holds:
-    """The goal holds on every recording that is asked of: by which way, with which invariants."""
+    """The goal holds: by which way, on which recordings, with which invariants, and who says so. It is bounded where that was only
+    found of recordings that aren't too long. The obligations are what z3 found to have no solution, each with what it says."""
 
     by: str
-    invariants: list[str] = field(default_factory=list)
+    recordings: str
+    bounded: bool = False
+    invariants: list[Tree] = field(default_factory=list)
+    rests: str = "so say z3 and an encoding of the network, of which this project proves nothing"
+    obligations: list[tuple[str, str]] = field(default_factory=list)
 
     def told(self) -> str:
         count = len(self.invariants)
@@ -56,12 +77,14 @@ class Hindered:
 
 @dataclass
 class Search:
-    """A question, how long and how deep it is looked at, whether the program confirms a stream, and whom to tell."""
+    """A question, how long and how deep it is looked at, whether the program confirms a stream, whether what a proof rests on is written
+    down, and whom to tell."""
 
     question: Question
     until: float
     depth: int
     confirmed: Callable[[bytes], bool]
+    obliged: bool = False
     tell: Callable[[Any], None] = print
 
     def left(self) -> float:

@@ -5,14 +5,14 @@ from typing import Any, Callable, NamedTuple, Optional
 
 from model.texts import read_network
 from model.trees import GREATEST, shown
-from workbench.ending import Refused, read
+from workbench.ending import WRONG_WORDS, Refused, read
 from workbench.program import again, answered
 from workbench.proving.deciding import Limits
-from workbench.proving.question import TOTAL, Pace
+from workbench.proving.question import SAMPLES, TOTAL, Pace
 from workbench.recording import types_of
 
 NOT_KNOWN = 4
-RESTS = "so say z3 and an encoding of the network, of which this project proves nothing"
+SAMPLES_TOLD = """at most N samples, or `any` number, where steps don't matter; by default any, and else the million that `run` takes"""
 
 
 class Loaded(NamedTuple):
@@ -45,9 +45,24 @@ def whole(least: int, most: int = GREATEST) -> Callable[[str], int]:
     return number
 
 
-def numbers(text: str) -> list[int]:
+def numbers(text: str) -> tuple[int, ...]:
     """Reads steps, as 1,5."""
-    return [whole(1)(part) for part in text.split(",")]
+    return tuple(sorted({whole(1)(part) for part in text.split(",")}))
+
+
+def span(text: str) -> tuple[int, int]:
+    """Reads two numbers, as -5..20."""
+    least, dots, most = text.partition("..")
+    if not dots or not all(part.removeprefix("-").isdecimal() and part.isascii() and len(part) <= 20 for part in (least, most)):
+        raise ArgumentTypeError(f"{text} is no span of numbers, such as -5..20")
+    if not -GREATEST - 1 <= int(least) <= int(most) <= GREATEST:
+        raise ArgumentTypeError(f"{text} is no span of numbers of 64 bits, the least first")
+    return int(least), int(most)
+
+
+def samples(text: str) -> tuple[Optional[int], Optional[int]]:
+    """Reads how many samples recordings have at most, or `any`; and how many where nothing is known of all."""
+    return (None, None) if text == "any" else (whole(1)(text), None)
 
 
 def with_assumptions(words: ArgumentParser) -> None:
@@ -56,10 +71,13 @@ def with_assumptions(words: ArgumentParser) -> None:
 
 def with_paces(words: ArgumentParser, total: Optional[int] = TOTAL) -> None:
     words.add_argument("--step", type=whole(1), metavar="N", help="all steps are N")
+    words.add_argument("--steps", type=numbers, metavar="N,N", help="all steps are among these")
     words.add_argument("--most-step", type=whole(1), metavar="N", help="steps are at most N")
-    told = "; 2^62 by default, and from 2^63 on clocks wrap" if total else ""
-    words.add_argument("--total", type=whole(1, 2**64), default=total, metavar="N", help=f"all steps together are at most N{told}")
+    told = "; 2^62 by default" if total else ""
+    words.add_argument("--total", type=whole(1), default=total, metavar="N", help=f"all steps together are at most N{told}")
     words.add_argument("--lists", type=whole(0, 64), default=4, metavar="N", help="lists have at most N elements; 4 by default")
+    words.add_argument("--samples", type=samples, default=(None, SAMPLES), metavar="N", help=SAMPLES_TOLD)
+    words.add_argument("--ints", type=span, metavar="A..B", help="numbers of the input are from A to B")
 
 
 def with_limits(words: ArgumentParser, wait: float) -> None:
@@ -69,8 +87,17 @@ def with_limits(words: ArgumentParser, wait: float) -> None:
 
 
 def pace_of(words: Namespace) -> Pace:
-    total = words.total if words.total and words.total <= GREATEST else None
-    return Pace(words.step, words.most_step, total, words.lists)
+    """What recordings are asked for; bounds that none can keep are refused."""
+    steps = (words.step,) if words.step else words.steps
+    if words.step and words.steps:
+        raise Refused("--step and --steps both say which steps there are", WRONG_WORDS)
+    most = words.most_step
+    if steps and most:
+        steps, most = tuple(step for step in steps if step <= most), None
+        if not steps:
+            raise Refused("no step keeps to --most-step: it is less than all that are asked for", WRONG_WORDS)
+    alone = steps[0] if steps and len(steps) == 1 else None
+    return Pace(alone, most, words.total, words.lists, None if alone else steps, words.ints, *words.samples)
 
 
 def limits_of(words: Namespace) -> Limits:

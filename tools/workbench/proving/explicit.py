@@ -1,0 +1,230 @@
+"""A search of all states, without z3: the observer as C, compiled with a driver that goes breadth first over inputs and steps.
+
+It works where a sample has few inputs: a type without numbers, or numbers between bounds that are asked for or assumed. A state is the
+bytes of what the compiled observer keeps; if no new one comes, what is asked holds on every recording.
+"""
+import os
+import re
+import select
+import subprocess
+import tempfile
+import time
+from itertools import product
+from pathlib import Path
+from typing import Any, Iterator, Optional
+
+from model.trees import shown
+from workbench.ending import Refused
+from workbench.native import compiler
+from workbench.program import call, kept
+from workbench.proving.intervals import Ranges, ranges_of
+from workbench.proving.question import Question
+from workbench.proving.told import Holds, Search, Searched, Wrong
+
+MOST_INPUTS, MOST_STEPS, MOST_STATES = 4096, 64, 2_000_000
+DRIVER = Path(__file__).with_name("states.c")
+RESTS = "so say the C that `compile` prints, the C compiler and a driver, of which this project proves the first alone"
+FLAGS = ["-O1", "-w", "-std=gnu99"]
+
+
+class TooMany(Exception):
+    """There are too many inputs or steps to try them all."""
+
+
+# ---- what is tried at each sample
+
+
+def inputs_of(type_: Any, ranges: Ranges, lists: int, path: tuple = ()) -> list:
+    """All values of a type whose numbers are between bounds."""
+    match type_:
+        case "Unit":
+            return ["unit"]
+        case "Bool":
+            return ["false", "true"]
+        case "Int":
+            least, most = ranges.at(path)
+            few(most - least + 1)
+            return list(range(least, most + 1))
+        case ("Pair", left, right):
+            parts = inputs_of(left, ranges, lists, (*path, "fst")), inputs_of(right, ranges, lists, (*path, "snd"))
+            few(len(parts[0]) * len(parts[1]))
+            return [("pair", *both) for both in product(*parts)]
+        case ("Event", part):
+            return ["none", *[("event", value) for value in inputs_of(part, ranges, lists, (*path, "event"))]]
+        case (_, part):
+            values = inputs_of(part, ranges, lists, (*path, "element"))
+            few(sum(len(values) ** size for size in range(lists + 1)))
+            return [("list", *items) for size in range(lists + 1) for items in product(values, repeat=size)]
+    raise TooMany
+
+
+def few(count: int) -> None:
+    if count > MOST_INPUTS:
+        raise TooMany
+
+
+def steps_of(question: Question) -> tuple[list[int], bool]:
+    """The steps that are tried, and whether these are all that a recording may have."""
+    pace = question.pace
+    if not question.timed:
+        return [pace.step or 1], True
+    if pace.steps:
+        return pace.steps, True
+    if pace.most and pace.most <= MOST_STEPS:
+        return list(range(1, pace.most + 1)), True
+    return [1], False
+
+
+# ---- as C
+
+
+def as_c(value: Any, type_: Any) -> str:
+    """A value as an initializer."""
+    match type_:
+        case "Unit":
+            return "0"
+        case "Bool":
+            return str(value)
+        case "Int":
+            return f"INT64_C({value})" if value > -(2**63) else "INT64_MIN"
+        case ("Pair", left, right):
+            return f"{{{as_c(value[1], left)}, {as_c(value[2], right)}}}"
+        case ("Event", part):
+            return "{0}" if value == "none" else f"{{true, {as_c(value[1], part)}}}"
+    items = ", ".join(as_c(item, type_[1]) for item in value[1:])
+    return f"{{{len(value) - 1}, {{{items or 0}}}}}"
+
+
+STRUCT = re.compile(r"^struct (observed_\w+) \{\n(.*?)^\};", re.M | re.S)
+FIELD = re.compile(r"^ +(?:struct )?(\w+) (\w+)(?:\[(\d+)\])?;", re.M)
+
+
+def canonical(text: str) -> str:
+    """C that gives states which go on alike the same bytes: the ring of a `delay` is turned to its head, its times count from now on,
+    and what is behind its end is cleared."""
+    made: dict[str, str] = {}
+    for name, body in STRUCT.findall(text):
+        fields = FIELD.findall(body)
+        if {"now", "head", "size", "at", "value"} <= {field for _, field, _ in fields}:
+            lines = ring(name, next(int(count) for _, field, count in fields if field == "at"))
+        else:
+            lines = [each(type_, field, count) for type_, field, count in fields if type_ in made]
+        if lines:
+            made[name] = f"static void canonical_{name}(struct {name} *s)\n{{\n    " + "\n    ".join(lines) + "\n}\n"
+    last = "canonical_observed_state(state);" if "observed_state" in made else "(void)state;"
+    return "".join(made.values()) + f"static void canonical(struct observed_state *state)\n{{\n    {last}\n}}\n"
+
+
+def ring(name: str, room: int) -> list[str]:
+    return [
+        f"struct {name} o = *s;",
+        "memset(s->at, 0, sizeof s->at);",
+        "memset(s->value, 0, sizeof s->value);",
+        f"for (uint32_t i = 0; i < o.size; i++) {{ uint32_t j = (o.head + i) % {room}; s->at[i] = o.at[j] - o.now; s->value[i] = o.value[j]; }}",
+        "s->now = 0;",
+        "s->head = 0;",
+    ]
+
+
+def each(type_: str, field: str, count: str) -> str:
+    if count:
+        return f"for (uint32_t i = 0; i < {count}; i++) {{ canonical_{type_}(&s->{field}[i]); }}"
+    return f"canonical_{type_}(&s->{field});"
+
+
+def samples_text(text: str, inputs: list, steps: list[int], given: Any) -> str:
+    rows = ",\n    ".join(as_c(value, given) for value in inputs)
+    return (
+        f"#include <inttypes.h>\n#define MOST_STATES {MOST_STATES}\n"
+        f"enum {{ INPUT_COUNT = {len(inputs)}, STEP_COUNT = {len(steps)} }};\n"
+        f"static const observed_input INPUTS[] = {{\n    {rows}\n}};\n"
+        f"static const int64_t STEPS[] = {{{', '.join(f'INT64_C({step})' for step in steps)}}};\n" + canonical(text)
+    )
+
+
+def compiled(search: Search, inputs: list, steps: list[int], folder: Path) -> Optional[Path]:
+    """The program that searches the states, or None where the time is over."""
+    with kept(search.question.observer()) as name:
+        told = call(["compile", "--no-main", "--name", "observed", "--most", str(max(1, search.question.pace.lists)), name])
+    if told.status:
+        raise Refused(told.line())
+    text = told.output.decode()
+    (folder / "observed.c").write_text(text)
+    (folder / "samples.h").write_text(samples_text(text, inputs, steps, search.question.given))
+    command = [*compiler(), *FLAGS, "-I", str(folder), "-o", str(folder / "states"), str(DRIVER)]
+    try:
+        ran = subprocess.run(command, capture_output=True, timeout=max(0.1, search.left()), check=False)
+    except subprocess.TimeoutExpired:
+        return None
+    except OSError as error:
+        raise Refused(f"there is no C compiler {command[0]} on the path (Debian: apt-get install gcc)") from error
+    if ran.returncode:
+        raise Refused(f"{command[0]} doesn't compile the observer")
+    return folder / "states"
+
+
+# ---- the search
+
+
+def by_states(search: Search) -> None:
+    """All states, if few inputs are possible at each sample."""
+    question = search.question
+    try:
+        ranges = ranges_of(question.observed, question.pace.ints)
+        inputs = inputs_of(question.given, ranges, question.pace.lists)
+    except TooMany:
+        return
+    steps, all_steps = steps_of(question)
+    with tempfile.TemporaryDirectory(prefix="yampa-") as place:
+        program = compiled(search, inputs, steps, Path(place))
+        if program:
+            follow(search, program, inputs, "" if all_steps else " with steps of 1")
+
+
+def follow(search: Search, program: Path, inputs: list, told_steps: str) -> None:
+    """Hears what the search of states says to its end, or to that of the time."""
+    with subprocess.Popen([str(program)], stdout=subprocess.PIPE, stderr=subprocess.DEVNULL) as process:
+        lines = lines_until(process, search.until)
+        try:
+            for line in lines:
+                word, *numbers = line.split()
+                if word == "false":
+                    search.tell(Wrong(recording_of(list(lines), inputs)))
+                elif word == "memory":
+                    raise Refused("the search of states had no memory left")
+                else:
+                    hear(search, word, *map(int, numbers), told_steps=told_steps)
+            if search.left() > 0 and process.wait():
+                raise Refused(f"the search of states ended with status {process.returncode}")
+        finally:
+            process.kill()
+
+
+def recording_of(rows: list[str], inputs: list) -> bytes:
+    """The stream of rows of a step and the number of an input."""
+    lines = []
+    for row in rows:
+        step, number = row.split()
+        lines.append((f"+{step} " if lines else "") + shown(inputs[int(number)]))
+    return "\n".join(lines).encode() + b"\n"
+
+
+def hear(search: Search, word: str, samples: int, states: int, told_steps: str) -> None:
+    if word == "all" and not told_steps:
+        told = f"a search of all states: all {states:,} seen" if states > 1 else "a search of all states: one seen"
+        search.tell(Holds(told, search.question.told(), rests=RESTS))
+    elif samples:
+        search.tell(Searched("states", f"none up to {samples:,} sample{'s' * (samples != 1)}{told_steps}, of {states:,} states"))
+
+
+def lines_until(process: subprocess.Popen, until: float) -> Iterator[str]:
+    """The lines of a process as they come, until that time."""
+    assert process.stdout
+    rest = b""
+    while (left := until - time.monotonic()) > 0 and select.select([process.stdout], [], [], left)[0]:
+        piece = os.read(process.stdout.fileno(), 1 << 16)
+        if not piece:
+            return
+        *lines, rest = (rest + piece).split(b"\n")
+        for line in lines:
+            yield line.decode()
