@@ -18,6 +18,8 @@ VALUES = """(pair none (list))|(pair none(list))|(pair (event unit) (list true f
  (pair none (list))|(pair none (list truefalse))|(pair none (list true)|(pair none (list -1))|(pair none (list  true))|(pair none ( list))
 5 |6 7| 5|(pair 1 2)|(list 1 2)|false |false\t|true false|unit unit|-9223372036854775808 |(event unit)|(pair (event unit) (list unit))"""
 STEPS = "+ ++1 +1 +1\t6|+0 6|+01 6|+1 6|+1  6|+1 =|+1 ==|+1 = |+1|+-1 6|+9223372036854775807 6|+9223372036854775808 6|+99999999999999999999 6|1 6|=|6||+1 "
+# Of a stream with a million lines the next begins, and its end doesn't come.
+OPEN = "mkfifo open; (cat few; yes '+1 =' | head -999998; printf +; exec sleep 60) > open & timeout 50 {} < open | tail -1; told=$?; kill $!; rm open; exit $told"
 COMMANDS = ["{} > /dev/full < few", "{} >&- < few", "{} <&-", "{} < .", "{} < /dev/null", "cat few many | {} | head -1", "{} < many > /dev/full"]
 
 
@@ -46,7 +48,7 @@ def tried(bench, name):
         bench.same(built, net, stream)
     bench.file("few", b"unit\n+1 =\n")
     bench.file("many", b"+1 =\n" * 400_000)
-    for line in COMMANDS:
+    for line in [*COMMANDS, *([OPEN] if name == "Unit" else [])]:
         wanted, told = (shell(bench, line.format(command)) for command in (f"{bench.program} run net", built))
         if wanted != told:
             raise Differs(f"`{line.format(built)}` tells {told}, run {wanted}")

@@ -16,6 +16,7 @@ from model.texts import TextFault, certificate_text, network_text, read_certific
 from model.trees import at_text, children, is_network, shown
 from model.typed import TypeFault, check_types
 from model.viewing import outline_lines, possible_lines, possible_steps
+from workbench.program import answering
 
 ROLES = {
     "types": ["network"],
@@ -244,7 +245,8 @@ class Program:
     """The program, run in a folder of its own; it keeps a tally of what was met."""
 
     def __init__(self, path, longest, skipped):
-        self.path, self.longest, self.skipped = Path(path).resolve(), longest, skipped
+        self.longest, self.skipped = longest, skipped
+        os.environ["YAMPA"] = str(Path(path).resolve())
         self.folder = Path(tempfile.mkdtemp(prefix="generated-", dir=MEMORY if os.access(MEMORY, os.W_OK) else None))
         self.slots = {name: Slot(self.folder / name) for name in [*FILES, "stream", "output", "error"]}
         self.tally = Counter()
@@ -264,7 +266,7 @@ class Program:
         stream = self.slots["stream"].hold(command.stream)
         source = subprocess.PIPE if command.pieces else stream
         output, error = (self.slots[name].hold(b"") for name in ("output", "error"))
-        child = subprocess.Popen([self.path, *words], stdin=source, stdout=output, stderr=error, cwd=self.folder)
+        child = subprocess.Popen([answering(words), *words], stdin=source, stdout=output, stderr=error, cwd=self.folder)
         if command.pieces:
             feed(child.stdin, command.pieces)
         status, seconds = ended(child)

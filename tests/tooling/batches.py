@@ -47,6 +47,28 @@ def runs_are_counted(folder: Path) -> None:
     want("batch, counted", told.endswith("20 recordings: 17 as expected, 1 different, 2 refused\n"), told)
 
 
+def compiled_runs_are_counted(folder: Path) -> None:
+    """The compiled network runs them; a compiler whose programs do otherwise is found out by the first of them."""
+    (net,) = in_files(folder, net=SUMS)
+    recordings(folder, 20)
+    cache = {"XDG_CACHE_HOME": str(folder / "cache")}
+    words = ["batch", "--native", net, folder / "given", "--expect", folder / "wanted", "--out", folder / "out"]
+    status, told, _ = tool(*words, **cache)
+    want("batch --native", status == 0 and told.endswith("20 recordings: 20 as expected\n") and told.count("\n") == 21, told)
+    same = all((folder / "out" / path.name).read_bytes() == path.read_bytes() for path in (folder / "wanted").iterdir())
+    want("batch --native --out", same)
+    (folder / "given/r0005").write_text("1\n+0 2\n")
+    told = tool(*words, **cache)
+    want("batch --native, a faulty line", told[0] == 1 and "r0005\t1 samples\tstatus 1\t" in told[1] and "stream: line 2: step" in told[1], told)
+    other = folder / "other"
+    other.write_text('#!/bin/sh\nwhile [ "$1" != -o ]; do shift; done\nprintf "#!/bin/sh\\nexec cat\\n" > "$2"\nchmod +x "$2"\n')
+    other.chmod(0o755)
+    told = tool("batch", "--native", net, folder / "given", CC=str(other), **cache)
+    want("batch --native, another program", told == (3, "", "yampa batch: the compiled network doesn't do on r0000 what `run` does\n"), told)
+    told = tool("batch", "--native", net, folder / "given", CC="none", XDG_CACHE_HOME=str(folder / "empty"))
+    want("batch --native, no compiler", told[0] == 3 and told[1] == "" and "there is no C compiler none" in told[2], told)
+
+
 def faults_are_told(folder: Path) -> None:
     (net,) = in_files(folder, net=SUMS)
     recordings(folder, 2)
@@ -103,24 +125,32 @@ def cluster_answers(folder: Path) -> None:
         want("batch --cluster", batch.returncode == 0 and lines[-1] == f"{MANY} recordings: {MANY} as expected\n", lines[-3:])
         names = [line.split("\t")[0] for line in lines[:-1]]
         want("batch --cluster, in order", names == sorted(names) and len(names) == MANY, names[:5])
+        (folder / "given/r0005").unlink()
+        (folder / "given/r0005").symlink_to("nowhere")
+        for more in ([], ["--native"]):
+            status, told, _ = tool("batch", net, folder / "given/r0005", *words[2:], *more)
+            wanted = f"\n{MANY} recordings: {MANY - 1} as expected, 1 unreadable\n"
+            want(f"batch --cluster {more}, one that isn't there", status == 3 and told.endswith(wanted), told[-300:])
         networks_are_spread(folder, address)
+
+
+SMALL = "module Small where\nimport Yampa.Whole\nimport Limits\nsmall :: SF Int Bool\nsmall = arr (< limit)\n"
+LIMITS = "module Limits where\nlimit :: Int\nlimit = 7\n"
 
 
 def networks_are_spread(folder: Path, address: str) -> None:
     """`improve`, `falsify` and `prove` of several networks, one of them of two files, on the worker that is left."""
-    texts = {"sum": NUMBERS + "(>>> (arr (add x 1)) (arr (mul x 2)))", "small": "yampa source 1\ninclude defs/limit\ninput Int\n(arr (less x limit))"}
-    sums, small, holds = in_files(folder, **texts, holds=NUMBERS + "(arr (equal x x))")
-    (folder / "defs").mkdir()
-    (folder / "defs/limit").write_text("yampa source 1\ndef limit 7\n")
+    texts = {"sum": NUMBERS + "(>>> (arr (add x 1)) (arr (mul x 2)))", "Small.hs": SMALL, "Limits.hs": LIMITS}
+    sums, small, _, holds = in_files(folder, **texts, holds=NUMBERS + "(arr (equal x x))")
     to = ["--cluster", address]
     status, told, error = tool("improve", *to, "--out", folder / "made", sums, small)
     rows = [line.split("\t") for line in told.splitlines()]
-    made = [tool("differ", net, folder / "made" / net.name, "--seconds", "20")[0] for net in (sums, small)]
+    made = [tool("differ", net, folder / "made" / net.stem, "--seconds", "20")[0] for net in (sums, small)]
     want("improve --cluster", status == 0 and [row[0] for row in rows] == [str(sums), str(small)] and made == [0, 0], told + error)
     status, told, error = tool("falsify", *to, "--seeds", 2, "--seconds", 5, small, holds)
     wanted = [f"{small} seed 1", f"{small} seed 2", f"{holds} seed 1", f"{holds} seed 2"]
     want("falsify --cluster", status == 1 and [line.split("\t")[0] for line in told.splitlines()] == wanted, told + error)
-    false = [call(["run", again(str(small))], (folder / f"small.false.{seed}").read_bytes()).output for seed in (1, 2)]
+    false = [call(["run", again(str(small))], (folder / f"Small.hs.false.{seed}").read_bytes()).output for seed in (1, 2)]
     want("falsify --cluster, recordings", all(output.endswith(b"false\n") for output in false), false)
     status, told, error = tool("prove", "--cluster", address, "--seconds", 20, "--assume", holds, holds, small)
     want("prove --cluster", status == 1 and f"false at sample 1: {small}.false" in told and f"{holds}\t" in told and "holds on every" in told, told + error)
@@ -134,7 +164,7 @@ def tool_path() -> str:
 
 
 def try_all() -> None:
-    for work in [runs_are_counted, faults_are_told]:
+    for work in [runs_are_counted, compiled_runs_are_counted, faults_are_told]:
         with own_folder() as folder:
             work(folder)
     if not there("distributed"):

@@ -5,21 +5,15 @@ import subprocess
 
 from workbench.helping import OPTION
 
-from tooling.common import NUMBERS, TOOLS, TOP, in_files, own_folder, tool, want
+from tooling.common import NUMBERS, TOOLS, TOP, in_files, own_folder, tool, want, with_tools
 
 NEEDS = ["dot", "matplotlib", "jinja2", "z3"]
-
-SHIM = """#!/bin/bash
-if grep -q "^$1 " {top}/tools/list; then exec {top}/tools/tool "$@"; fi
-exec {top}/tools/sourced "$YAMPA" "$@"
-"""
 
 
 def page_is_right(folder):
     """What docs/TOOLS.md shows is what its commands print, in a folder with the examples."""
     (folder / "examples").symlink_to(TOP / "examples")
-    (folder / "yampa").write_text(SHIM.replace("{top}", str(TOP)))
-    (folder / "yampa").chmod(0o755)
+    with_tools(folder, os.environ["YAMPA"])
     for block in re.findall(r"```console\n(.*?)```", (TOP / "docs/TOOLS.md").read_text(), re.S):
         for command, wanted in re.findall(r"^\$ (.*)\n((?:(?!\$ ).*\n)*)", block, re.M):
             ran = subprocess.run(["bash", "-c", command], cwd=folder, stdin=subprocess.DEVNULL, capture_output=True, timeout=60)
@@ -51,9 +45,9 @@ CALLS = {
 
 
 def spread_options_are_those_of_the_tools() -> None:
-    """With --cluster `falsify` and `prove` take what they take without it, but for where one recording goes, and for what is printed."""
+    """With --cluster `falsify` and `prove` take what they take without it, but for where one file goes, and for what is printed."""
     for name in ("falsify", "prove"):
-        alone = {found[1] for found in OPTION.findall(tool(name, "--help")[1])} - {"--help", "--show"}
+        alone = {found[1] for found in OPTION.findall(tool(name, "--help")[1])} - {"--help", "--show", "--certificate"}
         spread = {found[1] for found in OPTION.findall(tool(name, "--cluster", "-", "--help")[1])} - {"--help", "--cluster", "--out", "--seeds"}
         want(f"options of {name} --cluster", spread == alone, spread ^ alone)
 
@@ -70,7 +64,7 @@ def bad_words_and_files(folder):
         text = NUMBERS + ("(hold 0" if name in ("expand", "fmt") else "(hold 0)")
         in_files(own, net=text, stream="5\n", out="before")
         status, output, error = tool(name, *words, folder=own)
-        told, line = (output, "net:3:1: hold takes events") if name == "explain" else (error, "net:3:1: " if name in ("expand", "fmt") else "network: no event at (at)")
+        told, line = (output, "net:3:1: hold takes events") if name == "explain" else (error, "net:3:8: " if name in ("expand", "fmt") else "network: no event at (at)")
         want(f"{name} of a faulty network", status == 1 and line in told and (name == "explain" or told.count("\n") == 1), output + error)
         kept = [(own / file).read_text() for file in ("net", "stream", "out")]
         want(f"{name} leaves nothing half written", kept == [text, "5\n", "before"] and len(os.listdir(own)) == 3, kept)
@@ -81,11 +75,11 @@ def missing_packages_are_told(folder):
     """In one line, with the package's name."""
     for library in ("matplotlib", "z3"):
         in_files(folder, **{f"{library}.py": f"raise ImportError(name='{library}')"})
-    (net,) = in_files(folder, net=NUMBERS + "(arr (equal x x))")
+    net, stream = in_files(folder, net=NUMBERS + "(arr (equal x x))", stream="5\n")
     calls = {
         "graphviz": tool("draw", net, PATH=""),
         "python3-matplotlib": tool("plot", net, stream="5\n", PYTHONPATH=str(folder)),
-        "python3-z3": tool("prove", net, PYTHONPATH=str(folder)),
+        "python3-z3": tool("coverage", net, stream, PYTHONPATH=str(folder)),
     }
     for package, (status, output, error) in calls.items():
         want(f"without {package}", status == 3 and not output and f"install {package}" in error and error.count("\n") == 1, error)

@@ -5,6 +5,7 @@ which it is left out, and that it runs `ALONE`, where others beside it would spo
 """
 import contextlib
 import os
+import shlex
 import shutil
 import subprocess
 import sys
@@ -24,11 +25,14 @@ from model.trees import is_network  # noqa: E402
 
 # What is tried with more than Python, and the Debian packages that bring it.
 PACKAGES = {"dot": "graphviz", "matplotlib": "python3-matplotlib", "chromium": "chromium"}
+PACKAGES |= {"cvc5": "cvc5", "clang": "clang", "wasm-ld": "lld", "node": "nodejs"}
 PACKAGES |= {"jinja2": "python3-jinja2", "distributed": "python3-distributed", "z3": "python3-z3"}
-PROGRAMS = ["dot", "chromium"]
+PROGRAMS = ["dot", "chromium", "cvc5", "clang", "wasm-ld", "node"]
 TOOLS = [line.split()[0] for line in (TOP / "tools/list").read_text().splitlines() if not line.startswith("#")]
 EXAMPLES = sorted(path.parent for path in (TOP / "examples").glob("*/net"))
 WHOLE = [example for example in EXAMPLES if not (example / "error").exists()]
+# Each example's file of Haskell, of those that have one.
+HASKELL = sorted(path for path in (TOP / "examples").glob("*/*.hs") if path.stem.lower() == path.parent.name)
 NUMBERS = "yampa 1\ninput Int\n"
 SECONDS = 120
 
@@ -118,6 +122,30 @@ def in_files(folder: Path, **texts: str | bytes) -> list[Path]:
         path.write_bytes(text if isinstance(text, bytes) else text.encode())
         paths.append(path)
     return paths
+
+
+# The program with the tools beside it, as the wrapper calls them.
+WITH_TOOLS = """#!/bin/bash
+export YAMPA={program}
+if grep -q "^$1 " {top}/tools/list; then exec {top}/tools/tool "$@"; fi
+for word; do
+    case $word in *.hs) exec {top}/tools/sourced "$YAMPA" "$@" ;; esac
+done
+exec "$YAMPA" "$@"
+"""
+
+
+def with_tools(folder: Path, program: str) -> Path:
+    """`yampa` in that folder, which calls the program and the tools beside it."""
+    return written(folder / "yampa", WITH_TOOLS.format(top=shlex.quote(str(TOP)), program=shlex.quote(program)))
+
+
+def written(path: Path, text: str) -> Path:
+    """A program that holds this text."""
+    path.parent.mkdir(parents=True, exist_ok=True)
+    path.write_text(text)
+    path.chmod(0o755)
+    return path
 
 
 def networks_in(whole):

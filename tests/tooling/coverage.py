@@ -20,6 +20,26 @@ COUNTED = """net:
 never: net:3:35
 """
 
+# What is said of a network is counted with it.
+SAID = """module Count where
+
+import Yampa.Whole
+
+count :: SF Int Int
+count = arr (\\x -> if x < 0 then negate x else x)
+
+small :: Guarantee Int Int
+small = arr (\\(x, y) -> if x > 9 then y > 9 else y < 10)
+"""
+
+
+def what_is_said_is_counted(folder):
+    in_files(folder, **{"Count.hs": SAID}, few="1\n+1 2\n", more="-1\n+1 10\n")
+    told = tool("coverage", "Count.hs", "few", folder=folder)
+    want("coverage of a guarantee", told[0] == 0 and told[1].endswith("9 of 11 parts were run\nnever: Count.hs:6:34\nnever: Count.hs:9:39\n"), told)
+    told = tool("coverage", "--all", "Count.hs", "few", "more", folder=folder)
+    want("coverage of all of a guarantee", told[0] == 0 and told[1].endswith("11 of 11 parts were run\n"), told)
+
 
 def parts_are_counted(folder):
     in_files(folder, net=SWITCHING, a="1\n+1 10\n", b="-1\n", c="1\n+1 20\n+2 5\n")
@@ -40,13 +60,14 @@ def parts_are_counted(folder):
     want("coverage of a faulty recording", told[0] == 1 and told[2] == "bad: stream: line 2: step\n" and told[1].endswith("net:5:9\n"), told)
 
 
-def sources_are_counted():
-    source = TOP / "examples/court/source"
-    told = tool("coverage", source, source.parent / "stream")
-    want("coverage of a source", told[0] == 0 and f"never: {source}:46:43" in told[1] and "(on point flown" in told[1], told)
+def haskell_is_counted():
+    path = TOP / "examples/court/Court.hs"
+    told = tool("coverage", path, path.parent / "stream")
+    want("coverage of Haskell", told[0] == 0 and f"never: {path}:30:31" in told[1] and "| atRight && not metRight" in told[1], told)
 
 
 def try_all() -> None:
-    with own_folder() as folder:
-        parts_are_counted(folder)
-    sources_are_counted()
+    for check in (parts_are_counted, what_is_said_is_counted):
+        with own_folder() as folder:
+            check(folder)
+    haskell_is_counted()

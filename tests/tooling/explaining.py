@@ -1,13 +1,8 @@
 """Each fault is explained, at its place, and the tool's reader stops where the program's does."""
 import re
 
-from workbench import foreseeing, program, trying
-from workbench.definitions import Fault
-from workbench.ending import Refused
-from workbench.explain import fault_of, roles_of
-from workbench.faults import Files, explained
 from workbench.laws import MEANINGS
-from workbench.program import Told, call
+from workbench.program import call
 from workbench.source import read_file
 from workbench.written import SyntaxFault
 
@@ -49,11 +44,8 @@ NETWORK_MISTAKES = [
     (NUMBERS + "(--> 7 time)", "net:3:2: --> is a form of version 2"),
     (NUMBERS + "((arr x))", "leave out one pair of parentheses"),
     (NUMBERS + "(>>> " * 601, "the 601st parenthesis"),
-    ("yampa 7\ninput Int\ntime", "behind yampa stands the version, 1 or 2\n|a file with names, which begins `yampa source 1`, is made one by `yampa expand`"),
-    ("yampa source 1\ndef f (arr (not x))\ninput Int f", "net:2:17: not wants a Bool, but x is an Int\n|x here is an Int"),
-    ("yampa source 1\nrecord R a:Int b:Bool\ninput R\n(arr (less 5 (b x)))", "net:4:14: less wants an Int, but (b x) is a Bool\n|x here is a R"),
-    ("yampa source 1 input Int identity\nguarantee safe (arr (len (snd x)))", "net:2:26: len wants a list, but (snd x) is an Int"),
-    ("yampa source 1 input Int identity\nassume right (arr (less 0 x))\nguarantee safe (arr (snd x))", "net:3:16: guarantee safe outputs Bool; this one outputs Int"),
+    ("yampa 7\ninput Int\ntime", "net:1:7: behind yampa stands the version, 1 or 2\n|a network's file begins with `yampa 1`, then `input` and a type"),
+    ("yampa source 1\ninput Int\ntime", "net:1:7: behind yampa stands the version, 1 or 2"),
     ("5\n+1 6\n", "this looks like a stream"),
     ("laws 1\n", "this is a certificate, and a network is wanted"),
     ("", "the file is empty"),
@@ -259,45 +251,6 @@ def places_agree():
             want(f"place of {data[-40:]}", mine == fault or not mine and "at (at" in fault, f"{mine} and {fault}")
 
 
-def questions_are_foreseen() -> None:
-    """The model foresees all that the program is asked of a fault, so one trial build answers it."""
-    cases = [([text], None) for text, wanted in NETWORK_MISTAKES if len(text) < 1000] + [([NUMBERS + "(arr (not x))"], b"5\n")]
-    cases += [(list(texts), None) for *texts, _ in CERTIFICATE_MISTAKES if len(texts[2]) < 1000]
-    for texts, stream in cases:
-        with own_folder() as folder:
-            names = [str(path) for path in in_files(folder, **dict(zip(("net", "target", "certificate"), texts)))]
-            foreseen, asked = calls_of(names, stream, True), calls_of(names, stream, False)
-            want(f"foreseen of {texts}", asked and not {*asked} - {*foreseen}, (asked, foreseen))
-
-
-def calls_of(names: list[str], stream: bytes | None, by_model: bool) -> list[str]:
-    """What is asked of the program of these files, by the keys of the calls: answered by the model, or by the program."""
-    keys: list[str] = []
-
-    def answer(words: list, stream: bytes) -> Told:
-        keys.append(trying.call_of(words, stream).key())
-        return foreseeing.told_by_model(words) if by_model else asking(words, stream)
-
-    def asking(words: list, stream: bytes) -> Told:
-        program.ANSWERING.pop()
-        told = program.call(words, stream)
-        program.ANSWERING.append(answer)
-        return told
-
-    program.ANSWERING.append(answer)
-    try:
-        roles = roles_of(names)[0]
-        files = Files(roles, {role: program.again(name) for role, name in roles.items()})
-        given = ("stream", stream) if stream is not None else None
-        explained(fault_of(files, given), files, given)
-    except (Fault, Refused):
-        keys.append("none")
-    finally:
-        program.ANSWERING.pop()
-    return keys
-
-
 def try_all() -> None:
     faults_are_explained()
     places_agree()
-    questions_are_foreseen()

@@ -13,6 +13,7 @@ OBSERVER = NUMBERS + "(arr (equal x x))"
 # What each tool is called with; those that read a stream do it from standard input, or from the file `stream`.
 CALLS = {
     "batch": ["net", "stream"],
+    "certify": ["net", "net"],
     "compare": ["net", "net"],
     "coverage": ["net", "stream"],
     "csv": ["net", "-o", "out"],
@@ -23,6 +24,8 @@ CALLS = {
     "falsify": ["net", "--seconds", "1", "-o", "out"],
     "fmt": ["net"],
     "haskell": ["net", "-o", "out"],
+    "improve": ["net"],
+    "live": ["net", "-o", "out"],
     "native": ["net"],
     "plot": ["net", "-o", "out"],
     "prove": ["net", "--seconds", "2"],
@@ -54,6 +57,12 @@ STREAMS = {
 }
 # What those use that let a stream pass through, in bytes.
 MOST_MEMORY = 60_000_000
+# Runs a command, and tells behind what that says on standard error how many kilobytes it took. A process counts what the one took that it
+# was forked off, so it's a small one that does this.
+MEASURED = """import resource, subprocess, sys
+status = subprocess.run(sys.argv[1:]).returncode
+sys.stderr.write(f"\\n{resource.getrusage(resource.RUSAGE_CHILDREN).ru_maxrss}")
+sys.exit(status)"""
 
 
 def contents(file: IO[bytes]) -> str:
@@ -67,7 +76,7 @@ def without_note(error: str) -> str:
 
 
 class Ended:
-    """How a tool ended: its status, what it printed, and the memory that it took."""
+    """How a tool ended: its status, and what it printed."""
 
     def __init__(self, words: list[str], folder: Path, stream: Path | None, output: str | None = None):
         with contextlib.ExitStack() as files:
@@ -76,9 +85,7 @@ class Ended:
             files.callback(os.close, given)
             to = files.enter_context(open(output, "wb")) if output else out
             run = subprocess.Popen(["timeout", str(SECONDS), TOP / "tools/tool", *words], cwd=folder, stdin=given, stdout=to, stderr=error)
-            _, status, used = os.wait4(run.pid, 0)
-            run.returncode = self.status = os.waitstatus_to_exitcode(status)
-            self.memory = used.ru_maxrss * 1024
+            self.status = run.wait()
             self.output, self.error = contents(out), without_note(contents(error))
 
     def is_told(self) -> bool:
@@ -153,8 +160,11 @@ def streams_pass_through() -> None:
         in_files(folder, net=INCREMENT, stream="5\n" + "+1 6\n" * 400_000, table="time,x\n" + "".join(f"{k},6\n" for k in range(200_000)))
         calls = {"timed": ["net"], "tidy": [], "csv": ["net"], "csv --back": ["--input", "net"], "compare": ["net", "net"]}
         for name, words in calls.items():
-            found = Ended([*name.split(), *words], folder, folder / ("table" if name == "csv" else "stream"))
-            want(f"{name} of a long stream", found.status == 0 and found.memory < MOST_MEMORY, f"{found.memory} {found.error}")
+            command = ["/usr/bin/python3", "-S", "-c", MEASURED, TOP / "tools/tool", *name.split(), *words]
+            with (folder / ("table" if name == "csv" else "stream")).open("rb") as given:
+                ran = subprocess.run(command, cwd=folder, stdin=given, stdout=subprocess.DEVNULL, stderr=subprocess.PIPE, timeout=SECONDS, check=False)
+            memory = int(ran.stderr.split()[-1]) * 1024
+            want(f"{name} of a long stream", ran.returncode == 0 and memory < MOST_MEMORY, ran.stderr)
 
 
 def files_keep_their_modes() -> None:

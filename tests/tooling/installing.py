@@ -27,9 +27,9 @@ def called(folder: Path, command: list[object], stream: bytes = b"") -> tuple[in
 def is_used(folder: Path, yampa: Path) -> None:
     want("installed run", called(folder, [yampa, "run", NET], STREAM) == (0, b"0\n6\n", b""))
     want("installed tool", called(folder, [yampa, "compare", NET, NET], STREAM)[:2] == (0, b"the same on 2 samples\n"))
-    source = TOP / "examples/lift/source"
-    output = called(folder, [yampa, "run", source], (source.parent / "stream").read_bytes())[1]
-    want("installed run of a source", output == (source.parent / "output").read_bytes(), output[:200])
+    path = TOP / "examples/lift/Lift.hs"
+    output = called(folder, [yampa, "run", path], (path.parent / "stream").read_bytes())[1]
+    want("installed run of Haskell", output == (path.parent / "output").read_bytes(), output[:200])
     told = called(folder, [yampa, "plt"])
     want("installed, a mistyped command", told[0] == 2 and b"did you mean plot?" in told[2], told)
     told = called(folder, [yampa, "--prove"])
@@ -45,7 +45,7 @@ def brings_pages(prefix: Path) -> None:
     want("the TextMate grammar", json.loads((share / "yampa/yampa.tmLanguage.json").read_text())["scopeName"] == "source.yampa")
     want("the tour is of the clone alone", "yampa tour" not in page)
     if shutil.which("vim") and b"+eval" in subprocess.run(["vim", "--version"], capture_output=True, check=False).stdout:
-        script = f"set rtp+=vim/vimfiles | filetype on | edit {TOP / 'examples/cruise/source'} | exe 'cquit ' . (&ft == 'yampa' ? 7 : 8)"
+        script = f"set rtp+=vim/vimfiles | filetype on | edit {NET} | exe 'cquit ' . (&ft == 'yampa' ? 7 : 8)"
         ended = subprocess.run(["vim", "-N", "-u", "NONE", "-es", "-c", script], cwd=share, stdin=subprocess.DEVNULL, capture_output=True, check=False)
         want("vim knows a file behind comments", ended.returncode == 7, ended)
     completion = share / "bash-completion/completions/yampa"

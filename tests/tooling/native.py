@@ -39,15 +39,15 @@ def runs_as_the_program(cache: Path) -> None:
 
 
 def what_is_refused(folder: Path, cache: Path) -> None:
-    net, source, lists, wrong = in_files(
+    net, haskell, lists, wrong = in_files(
         folder,
         net=NUMBERS + "(arr (add x 1))",
-        source="yampa source 1\ndef one 1\ninput Int\n(arr (add x one))",
+        haskell="module One where\nimport Yampa.Whole\none :: SF Int Int\none = arr (+ 1)\n",
         lists="yampa 1 input (List Int) identity",
         wrong=NUMBERS + "(arr (add x true))",
     )
     settings = {"XDG_CACHE_HOME": str(cache)}
-    want("native with names", tool("native", source, stream="5\n", **settings) == (0, "6\n", ""))
+    want("native of Haskell", tool("native", haskell, stream="5\n", **settings) == (0, "6\n", ""))
     want("native of a faulty line", tool("native", net, stream="5\n6\n", **settings) == (1, "6\n", "stream: line 2: step\n"))
     want("native of a longer list", tool("native", lists, "--most", 2, stream="(list 1 2 3)\n", **settings)[0] == 1)
     want("native of a wrong network", tool("native", wrong, **settings) == (1, "", "network: mismatch in (at 0)\n"))
@@ -96,6 +96,47 @@ def takes_much_stack(folder: Path, cache: Path) -> None:
     want("native --stack without gcc", found[:2] == (3, "") and "gcc" in found[2] and found[2].count("\n") == 1, found)
 
 
+# What the program that steps Parts by its names prints, worked out by hand from the file's text.
+STEPPED = """11111 light 1 of 1 (1 -2) (3 4) perhaps 1 2 shape 2 side 3 at 5 plain 1 12 bell 0 shapes 2 8 before 0 0
+00101 light 0 of 1 (1 -2) (3 4) perhaps 0 -1 shape 1 side 0 at 0 plain 1 12 bell 1 shapes 2 8 before 1 2
+"""
+WARNINGS = "-Wall -Wextra -Wpedantic -Wconversion -Wsign-conversion -Wshadow -Werror".split()
+
+
+def compiled(*words: object) -> str:
+    """The C that the wrapper's call prints."""
+    ran = subprocess.run([TOP / "tools/sourced", os.environ["YAMPA"], *map(str, words)], capture_output=True, timeout=120, check=False)
+    want(f"{words[0]} {words[-1]}", (ran.returncode, ran.stderr) == (0, b""), ran)
+    return ran.stdout.decode()
+
+
+def names_in_c(folder: Path) -> None:
+    """A header of a file of Haskell has its names, by which the network is stepped, and comments say where things come from."""
+    parts = Path(__file__).parent / "named"
+    header, code = [compiled("compile", option, "--name", "named", "--most", 16, parts / "Parts.hs") for option in ("--header", "--no-main")]
+    want("a function's place in C", "Parts.hs:20:12 last_: (Event " in code, code)
+    (folder / "named.h").write_text(header)
+    (folder / "named.c").write_text(code)
+    sources, made = [str(parts / "parts.c"), str(folder / "named.c")], str(folder / "named")
+    for way in (["gcc", "-std=c99"], ["g++", "-x", "c++", "-std=c++11"]):
+        ran = subprocess.run([*way, *WARNINGS, f"-I{folder}", "-o", made, *sources], capture_output=True, text=True, check=False)
+        want(f"names in C by {way[0]}", (ran.returncode, ran.stderr) == (0, ""), ran.stderr)
+        want(f"steps by names, by {way[0]}", subprocess.run([made], capture_output=True, text=True, check=False).stdout == STEPPED)
+    derived_names(folder, parts / "Parts.hs")
+    plain, = in_files(folder, **{"Plain.hs": "module Plain where\nimport Yampa.Whole\nplain :: SF Int Int\nplain = iPre 0\n"})
+    want("a header without names", "step_named" not in compiled("compile", "--header", plain))
+
+
+def derived_names(folder: Path, source: Path) -> None:
+    """A target that is no file of Haskell has the names of its source in C, but no places."""
+    net = folder / "net"
+    net.write_text(tool("expand", "--flat", source)[1])
+    target, steps = [subprocess.run([os.environ["YAMPA"], "optimise", net, *words], capture_output=True, check=True).stdout for words in ([], ["--certificate"])]
+    made = in_files(folder, target=target, steps=steps)
+    header = compiled("compile-checked", "--header", source, *made)
+    want("names of a source in its target's C", "yampa_step_named" in header and "Parts.hs:" not in header, header)
+
+
 def try_all() -> None:
     counts_the_longest_chain()
     with own_folder() as folder:
@@ -103,3 +144,4 @@ def try_all() -> None:
         runs_as_the_program(cache)
         what_is_refused(folder, cache)
         takes_much_stack(folder, cache)
+        names_in_c(folder)

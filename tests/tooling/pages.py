@@ -51,20 +51,20 @@ def pages_are_written(folder):
     want("the page has each step", text.count("<details><summary>") >= 21 and "accepted 21" in text)
     shown = browsed(page) if there("chromium") else None
     if shown is not None:
-        want("the page in a browser", "(repeatedly 1 unit)" in shown and "accepted 21" in shown and "input.fst" in shown, shown[:300])
+        want("the page in a browser", "(repeatedly 1 unit)" in shown and "accepted 21" in shown and '<span class="label">input.fst</span>' in shown, shown[:300])
         dark, light = brightness(page, 0), brightness(page, 1)
         want("the page dark and light", dark < 0.2 and light > 0.8, (dark, light))
     else:
         leave_out("since no browser runs here (Debian's chromium): the page in a browser")
 
 
-BROWSER = ["chromium", "--headless", "--no-sandbox", "--disable-gpu"]
+BROWSER = ["chromium", "--headless", "--no-sandbox", "--disable-gpu", "--disable-dev-shm-usage"]
 
 
 def browsed(page):
-    """The page as a browser has it, or None where no browser runs."""
+    """The page as a browser has it, when its scripts have had their time; or None where no browser runs."""
     try:
-        ran = subprocess.run([*BROWSER, "--dump-dom", page.as_uri()], capture_output=True, timeout=120)
+        ran = subprocess.run([*BROWSER, "--virtual-time-budget=20000", "--dump-dom", page.as_uri()], capture_output=True, timeout=300)
     except subprocess.TimeoutExpired:
         return None
     return ran.stdout.decode(errors="replace") if ran.returncode == 0 else None

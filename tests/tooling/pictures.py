@@ -2,6 +2,7 @@
 import csv
 import html
 import io
+import json
 import os
 import re
 import stat
@@ -15,7 +16,8 @@ from workbench.recording import lines_of
 from workbench.shorter import EDGE, shortened
 from workbench.signals import ABSENT, spelt
 
-from tooling.common import EXAMPLES, NUMBERS, TOP, WHOLE, each, in_files, is_xml, networks_in, own_folder, some, stream_of, texts_of, tool, want
+from tooling.common import EXAMPLES, NUMBERS, TOP, WHOLE, each, in_files, is_xml, leave_out, networks_in, own_folder, some, stream_of, texts_of, there, tool, want
+from tooling.pages import browsed
 
 NEEDS = ["dot", "matplotlib"]
 GAME = "(kSwitch time (arr (if (less (fst x) 10) (none Unit) (event unit))) (>>> (old 0) (iPre 0)))"
@@ -56,12 +58,23 @@ def networks_are_drawn():
         want(f"hovers of {example.name}", not hidden, hidden[:3])
 
 
+TOTALS = """{-# LANGUAGE Arrows #-}
+module Totals where
+import Yampa.Whole
+totals :: SF Int (Int, Int)
+totals = proc x -> do
+  before <- iPre 0 -< x
+  total <- integral -< before
+  returnA -< (total, before)
+"""
+
+
 def drawings_tell(folder):
     """What a picture has to show of a switch, of members, of forks and of names."""
     texts = {text.strip() for text in texts_of(tool("draw", TOP / "examples/filters/net", "--positions")[1])}
     for text in ("watches (at 4)", "member 2, then is (old 2) (at 3)", "from the event on, its value (p 0), resumes (old 0) to (old 2) (at 5)", "event"):
         want(f"a frame has {text}", text in texts, texts)
-    net, source = in_files(folder, net=NUMBERS + GAME, source="yampa source 1 def sum integral input Int (&&& sum (>>> time (&&& sum identity)))")
+    net, named = in_files(folder, net=NUMBERS + GAME, named=TOTALS)
     edges = edges_of(tool("draw", net, "-o", folder / "game.dot"), folder / "game.dot")
     want("the watcher sees input and output", edges("runs", "pair") and edges("in", "pair") and edges("pair", "watches"), edges.lines)
     want("the watcher's event goes to what takes over", edges("watches", "takes") and not edges("watches", "out"), edges.lines)
@@ -69,9 +82,9 @@ def drawings_tell(folder):
         (net,) = in_files(folder, net=NUMBERS + spelling)
         boxes = {text.strip() for text in texts_of(tool("draw", net)[1])}
         want(f"a fork: {spelling}", boxes == {"in", "out", "time", "(iPre 0)"}, boxes)
-    folded, opened = ([text.strip() for text in re.findall(r"<text[^>]*>([^<]*)", tool("draw", source, *words)[1])] for words in ((), ("--open",)))
-    want("names are boxes", folded.count("sum") == 2 and "integral" not in folded and opened.count("integral") == 2, (folded, opened))
-    want("a name's own drawing", {"in", "out", "integral"} == texts_of(tool("draw", source, "--at", "sum")[1]))
+    folded, opened = ([text.strip() for text in re.findall(r"<text[^>]*>([^<]*)", tool("draw", named, *words)[1])] for words in ((), ("--open",)))
+    want("names are boxes", {"before", "total"} <= {*folded} and "integral" not in folded and {"(iPre 0)", "integral"} <= {*opened}, (folded, opened))
+    want("a name's own drawing", {"in", "out", "integral"} == texts_of(tool("draw", named, "--at", "total")[1]))
 
 
 class Edges:
@@ -200,6 +213,48 @@ def plots_of_size(folder):
     want("100,000 samples", status == 0 and len(output) < 3_000_000 and time.time() - began < 60, (error, len(output), time.time() - began))
 
 
+# What is asked of a page with a plot: the values at sample 4, then samples 3 to 6 by dragging, then all again.
+ASKED = """<script>
+const stack = document.querySelector(".stack"), {left, width} = stack.getBoundingClientRect(), found = [];
+const go = (kind, k) => stack.dispatchEvent(new PointerEvent(kind, {clientX: left + width * (k + 0.5) / 10}));
+const tell = () => { const {from, to} = asked.window(); found.push(`${from} ${to} ${[...document.querySelectorAll(".at")].map(at => at.textContent)}`); };
+go("pointermove", 3);
+tell();
+go("pointerdown", 2);
+go("pointermove", 5);
+go("pointerup", 5);
+tell();
+go("dblclick", 0);
+tell();
+document.body.append(element("pre", {id: "found", textContent: found.join("\\n")}));
+</script></body>"""
+
+
+def pages_are_asked(folder):
+    """A plot as a page: its data, and in a browser the value under the cursor, and zoom."""
+    stream = "".join(f"{'+1 ' if number else ''}(pair {number} (list {number} 7))\n" for number in range(10))
+    (net,) = in_files(folder, net="yampa 1 input (Pair Int (List Int)) (arr (less 4 (fst x)))")
+    page = folder / "page.html"
+    status, _, error = tool("plot", net, "-o", page, stream=stream)
+    text = page.read_text()
+    data = json.loads(re.search(r'<script id="plot-data"[^>]*>(.*?)</script>', text, re.S)[1])
+    want("a plot as a page", status == 0 and data["times"] == list(range(10)), error)
+    found = [(column["name"], column["draw"], column["at"], column["texts"][-1]) for column in data["columns"]]
+    numbers = list(range(10))
+    want("its columns", found == [("input.fst", "steps", numbers, "9"), ("input.snd", "dots", numbers, "(list 9 7)"), ("output", "bands", [0, 5], "true")], found)
+    if not there("chromium"):
+        leave_out("since no browser runs here (Debian's chromium): plots that are asked")
+        return
+    page.write_text(text.replace('startPanels("plot")', 'globalThis.asked = startPanels("plot")').replace("</body>", ASKED))
+    shown = browsed(page) or ""
+    wanted = ["0 10 3,(list 3 7),false", "2 6 5,(list 5 7),true", "0 10 5,(list 5 7),true"]
+    want("a plot that is asked", f'<pre id="found">{chr(10).join(wanted)}</pre>' in shown, shown[-400:])
+    many = "".join(f"{'+1 ' if number else ''}5\n" for number in range(100_001))
+    (net,) = in_files(folder, net=NUMBERS + "time")
+    status, _, error = tool("plot", net, "-o", folder / "many.html", stream=many)
+    want("a page of too many samples", status == 1 and "takes 100,000 samples, and the run has 100,001" in error, error)
+
+
 def hostile_words(folder):
     """Digits without end, closed streams, full disks and names that aren't UTF-8: one line, and a status."""
     net, stream, digits = in_files(folder, net=NUMBERS + "time", stream="5\n", digits="5" * 5_000 + "\n")
@@ -231,6 +286,6 @@ def try_all() -> None:
     networks_are_drawn()
     runs_are_plotted()
     parts_have_names()
-    for check in (drawings_tell, files_have_endings, drawings_of_size, plots_show_all, plots_of_size, hostile_words):
+    for check in (drawings_tell, files_have_endings, drawings_of_size, plots_show_all, plots_of_size, pages_are_asked, hostile_words):
         with own_folder() as folder:
             check(folder)

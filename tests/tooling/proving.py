@@ -1,10 +1,15 @@
-"""`yampa prove`: what holds, what is false with its recording, what isn't known; lines of a file that say what is to hold."""
+"""`yampa prove`: what holds, what is false with its recording, what isn't known; definitions of a file that say what is to hold."""
 import os
 import re
 import time
+from textwrap import dedent
 
 from model.trees import GREATEST
+from workbench.origin import program_of
 from workbench.program import call
+from workbench.proving.contract import contract_of
+from workbench.proving.question import Pace
+from workbench.proving.words import loaded
 
 from tooling.common import NUMBERS, TOP, each, in_files, in_folder, own_folder, patience, tool, want
 
@@ -14,7 +19,11 @@ ALONE = True
 
 CLICKS = "yampa 1\ninput (Event Unit)\n"
 LISTS = "yampa 1\ninput (List Int)\n"
+TRUTHS = "yampa 1\ninput Bool\n"
 COUNTED = "(>>> (accumHoldBy (add (fst x) 1) 0) (arr {}))"
+# Two counters, of 6 and of 10, that are never 5 apart: 30 states.
+COUNTERS = "(loopPre {} (arr (then (if (less (snd x) {}) (add (snd x) 1) 0) (pair x x))))"
+APART = f"(>>> (&&& {COUNTERS.format(0, 5)} {COUNTERS.format(1, 9)}) (arr (not (equal (sub (fst x) (snd x)) 4))))"
 STEPS = "(>>> (loopPre 0 (arr (then (add (snd x) 1) (pair x x)))) (arr {}))"
 CYCLE = "(>>> (loopPre 0 (arr (then (if (equal (snd x) 5) 0 (add 1 (snd x))) (pair x x)))) (arr (less x 9)))"
 
@@ -22,7 +31,14 @@ CYCLE = "(>>> (loopPre 0 (arr (then (if (equal (snd x) 5) 0 (add 1 (snd x))) (pa
 ANSWERS = [
     (NUMBERS + "(arr (not (equal x 7319)))", [], 1, "false at sample 1: net.false"),
     (CLICKS + COUNTED.format("(less x 20)"), [], 1, "false at sample 20: net.false"),
-    (CLICKS + COUNTED.format("(less -1 x)"), [], 0, "holds on every recording\nby "),
+    (CLICKS + COUNTED.format("(less -1 x)"), [], 0, "holds on every recording of at most 1,000,000 samples\nby "),
+    (CLICKS + COUNTED.format("(less -1 x)"), ["--samples", "500"], 0, "holds on every recording of at most 500 samples\nby "),
+    (CLICKS + COUNTED.format("(less -1 x)"), ["--samples", "any", "--seconds", "6"], 4, "not known: "),
+    (NUMBERS + APART, [], 0, "holds on every recording\nby "),
+    (TRUTHS + "(>>> (delay 3 false) (arr (or x (not x))))", ["--steps", "1,2"], 0, "holds on every recording of at most 2^62 ticks with steps of 1 or 2\nby "),
+    (NUMBERS + "(>>> (iPre 0) (arr (less x 9)))", ["--ints", "-3..8"], 0, "holds on every recording with numbers from -3 to 8\nby "),
+    (NUMBERS + "(>>> (iPre 0) (arr (less x 9)))", ["--ints", "-3..9"], 1, "false at sample 2: net.false"),
+    (LISTS + "(arr (less (nth x 1 0) 9))", ["--ints", "0..8"], 0, "with lists of at most 4 elements with numbers from 0 to 8\nby "),
     (NUMBERS + STEPS.format("(less x 1000)"), [], 1, "false at sample 1000: net.false"),
     (NUMBERS + CYCLE, [], 0, "holds on every recording\nby "),
     (NUMBERS + "(>>> time (arr (less -1 x)))", [], 0, "holds on every recording of at most 2^62 ticks\nby "),
@@ -42,18 +58,15 @@ ANSWERS = [
         1,
         "false at sample 3: net.false",
     ),
-    (
-        "yampa 2\ninput (Pair Int (Event Int))\n(>>> (rpSwitchB (col integral) (pair (list Int 0 1 2 3) (list Int x)) (arr (p 0))) (arr (less (len x) 4)))",
-        ["--depth", "2", "--seconds", "6"],
-        4,
-        "none up to 2 samples",
-    ),
     (NUMBERS + "(arr (equal (fst x) 1))", [], 1, "network: mismatch in (at 0)"),
     (NUMBERS + "(arr x)", [], 1, "net: it outputs Int, and an observer outputs Bool"),
     (NUMBERS + "(arr (less x 10))", ["--seconds", "nan"], 2, "nan is no number of seconds above 0"),
     (NUMBERS + "(arr (less x 10))", ["--seconds", "inf"], 2, "inf is no number of seconds above 0"),
     (NUMBERS + "(arr (less x 10))", ["--seconds", "-1"], 2, "-1 is no number of seconds above 0"),
     (NUMBERS + "(arr (less x 10))", ["--step", "0"], 2, "0 is no whole number from 1"),
+    (NUMBERS + "(arr (less x 10))", ["--step", "7", "--most-step", "3"], 2, "no step keeps to --most-step"),
+    (NUMBERS + "(arr (less x 10))", ["--total", str(2**63)], 2, f"{2**63} is no whole number from 1 to {GREATEST}"),
+    (NUMBERS + "(arr (less x 10))", ["--ints", "5..1"], 2, "5..1 is no span of numbers of 64 bits, the least first"),
 ]
 
 # An observer, what is assumed or used of it, the words, the status, and what is told.
@@ -70,12 +83,51 @@ HINTS = [
 ]
 
 # Changes of the junction and of the cruise control, with the goal that each makes false.
-JUNCTION = (TOP / "tests/proving/junction.source").read_text()
+JUNCTION = (TOP / "tests/proving/Junction.hs").read_text()
 BUGS = [
-    ("(goes 2 true)", "(goes 3 false)", "red"),
-    ("(equal (phase x) 3))", "(less 0 (phase x)))", "safe"),
+    ("goes Clears True", "goes Walk False", "red"),
+    ("(phase k == Walk)", "(phase k /= Drive)", "safe"),
 ]
-EXAMPLES_GOALS = [("junction", ["parted"]), ("boiler", ["apart", "power", "off", "warm"]), ("elevator", ["floors", "steps"])]
+EXAMPLES_GOALS = [("junction", ["parted"]), ("boiler", ["apart", "powers", "off", "warm"]), ("elevator", ["floors", "steps"])]
+# A turnstile that holds up to 5 coins, and what is said of it; whether each is so.
+TURNSTILE = """{-# LANGUAGE Arrows #-}
+module Turnstile where
+
+import Yampa.Whole
+
+data Act = Coin | Push deriving (Eq)
+data Door = Door { open :: Bool, coins :: Int }
+
+turnstile :: SF Act Door
+turnstile = proc act -> do
+  rec let n = if act == Coin then min 5 (before + 1) else max 0 (before - 1)
+      before <- iPre 0 -< n
+  returnA -< Door { open = n > 0, coins = n }
+
+few, fine, apart :: Guarantee Act Door
+few = arr (\\(_, d) -> coins d < 3)
+fine = arr (\\(_, d) -> coins d >= 0 && coins d < 6)
+apart = arr (\\(_, d) -> open d || coins d == 0)
+
+full, over, shut :: Cover Act Door
+full = arr (\\(_, d) -> coins d == 5)
+over = arr (\\(_, d) -> coins d > 5)
+shut = arr (\\(act, d) -> act == Push && not (open d))
+"""
+# A counter from 0 to 5 that never is 7, for which it has to be known that it never is more.
+COUNTER = """module Counter where
+
+import Yampa.Whole
+
+data Box = Box { coins :: Int, lid :: Bool }
+
+counter :: SF Int Box
+counter = loopPre 0 (arr (\\(x, before) -> let n = if x > 0 then min 5 (before + 1) else max 0 (before - 1) in (n, n))) >>> arr (\\n -> Box n (n > 0))
+
+lucky :: Guarantee Int Box
+lucky = arr (\\(_, b) -> coins b /= 7)
+"""
+TURNS = {"few": "false at sample 3", "fine": "holds", "apart": "holds", "full": "covered at sample 5", "over": "never", "shut": "covered at sample 1"}
 
 
 def told_of(case):
@@ -93,6 +145,21 @@ def answers_are_right():
         for case, (status, output, error) in each(ask, cases):
             *_, wanted, line = case
             want(f"prove {case[0]} {case[-3]}", status == wanted and line in output + error and "Traceback" not in error, output + error)
+
+
+def states_are_searched_without_z3(folder):
+    """What has few inputs and states is decided by the compiled network alone; where there is no C compiler that is told."""
+    (no_z3,) = in_files(folder, **{"z3.py": "raise ImportError(name='z3')"})
+    for net, wanted, line in (
+        (TRUTHS + APART, 0, "by a search of all states: all 31 seen"),
+        (TRUTHS + APART.replace("equal (sub (fst x) (snd x)) 4", "equal (sub (fst x) (snd x)) 5"), 1, "false at sample 29"),
+        (TRUTHS + "(>>> (&&& (delay 3 false) (>>> (delay 2 false) (delay 1 false))) (arr (equal (fst x) (snd x))))", 0, "seen"),
+    ):
+        (path,) = in_files(folder, net=net)
+        status, output, error = tool("prove", path, "--step", "1", "--seconds", "30", PYTHONPATH=str(no_z3.parent))
+        want(f"states of {net}", status == wanted and line in output and "install python3-z3" in error, output + error)
+    status, output, error = tool("prove", path, "--step", "1", "--seconds", "3", PYTHONPATH=str(no_z3.parent), CC="no-such-compiler")
+    want("states without a C compiler", status == 4 and "there is no C compiler no-such-compiler on the path" in output, output + error)
 
 
 def recordings_are_confirmed(folder):
@@ -119,37 +186,81 @@ def files_say_what_is_to_hold(folder):
     texts = {goal: JUNCTION.replace(old, new) for old, new, goal in BUGS}
     paths = in_files(folder, **texts)
     for path, (status, output, error) in each(lambda path: tool("prove", path, "--goal", path.name, "--seconds", "60"), paths):
-        observed = re.search(rf"^false +{path.name} .*at sample \d+: (\S+)\n1 false, 0 not known, 0 hold$", output, re.M)
+        observed = re.search(rf"^false +{path.name} .*at sample \d+: (\S+)\n(?:  .*\n)+1 false, 0 not known, 0 hold$", output, re.M)
         want(f"the junction with {path.name} broken", status == 1 and observed and os.path.exists(observed.group(1)), output + error)
     for name, goals in EXAMPLES_GOALS:
         words = [word for goal in goals for word in ("--goal", goal)]
-        status, output, error = tool("prove", TOP / "examples" / name / "source", "--seconds", "110", *words)
+        status, output, error = tool("prove", TOP / "examples" / name / f"{name.capitalize()}.hs", "--seconds", "110", *words)
         count = f"0 false, 0 not known, {len(goals)} hold"
         want(f"prove {name}", status == 0 and count in output and output.count("\n") == len(goals) + 1, output + error)
 
 
-def bad_lines_are_told():
-    source = "yampa source 1\ndef few 5\ninput Int\ntime\n"
-    for line, wanted in (
-        ("guarantee g (arr x)", "source:5:11: guarantee g: it outputs (Pair Int Int), and what observes outputs Bool"),
-        ("guarantee g (arr (less x 1))", "source:5:11: guarantee g: network: mismatch in (at 0)"),
-        ("guarantee g (arr (less many 1))", "unknown word many"),
-        ("guarantee g", "the file ends; a tree is wanted"),
-        ("assume g (arr (less (snd x) few))", "source:5:8: assume g: network: mismatch in (at 0)"),
-        ("promise g (arr true)", "the network is whole before this; behind it stand assume, guarantee and invariant alone"),
-        ("def late 5", "the network is whole before this; def stands before input"),
+def covers_come_about(folder):
+    """Each property of a file has its row, and a cover a recording on which it is true at the sample that is told."""
+    (path,) = in_files(folder, **{"Turnstile.hs": TURNSTILE})
+    status, output, error = tool("prove", path, "--seconds", "60")
+    rows = {name: f"{word} {at or ''}".strip() for word, name, at in re.findall(r"^(\w+) +(\w+) +[\d.]+ s  (?:(at sample \d+): )?", output, re.M)}
+    want("rows of a turnstile", rows == TURNS and status == 1, output + error)
+    want("counts of a turnstile", "\n1 false, 0 not known, 2 hold, on" in output and output.endswith("\n2 covered, 1 never, 0 not known\n"), output)
+    told = tool("timed", path, stream=(folder / "Turnstile.hs.covered.full").read_bytes())[1]
+    want("what is covered comes about", told.count("\n") == 5 and told.endswith("(pair true 5)\n"), told)
+    status, output, error = tool("prove", path, "--goal", "over", "--seconds", "60")
+    want("what never comes about", status == 1 and output.startswith("never ") and output.endswith("\n0 covered, 1 never, 0 not known\n"), output + error)
+    status, output, error = tool("prove", path, "--goal", "full", "--seconds", "60")
+    want("a cover alone", status == 0 and output.startswith("covered ") and output.endswith("\n1 covered, 0 never, 0 not known\n"), output + error)
+
+
+def what_is_stated_is_typed():
+    """What is stated in a file is a network of the input, or of the pair of the input and the output, that outputs a truth."""
+    text = "module Few where\nimport Yampa.Whole\nfew :: SF Int Time\nfew = time\n"
+    for stated, wanted in (
+        ("g :: Guarantee Int Time\ng = identity", "Few.hs:6:5: "),
+        ("g :: Guarantee Int Time\ng = arr (< 1)", "Few.hs:6:12: what stands right of < must be (Int, Int) here"),
+        ("g :: Guarantee Int Time\ng = arr (\\(x, t) -> many < t)", "Few.hs:6:21: there is no many here"),
+        ("g :: Guarantee Int Time", "Few.hs:5:1: g "),
+        ("g :: Assume Int\ng = arr (\\(x, t) -> t < 5)", "Few.hs:6:11: a parameter of this function must be an Int here"),
+        ("g :: Guarantee Bool Time\ng = arr fst", "Few.hs:5:1: "),
     ):
-        status, output, error = in_folder(("prove", "source"), source=source + line)
-        want(f"bad line {line}", status == 1 and not output and wanted in error and error.count("\n") == 1, error)
-    kept = source + "\n; always\nassume a (arr (less x few))\nguarantee g (arr (equal (fst x) (fst x)))\n"
-    want("lines that are laid out", in_folder(("fmt", "source"), source=kept)[1] == kept.replace("5\ninput", "5\n\ninput").replace("source 1\ndef", "source 1\n\ndef"))
-    want("lines that are held", in_folder(("prove", "source"), source=kept)[0] == 0)
+        status, output, error = in_folder(("prove", "Few.hs"), **{"Few.hs": f"{text}{stated}\n"})
+        want(f"stated wrong: {stated}", status == 1 and not output and wanted in error and "Traceback" not in error, output + error)
+    kept = text + "a :: Assume Int\na = arr (< 5)\ng :: Guarantee Int Time\ng = arr (\\(x, _) -> x < 6)\n"
+    status, output, error = in_folder(("prove", "Few.hs"), **{"Few.hs": kept})
+    want("what holds as assumed", status == 0 and re.match(r"holds +g ", output) and "that keeps to what is assumed" in output, output + error)
+
+
+def invariants_can_be_pasted(folder):
+    """What is printed of a proof is taken by the file that it is about, and the goal rests on it; of a core network it has positions."""
+    (path,) = in_files(folder, **{"Counter.hs": COUNTER})
+    contract = contract_of(str(path), loaded(str(path)))
+    printed = invariants_of(contract.question(contract.goals[0].net, Pace()), contract)
+    want("printed invariants", printed and all(len(line) <= 100 for line in printed) and "coins v2 <= 5" in "\n".join(printed), printed)
+    (path,) = in_files(folder, **{"Counter.hs": COUNTER + "\n" + dedent("\n".join(printed)) + "\n"})
+    again = contract_of(str(path), loaded(str(path)))
+    lemmas = tuple(one.net for one in again.invariants)
+    want("pasted invariants", len(lemmas) == len([line for line in printed if "::" in line]), again.invariants)
+    want("what rests on them", invariants_of(again.question(again.goals[0].net, Pace(), (), lemmas), again) is not None)
+    (net,) = in_files(folder, net=NUMBERS + "(>>> (loopPre 0 (arr (then (if (less 0 (fst x)) 5 (sub (snd x) 1)) (pair x x)))) (arr (less x 6)))")
+    contract = contract_of(str(net), loaded(str(net)))
+    printed = invariants_of(contract.question(contract.goals[0].net, Pace()), contract)
+    want("invariants of a core network", printed is not None and all("(at 0)" in line or "samples" in line for line in printed), printed)
+
+
+def invariants_of(question, contract):
+    """The lines of the invariants by which a question's goal holds, over integers; None if that isn't found."""
+    from workbench.proving.search import PROVING
+    from workbench.proving.spelling import spelt
+    from workbench.proving.told import Holds, Search
+
+    told = []
+    PROVING["integers"](Search(question, time.monotonic() + 60 * patience(), 30, lambda stream: True, tell=told.append))
+    loaded_ = contract.loaded
+    return next((spelt(one.invariants, program_of(loaded_.name), loaded_.given, loaded_.output) for one in told if isinstance(one, Holds)), None)
 
 
 def try_all() -> None:
     answers_are_right()
     seconds_are_held()
-    bad_lines_are_told()
-    for check in (recordings_are_confirmed, files_say_what_is_to_hold):
+    what_is_stated_is_typed()
+    for check in (recordings_are_confirmed, states_are_searched_without_z3, files_say_what_is_to_hold, covers_come_about, invariants_can_be_pasted):
         with own_folder() as folder:
             check(folder)

@@ -1,10 +1,14 @@
 """Streams that break a property, or tell two networks apart, are looked for."""
+import os
+import signal
+import subprocess
+import time
 
 from model.texts import network_text
 from workbench.outline import network_of
-from workbench.program import call
+from workbench.program import call, path
 
-from tooling.common import EXAMPLES, NUMBERS, each, in_files, in_folder, own_folder, tool, want
+from tooling.common import EXAMPLES, NUMBERS, TOP, each, in_files, in_folder, own_folder, tool, want
 
 NEEDS = ["z3"]
 # The searches are held to the clock: no other module runs beside this one.
@@ -53,7 +57,7 @@ def observers_are_falsified(folder):
     (file,) = in_files(folder, net=net)
     told_false = call(["run", str(file)], stream.encode()).output.endswith(b"false\n")
     want("falsify", status == 1 and "false at line" in error and told_false, stream + error)
-    want("nothing to falsify", in_folder(("falsify", "net", "--seconds", "2"), net=NUMBERS + "(arr (equal x x))")[:2] == (0, ""))
+    want("nothing to falsify", in_folder(("falsify", "net", "--seconds", "5"), net=NUMBERS + "(arr (equal x x))")[:2] == (0, ""))
     want("no observer", "an observer outputs Bool" in in_folder(("falsify", "net"), net=NUMBERS + "(arr x)")[2])
 
 
@@ -76,7 +80,7 @@ def random_streams_find_them():
             status, stream, error = tool("falsify", "net", "--seconds", "30", *words, folder=folder, PYTHONPATH=str(folder))
             lines = call(["run", str(folder / "net")], stream.encode()).output.split()
             want(f"random streams of {net}", status == 1 and lines[-1:] == [b"false"] and b"false" not in lines[:-1], stream[:300] + error)
-            want(f"without z3: {net}", "install python3-z3" in error and "at random alone" in error, error)
+            want(f"without z3: {net}", "install python3-z3" in error and "so without z3" in error, error)
 
 
 def nothing_is_passed_that_never_ran():
@@ -88,26 +92,67 @@ def nothing_is_passed_that_never_ran():
         want(f"{words[0]} of what has too many expressions", (status, output) == (1, "") and error == f"yampa {words[0]}: table full\n", output + error)
 
 
+# What is false only where 100,000 samples are just so: nobody finds that in a minute.
+HARD = NUMBERS + "(>>> (loopPre 0 (arr (then (if (equal (fst x) (mul 7 (snd x))) (add (snd x) 1) 0) (pair x x)))) (arr (less x 100000)))"
+
+
+def what_fails_is_told():
+    """A program that can't start, or that fails each run, is an error and no answer; few streams aren't enough to say that none was found."""
+    with own_folder() as folder:
+        (net,) = in_files(folder, net=HARD)
+        dying = folder / "dying"
+        dying.write_text(f'#!/bin/sh\n[ "$1" = run ] && [ "$2" != "{net}" ] && kill -9 $$\nexec "{path()}" "$@"\n')
+        dying.chmod(0o755)
+        status, output, error = tool("falsify", net, "--seconds", "5", YAMPA=str(dying))
+        want("falsify by a program that dies", status == 3 and not output and "0 random streams" in error, error)
+        status, output, error = tool("falsify", net, "--seconds", "0.01")
+        want("falsify without time", status in (3, 4) and "none found" not in error and "random stream" in error, error)
+        status, output, error = tool("prove", net, "--seconds", "20", YAMPA=str(dying))
+        want("prove by a program that dies", status in (3, 4) and "holds" not in output and "ended with status -9" in output + error, output + error)
+
+
+def limits_of_memory_are_kept(folder):
+    """A soft limit that is there is kept, and no limit is raised; nothing is left of what was stopped."""
+    (net,) = in_files(folder, net=NUMBERS + "(arr (less x 4))")
+    for limit in ("-S", "-H"):
+        call_of = f'ulimit {limit} -v 2000000; exec "$0" falsify "{net}" --seconds 20'
+        ran = subprocess.run(["bash", "-c", call_of, str(TOP / "tools/tool")], capture_output=True, text=True, check=False)
+        want(f"falsify under ulimit {limit}", ran.returncode == 1 and "Traceback" not in ran.stderr, ran.stderr)
+
+
 def nothing_is_found(folder):
     """In what is equal: each example beside itself, or its faster form."""
 
     def observed(example):
         whole, file = network_of(str(example / "net")), folder / example.name
         file.write_text(network_text(whole.input, (">>>", whole.tree, ("arr", ("equal", "x", "x")))))
-        return tool("falsify", file, "--seconds", "0.5")
+        return tool("falsify", file, "--seconds", "5")
 
     def compared(example):
         other = "fast" if (example / "fast").exists() else "net"
         return tool("differ", "net", other, "--seconds", "20", folder=example)
 
     for example, told in each(observed, EXAMPLES[::4]):
-        want(f"falsify {example.name}", told[:2] == (0, ""), told)
+        want(f"falsify {example.name}", told[0] in (0, 4) and not told[1] and ("random streams" in told[2] or "it holds" in told[2]), told)
     for example, told in each(compared, EXAMPLES[::4]):
         want(f"differ {example.name}", told[0] == 0 and told[1].startswith("equal on every recording\nby a certificate"), told)
 
 
 # Two networks that are one, for which `yampa certify` finds no certificate.
 EQUAL = ("(loopPre 0 (arr (then (add (fst x) (snd x)) (pair x x))))", "(loopPre 5 (arr (then (add (fst x) (snd x)) (pair (sub x 5) x))))")
+
+
+def nothing_is_left_behind(folder):
+    """Of a search that is stopped by a signal."""
+    (net,) = in_files(folder, net=HARD)
+    for number in (signal.SIGINT, signal.SIGTERM):
+        with own_folder() as place:
+            child = subprocess.Popen([str(TOP / "tools/tool"), "falsify", str(net), "--seconds", "60"], env={**os.environ, "TMPDIR": str(place)}, stderr=subprocess.DEVNULL)
+            time.sleep(6)
+            child.send_signal(number)
+            child.wait(30)
+            left = [path.name for path in place.iterdir()]
+            want(f"what is left behind by signal {int(number)}", not left and child.returncode == 128 + number, f"{left} {child.returncode}")
 
 
 def equal_networks_are_told():
@@ -123,4 +168,7 @@ def try_all() -> None:
         nothing_is_passed_that_never_ran()
         equal_networks_are_told()
         observers_are_falsified(folder)
+        what_fails_is_told()
+        limits_of_memory_are_kept(folder)
+        nothing_is_left_behind(folder)
         nothing_is_found(folder)

@@ -19,7 +19,7 @@ from workbench.signals import ABSENT, values_of
 from workbench.watching import told_by
 from workbench.wiring import Scope, arr, seq
 
-from tooling.common import EXAMPLES, NUMBERS, TOP, WHOLE, each, in_files, own_folder, stream_of, tool, want
+from tooling.common import EXAMPLES, HASKELL, NUMBERS, TOP, WHOLE, each, in_files, own_folder, stream_of, tool, want
 
 sys.path.insert(0, str(TOP / "tests"))
 from generator.making import Maker  # noqa: E402
@@ -65,27 +65,28 @@ STEPPED = [
 """,
     ),
     (
-        "yampa source 1 record Car speed:Int stops:Bool def faster (arr (pair (add (speed x) 1) (stops x))) input Car faster",
+        "module Car where\nimport Yampa.Whole\ndata Car = Car { speed :: Int, stops :: Bool }\ncar :: SF Car Car\ncar = arr (\\c -> c { speed = speed c + 1 })\n",
         "(pair 4 true)\n",
         """1 0 input.speed 4
-1 0 input.stops true
+1 0 input.stops True
 1 0 output.speed 5
-1 0 output.stops true
+1 0 output.stops True
 """,
     ),
     (
-        "yampa source 1 def before (iPre 0) def twice (arr (mul 2 x)) input Int (>>> before (>>> twice (arr (add 1 x))))",
+        "{-# LANGUAGE Arrows #-}\nmodule Sums where\nimport Yampa.Whole\nsums :: SF Int Int\nsums = proc x -> do\n  before <- iPre 0 -< x\n"
+        "  total <- integral -< x\n  returnA -< before + total + 1\n",
         "4\n+1 5\n",
-        "1 0 input 4\n1 0 output 1\n1 0 before 0\n1 0 twice 0\n2 1 input 5\n2 1 output 9\n2 1 before 4\n2 1 twice 8\n",
+        "1 0 input 4\n1 0 output 1\n1 0 before 0\n1 0 total 0\n2 1 input 5\n2 1 output 9\n2 1 before 4\n2 1 total 4\n",
     ),
 ]
 
 WAVES = """$timescale 10 us $end
 $scope module yampa $end
-$var wire 64 ! input [63:0] $end
+$var integer 64 ! input [63:0] $end
 $scope module output $end
 $var wire 1 " valid $end
-$var wire 64 # value [63:0] $end
+$var integer 64 # value [63:0] $end
 $upscope $end
 $upscope $end
 $enddefinitions $end
@@ -114,13 +115,38 @@ def samples_are_told(folder):
     status, output, error = tool("step", net, file)
     want("step up to a fault", status == 1 and output.count("\n") == 2 and error == "yampa step: stream: line 2: step\n", output + error)
     want("waves of nothing", tool("waves", net, os.devnull)[0] == 1)
+    lists, file = in_files(folder, lists="yampa 1 input (List Int) (arr x)", stream="(list 7)\n" + "+1 =\n" * 1_500 + "+1 (list 1 2)\n+1 (list)\n")
+    status, output, error = tool("waves", lists, file, "-o", folder / "w.vcd", "--save", folder / "w.gtkw")
+    dump = (folder / "w.vcd").read_text()
+    want("a list that gets longer later", status == 0 and is_dump(dump) and dump.count(" 1 [63:0]") == 2, dump[:900] + error)
+    lines = dump.splitlines()
+    longer, empty = (lines[lines.index(f"#{time}") + 1 : lines.index(f"#{time + 1}")] for time in (1_501, 1_502))
+    want("its elements", sorted(line.split()[0] for line in longer) == ["b1", "b1", "b10", "b10", "b10", "b10"], longer)
+    want("its missing elements", sorted(line.split()[0] for line in empty) == ["b0", "b0", "bx", "bx", "bx", "bx"], empty)
+    rows = (folder / "w.gtkw").read_text().splitlines()
+    want("what GTKWave shows", rows[1] == '[dumpfile] "w.vcd"' and "yampa.output.1[63:0]" in rows and "@88420" in rows, rows)
+    want("what GTKWave shows of no file", tool("waves", lists, file, "--save", folder / "x.gtkw")[0] == 2)
+
+
+def streams_are_not_held(folder):
+    """Ten times the samples take no more memory, as processes are told to have taken."""
+    (net,) = in_files(folder, net=NUMBERS + "(>>> (arr (add x 1)) (iPre 0))")
+    for words in (["step", "--lines"], ["waves"]):
+        found = []
+        for count in (10_000, 100_000):
+            (file,) = in_files(folder, stream="1\n" + "+1 2\n" * (count - 1))
+            ran = subprocess.Popen([TOP / "tools/tool", words[0], net, file, *words[1:], "-o", folder / "out"])
+            _, status, used = os.wait4(ran.pid, 0)
+            ran.returncode = status
+            found.append(used.ru_maxrss)
+        want(f"memory of {words[0]}", status == 0 and found[1] < found[0] + 4_000, found)
 
 
 def examples_are_stepped():
     """What is output stands there, sample by sample, and each dump is one that can be read back."""
 
     def both(example):
-        net = "source" if (example / "source").exists() else "net"
+        net = next((path.name for path in HASKELL if path.parent == example), "net")
         return tool("step", "net", "stream", "--all", folder=example), tool("waves", net, "stream", folder=example)
 
     for example, (stepped, waved) in each(both, EXAMPLES):
@@ -132,8 +158,8 @@ def examples_are_stepped():
 def is_dump(text):
     """Whether each variable of a dump is declared once, and scopes are closed, and times rise."""
     head, _, body = text.partition("$enddefinitions $end\n")
-    names = re.findall(r"^\$var wire \d+ (\S+) ", head, re.M)
-    changes = {re.sub(r"^(b\S+ |[01x])", "", line) for line in body.splitlines() if line[0] != "#"}
+    names = re.findall(r"^\$var (?:wire|integer|string) \d+ (\S+) ", head, re.M)
+    changes = {re.sub(r"^([bs]\S* |[01x])", "", line) for line in body.splitlines() if line[0] != "#"}
     times = [int(time) for time in re.findall(r"^#(\d+)$", body, re.M)]
     return names and len({*names}) == len(names) and changes <= {*names} and head.count("$scope") == head.count("$upscope") and times == sorted(times)
 
@@ -207,6 +233,7 @@ def terminal_is_answered(folder):
 def try_all() -> None:
     with own_folder() as folder:
         samples_are_told(folder)
+        streams_are_not_held(folder)
         terminal_is_answered(folder)
     examples_are_stepped()
     parts_say_the_same()

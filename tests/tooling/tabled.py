@@ -7,7 +7,7 @@ from model.texts import network_text, read_network
 from model.trees import expanded
 from workbench.program import call
 
-from tooling.common import NUMBERS, TOP, each, in_folder, leave_out, own_folder, want
+from tooling.common import NUMBERS, TOP, each, in_folder, leave_out, own_folder, tool, want
 
 NEEDS = ["z3"]
 # The searches are held to the clock: no other module runs beside this one.
@@ -16,11 +16,11 @@ ALONE = True
 HERE = TOP / "tests/proving"
 DEAR = bool(os.environ.get("DEAR"))
 COUNTED = "yampa 1\ninput (Event Unit)\n(>>> (accumHoldBy (add (fst x) 1) 0) (arr (less x {})))"
-FORGETS = ("(goes 4 pushed)", "(goes 4 false)")
-HASTY, SHORT = ("(lasted 3)", "(lasted 2)"), ("(lasted 10)", "(lasted 9)")
+FORGETS = ("goes Empties pushed", "goes Empties False")
+HASTY, SHORT = ("lasted 3", "lasted 2"), ("lasted 10", "lasted 9")
 # A hint, without which it isn't known that who asks walks soon.
-PACED = ("guarantee soon", (HERE / "junction.paced").read_text() + "guarantee soon")
-SANE = ["--assume", str(HERE / "sane.source")]
+PACED = ("soon :: Guarantee", (HERE / "junction.paced").read_text() + "soon :: Guarantee")
+SANE = ["--assume", str(HERE / "sane")]
 HOLDS, FALSE = "holds", "false"
 
 # A network, what is changed in it, the words of the call, and of each goal the answer: that it holds, or is false, or at which sample.
@@ -29,7 +29,6 @@ GOALS = [
     ("boiler", None, [], {"apart": HOLDS}),
     ("debouncer", None, [], {"pressed": HOLDS, "long": HOLDS}),
     ("debouncer", None, ["--total", "1000000"], {"long": HOLDS}),
-    ("debouncer", None, ["--total", "18446744073709551616"], {"long": FALSE}),
     ("handover", None, [], {"percent": HOLDS}),
     ("heartbeat", None, [], {"two": 4, "three": HOLDS}),
     ("motor", None, [], {"speeds": HOLDS}),
@@ -56,8 +55,8 @@ SAMPLES = NUMBERS + "(>>> (loopPre 0 (arr (then (add (snd x) 1) (pair x x)))) (a
 COUNTS = [*[(COUNTED.format(most), most) for most in (20, 30, 1000)], (SAMPLES, 1000), (NUMBERS + "(arr (not (equal x 7319)))", 1)]
 
 # A network, and what is changed in it: `differ` tells them apart.
-UNWOUND = ("(if full (sum kept) (add (sum kept) error))", "(add (sum kept) error)")
-LESS = ("(sub (aim kept) 100)", "(sub (aim kept) 200)")
+UNWOUND = ("if full then total k else total k + off", "total k + off")
+LESS = ("aim k - 100", "aim k - 200")
 MUTANTS = [("cruise", UNWOUND, []), ("cruise", UNWOUND, SANE), ("cruise", LESS, []), ("junction", FORGETS, [])]
 
 # A network with a fault that `falsify` finds by a goal, or, where none is named, beside the network without it; and in how many seconds.
@@ -66,19 +65,28 @@ PLANTED += [("junction", change, "", []) for change in (FORGETS, HASTY, SHORT)]
 SOON = 10
 
 # A network, and what makes of it one that does the same: a file beside it, a command of the program, or what is changed in it.
-LATER = ("(not (less (sub clock (since kept)) d))", "(not (less clock (add d (since kept))))")
-TURNED = ("(if (equal (phase x) 0) 1 (if (equal (phase x) 1) 2 0))", "(if (equal (phase x) 1) 2 (if (equal (phase x) 0) 1 0))")
+LATER = ("clock - since k < d", "clock < d + since k")
+TURNED = (
+    "if phase k == Drive then Green else if phase k == Ends then Yellow else Red",
+    "if phase k == Ends then Yellow else if phase k == Drive then Green else Red",
+)
 EQUAL = [("boiler", "fast"), ("marble", "fast"), ("junction", "optimise"), ("junction", LATER), ("junction", TURNED), ("cruise", "optimise")]
 DEAR_EQUAL = [("boiler", "improved"), ("marble", "improved"), ("handover", "fast"), ("handover", "improved"), ("squash", "fast")]
 DEAR_EQUAL += [("squash", "improved"), ("junction", "improve"), ("cruise", "improve"), ("sensors", "improve")]
 
 
+def written_of(name):
+    """The file of a network: one of Haskell here, or an example's."""
+    path = HERE / f"{name.capitalize()}.hs"
+    return path if path.exists() else TOP / "examples" / name / "net"
+
+
 def text_of(name, change=None):
-    """The file of a network with what is to hold of it, where that is there; what stands in NAME.said goes round the example's network."""
-    source, said, net = HERE / f"{name}.source", HERE / f"{name}.said", TOP / "examples" / name / "net"
-    text = source.read_text() if source.exists() else net.read_text()
+    """The file of a network with what is to hold of it; what stands in NAME.said is stated of an example's network in Haskell."""
+    path, said = written_of(name), HERE / f"{name}.said"
+    text = path.read_text()
     if said.exists():
-        text = "yampa source 1\n" + said.read_text().replace("network\n", re.sub(r"^(;.*\n)*yampa [12]\n", "", text), 1)
+        text = f"{{-# LANGUAGE Arrows #-}}\n{tool('haskell', path, '--name', name)[1]}\n{said.read_text()}"
     if change:
         assert change[0] in text, change
         text = text.replace(*change)
@@ -88,6 +96,10 @@ def text_of(name, change=None):
 def flat(text):
     """The network's file that a text means."""
     return in_folder(("expand", "--flat", "file"), file=text)[1]
+
+
+def flat_net(name):
+    return flat(written_of(name).read_text())
 
 
 def answer_of(case):
@@ -132,20 +144,20 @@ def other_of(name, how):
     if (TOP / "examples" / name / how).exists():
         return (TOP / "examples" / name / how).read_text()
     with own_folder() as folder:
-        (folder / "net").write_text(flat(text_of(name)))
+        (folder / "net").write_text(flat_net(name))
         return call([how, str(folder / "net")]).output.decode()
 
 
 def both_of(name, text):
     """The file of an observer of whether a network does the same as another of which this is the file."""
-    (given, net), (_, other) = (read_network(one.encode()) for one in (flat(text_of(name)), text))
+    (given, net), (_, other) = (read_network(one.encode()) for one in (flat_net(name), text))
     return network_text(given, expanded((">>>", ("&&&", net, other), ("arr", ("equal", ("fst", "x"), ("snd", "x"))))))
 
 
 def with_goal(text, goal):
     """The file with this guarantee alone."""
-    first, *goals = re.split(r"^(?=guarantee )", text, flags=re.M)
-    return first + "".join(one for one in goals if one.split()[1] == goal)
+    found = [(part, re.search(r"^(\w+) :: Guarantee ", part, re.M)) for part in text.split("\n\n")]
+    return "\n\n".join(part for part, guarantee in found if guarantee is None or guarantee[1] == goal)
 
 
 def planted_faults_are_falsified():

@@ -6,6 +6,7 @@ import resource
 import signal
 import time
 import traceback
+from itertools import product
 
 from generator.breaking import Breaker
 from generator.making import UNIT_SCOPE, Maker
@@ -21,8 +22,10 @@ from tooling.common import want
 
 NEEDS = ["z3"]
 # How many random questions, how many seconds of a processor a way of proof has for each, and how heavy their networks are at most.
-QUESTIONS, SECONDS, HEAVY = 15, 1, 80
+QUESTIONS, SECONDS, HEAVY = 200 if os.environ.get("DEAR") else 15, 1, 80
 RECORDINGS, LONGEST = 1_500, 16
+# Of a network of truths all recordings of fewer samples than these are run, with one step.
+SHORT = 9
 
 # Of an Int: a network, what is assumed and the pace; the program outputs false, and what leaves 64 bits might hide that.
 FALSE = [
@@ -109,9 +112,11 @@ def random_recordings(question, rng, count):
     from workbench.proving.deciding import allowed
 
     pace = question.pace
-    streams = Streams(question.given, question.numbers, rng, Wishes(LONGEST, [pace.step] if pace.step else None, pace.most or GREATEST, pace.lists))
+    streams = Streams(question.given, question.numbers, rng, Wishes(LONGEST, pace.steps, pace.most or GREATEST, pace.lists, pace.ints))
     steps = [pace.step] if pace.step else [step for step in (1, 2, 3, 5) if step <= (pace.most or GREATEST)]
     found = [streams.recording() for _ in range(count // 2)]
+    if question.given == "Bool":
+        found += [[(steps[0], Value(truth, truth)) for truth in truths] for size in range(1, SHORT) for truths in product(("false", "true"), repeat=size)]
     for _ in range(count - count // 2):
         values = [Value(value, shown(value)) for value in (small(question.given, rng, streams.numbers, pace.lists) for _ in range(3))]
         found.append([(rng.choice(steps), rng.choice(values)) for _ in range(rng.randint(1, 7))])
@@ -136,7 +141,7 @@ def small(type_, rng, numbers, lists):
 
 def told_of(question):
     """What each way of proof tells by itself, with its name."""
-    return [(name, told) for name in ("induction", "integers", "spacer") for told in told_by(question, name)]
+    return [(name, told) for name in ("induction", "integers", "spacer", "reached", "states") for told in told_by(question, name)]
 
 
 def told_by(question, name):
@@ -162,13 +167,16 @@ def told_by(question, name):
 
 def prove(question, name, pipe):
     """Runs a way of proof within so many seconds of a processor, and ends."""
-    from workbench.proving.search import PROVING
-    from workbench.proving.told import Search
-
-    resource.setrlimit(resource.RLIMIT_CPU, (SECONDS, SECONDS))
     try:
+        from workbench.proving.explicit import by_states
+        from workbench.proving.search import PROVING
+        from workbench.proving.told import Search
+
+        resource.setrlimit(resource.RLIMIT_CPU, (SECONDS, SECONDS))
         observer = Observer(question.observer())
-        PROVING[name](Search(question, time.monotonic() + 60, 30, lambda stream: observer.first(recording_in(stream, question)) is not None, pipe.send))
+        ways = {**PROVING, "states": by_states}
+        confirmed = lambda stream: observer.first(recording_in(stream, question)) is not None  # noqa: E731
+        ways[name](Search(question, time.monotonic() + 60, 30, confirmed, tell=pipe.send))
     except Refused:
         pass
     except Exception:  # pylint: disable=broad-exception-caught
