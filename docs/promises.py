@@ -2,7 +2,7 @@
 """Prints what a public call promises: the comment above it, its signature and its contract, from the code.
 
     docs/promises.py CRATE|NAME..   such as `docs/promises.py cert_check` or `docs/promises.py check`
-    docs/promises.py --check        lists public calls without a comment or a contract, except those of searches and of what tests share
+    docs/promises.py --check        lists public calls without a comment or a contract, except those that tests share
 """
 import re
 import signal
@@ -13,11 +13,10 @@ TOP = Path(__file__).resolve().parent.parent
 EXPORT = re.compile(r"^pub use ([\w:]+)::(?:\{([^}]*)\}|(\w+));", re.M)
 CALL = re.compile(r"^( *)pub (?:ghost )?(?:const )?fn (\w+)")
 OWNER = re.compile(r"^(?:impl|pub trait)(?:<[^>]*>)? (?:\w+(?:<[^>]*>)? for )?(\w+)")
-# Searches that nobody trusts: their answers are checked, so their calls have no contracts; and what tests share.
-SEARCHES = {"expr_improve", "net_improve", "net_certify"}
+# What tests share.
 OF_TESTS = {"row_texts", "net_rows"}
 # Calls of which there is nothing to say but that they return.
-FREE = {"sample_core::Sample::let_go"}
+FREE = {"sample_core::Sample::let_go", "stream_text::Printer::new", "stream_text::is_given"}
 
 
 class Call:
@@ -90,7 +89,7 @@ def checked():
         for call in calls_of(crate):
             if not call.comment:
                 yield f"{call.full_name()}: no comment"
-            if not call.has_contract() and crate not in SEARCHES | OF_TESTS and call.full_name() not in FREE:
+            if not call.has_contract() and crate not in OF_TESTS and call.full_name() not in FREE:
                 yield f"{call.full_name()}: no contract"
 
 
