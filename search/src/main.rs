@@ -1,4 +1,4 @@
-//! Searches for certificates: `yampa-search certify SRC TGT`, `yampa-search improve NET`.
+//! Searches for certificates: `yampa-search certify SRC TGT`, `yampa-search improve NET`; what a network costs: `yampa-search cost NET`.
 //!
 //! Nothing that this program prints is trusted: the wrapper `yampa` hands each certificate to the proved program's `check`. A certificate is
 //! printed on standard output, with status 0; else a line on standard error says why there is none, with status 1, or 3 where a file can't be
@@ -45,7 +45,7 @@ use term::Term;
 /// How much stack the searches have: they go down into trees, which are no deeper than files and limits let them be.
 const STACK: usize = 64 << 20;
 
-const USAGE: &str = "yampa-search certify SRC TGT\nyampa-search improve NET";
+const USAGE: &str = "yampa-search certify SRC TGT\nyampa-search improve NET\nyampa-search cost NET";
 
 /// Why there is no certificate: what is told of it on standard output, a line, and a status.
 pub struct Refusal {
@@ -79,6 +79,7 @@ fn answered(words: &[String]) -> i32 {
     let found = match words.as_slice() {
         ["certify", source, target] => read(source).and_then(|source| certify::certified(source, read(target)?)),
         ["improve", net] => read(net).map(|(input, net)| certify::improving(input, net)),
+        ["cost", net] => read(net).map(|(_, net)| format!("{}\n", cost::net_cost(net))),
         _ => Err(Refusal::new(USAGE, 2)),
     };
     match found {

@@ -24,6 +24,11 @@ from model.trees import (
 )
 from model.typed import WEIGHT, Scope, check_types, weight
 from model.viewing import difference_text
+from workbench.program import answering
+from workbench.proposing import APART
+
+NONE_FOUND = re.compile(rb"equal on [\d,]+ samples; no certificate found\n")
+DIFFER = re.compile(rb"they differ on this recording: line (\d+): (.*) and (.*)\n")
 
 
 class Case:
@@ -307,15 +312,19 @@ class Case:
         return network_text(typed.input, replaced(net, position, self.rng.randint(-3, 9))).encode()
 
     def between(self, way, source, target, stream):
-        """What `certify` finds is accepted, and both do the same; else it tells where their normal forms differ."""
+        """What `certify` finds is accepted, and both do the same; else it tells on what recording they differ, or where their normal forms do."""
         told = self.hold("certify", source, target)
-        self.tally["certificates", f"{way}: {told.error.decode().strip() or 'found'}"] += 1
+        self.tally["certificates", f"{way}: {told.error.decode().partition(': line')[0].strip() or 'found'}"] += 1
         files = [source, target, told.output]
         if not told.status and len(told.output) <= FILE_BYTES:
             self.accepted(self.program.run(Command("check", files)), files, told.output.count(b"(step "))
             self.same(files, stream)
-        elif told.error == b"certificate: none found\n":
+        elif NONE_FOUND.fullmatch(told.error):
             self.told_apart(told, files[:2], stream)
+        elif found := DIFFER.fullmatch(told.error):
+            outputs = [self.program.run(Command("run", [text], told.output)).output.splitlines() for text in files[:2]]
+            if outputs[0][:-1] != outputs[1][:-1] or [lines[-1] for lines in outputs] != [found[2], found[3]] or found[2] == found[3]:
+                raise Find(Command("certify", files[:2]), "the networks don't differ so on the recording", told)
 
     def told_apart(self, told, files, stream):
         """The first position at which the normal forms differ is told, with what each has there; or that the search gave up, and the first
@@ -331,14 +340,14 @@ class Case:
         if None in forms:
             return
         found = difference(*forms)
-        wanted = difference_text(*found).encode() if found else b""
+        wanted = APART + difference_text(*found).encode() if found else b""
         if not found or told.output != wanted:
             raise Find(Command("certify", files), "the normal forms differ elsewhere", told, wanted)
 
     def normal_form(self, text, stream):
         """The normal form of a network, which does what the network does: all of it is told where the target is `time`, if it fits into a line, and else None."""
         given = typed_of(text).input
-        told = self.program.run(Command("certify", [text, network_text(given, "time").encode()]))
+        told = self.program.searched(Command("certify", [text, network_text(given, "time").encode()]))
         if b".." in told.output:
             self.tally["normal forms", "too long for a line"] += 1
             return None
@@ -396,7 +405,7 @@ class Case:
     def worded(self):
         """Words of the command line that are wrong, and files that aren't there."""
         for words in self.rng.sample(WRONG_WORDS, 3):
-            told = self.program.start(words, Command("words", []))
+            told = self.program.start(words, Command("words", []), answering(words))
             if told.status != 2 or told.output:
                 raise Find(Command(str(words), []), "wrong words aren't told as wrong", told)
         text = b"yampa 1 input Int time"

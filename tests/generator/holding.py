@@ -17,6 +17,7 @@ from model.trees import at_text, children, is_network, shown
 from model.typed import TypeFault, check_types
 from model.viewing import outline_lines, possible_lines, possible_steps
 from workbench.program import answering
+from workbench.proposing import searcher
 
 ROLES = {
     "types": ["network"],
@@ -253,20 +254,29 @@ class Program:
 
     def run(self, command):
         """Runs a command once."""
+        words = [*command.words(), *self.named_files(command)]
+        return self.start(words, command, answering(words))
+
+    def searched(self, command):
+        """What the searches alone tell of a command."""
+        return self.start([*command.words(), *self.named_files(command)], command, searcher())
+
+    def named_files(self, command):
+        """The names of a command's files, which are written."""
         names = []
         for name, text in zip(FILES, command.files):
             names.append(ABSENT if text is None else name)
             if text is not None:
                 self.slots[name].hold(text)
-        return self.start(command.words() + names, command)
+        return names
 
-    def start(self, words, command):
-        """Starts the program with these words; what it prints goes to files, so that it never waits for its reader."""
+    def start(self, words, command, program):
+        """Starts a program with these words; what it prints goes to files, so that it never waits for its reader."""
         self.tally["counts", "starts"] += 1
         stream = self.slots["stream"].hold(command.stream)
         source = subprocess.PIPE if command.pieces else stream
         output, error = (self.slots[name].hold(b"") for name in ("output", "error"))
-        child = subprocess.Popen([answering(words), *words], stdin=source, stdout=output, stderr=error, cwd=self.folder)
+        child = subprocess.Popen([program, *words], stdin=source, stdout=output, stderr=error, cwd=self.folder)
         if command.pieces:
             feed(child.stdin, command.pieces)
         status, seconds = ended(child)

@@ -7,6 +7,8 @@ import tempfile
 from pathlib import Path
 
 from workbench.program import answering
+from workbench.proposing import APART as MEANS
+from workbench.proposing import searcher
 
 # What a call may take: the aim. A call that wants more than the guard is refused it, and one that works longer is ended, since it hangs.
 MEMORY = 200 << 20
@@ -15,7 +17,8 @@ HANGS = 900
 # What is told as dear, where the seconds are printed: they are no limit.
 SECONDS = 2
 TIMES = 3
-NONE_FOUND = "certificate: none found\n"
+NONE_FOUND = re.compile(r"equal on [\d,]+ samples; no certificate found\n")
+DIFFER = re.compile(r"they differ on this recording: line (\d+): (.*) and (.*)\n")
 # Why none is found: where two networks differ, with what each has there, the two as they are given where the search gave up; or how long one
 # would be.
 REASON = re.compile(r"(gave up: \d+ nodes visited\n)?\(at( \d+)*\)\n- .+\n\+ .+\n|too long: \d+ steps, \d+ bytes\n")
@@ -36,9 +39,13 @@ class Caller:
 
     def call(self, *words, stream=os.devnull):
         """The status of a call that reads the stream, and what it writes on both."""
+        return self.called(answering(words), *words, stream=stream)
+
+    def called(self, program, *words, stream=os.devnull):
+        """The same of a call of this program."""
         os.environ["YAMPA"] = str(self.program)
         with open(stream, "rb") as samples, tempfile.TemporaryFile() as output, tempfile.TemporaryFile() as error:
-            child = subprocess.Popen([answering(words), *words], stdin=samples, stdout=output, stderr=error)
+            child = subprocess.Popen([program, *words], stdin=samples, stdout=output, stderr=error)
             _, status, used = os.wait4(child.pid, 0)
             child.returncode = os.waitstatus_to_exitcode(status)
             for file in output, error:
@@ -50,13 +57,25 @@ class Caller:
     def certified(self, source, target):
         """How many steps `certify` finds, or why it finds none, and what is wrong with what it prints."""
         status, output, error = self.call("certify", source, target)
-        if (status, error) == (1, NONE_FOUND) and REASON.fullmatch(output):
-            return reason_in(output), None
+        if status == 1 and DIFFER.fullmatch(error):
+            return self.apart(source, target, output, DIFFER.fullmatch(error))
+        reason = output.removeprefix(MEANS.decode())
+        if status == 1 and NONE_FOUND.fullmatch(error) and REASON.fullmatch(reason) and (reason != output) == reason.startswith("(at"):
+            return reason_in(reason), None
         if status:
             return None, f"certify: status {status}, {error!r}, {len(output)} bytes printed"
         told = self.call("check", source, target, self.file(output))
         right = (0, f"accepted {steps_in(output)}\n", "")
         return steps_in(output), None if told == right else f"check: {told}"
+
+    def apart(self, source, target, recording, told):
+        """Why the search alone finds no certificate between two networks, and what is wrong with how it is told that they differ."""
+        outputs = [self.call("run", net, stream=self.file(recording))[1].splitlines() for net in (source, target)]
+        number = int(told[1])
+        right = number == len(recording.splitlines()) and [lines[-1] for lines in outputs] == [told[2], told[3]] and told[2] != told[3]
+        status, reason, _ = self.called(searcher(), "certify", source, target)
+        right = right and outputs[0][:-1] == outputs[1][:-1] and status == 1 and REASON.fullmatch(reason)
+        return reason_in(reason), None if right else f"certify: {told[0]!r} is told of two networks that output {outputs}"
 
     def dear(self):
         """The calls that took more memory than is allowed."""

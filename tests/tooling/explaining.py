@@ -161,7 +161,7 @@ OTHER_LINES = {
     "stream: cannot be read": "a read of standard input failed",
     "stream: too many reads": "gave no further line",
     "output: cannot be written": "the disk is full",
-    "certificate: none found": "`yampa differ`",
+    "equal on 1,000 samples; no certificate found": "`yampa differ`",
     "the words are not UTF-8": "in UTF-8",
     "--first: no number": "--first 2",
     "--at: no position": "--at '(at 1 0)'",

@@ -35,8 +35,8 @@ class Files:
 def explained(line: str, files: Files, stream) -> Told:
     """What is told of a fault line; the stream is given by its name and its bytes, where there is one."""
     role, _, fault = line.partition(": ")
-    if line in OTHERS:
-        return Told(OTHERS[line])
+    if other := OTHERS.get(re.sub(r"^equal on [\d,]+ samples; ", "", line)):
+        return Told(other)
     if role == "stream":
         return of_stream(fault, files, stream)
     if role not in files.names:
@@ -63,7 +63,7 @@ OTHERS = {
     "--name: no name": "write letters, digits and `_`, at most 32, of which the first is no digit: --name boiler",
     "--most: no number": "write how many elements a list of the input may have, from 1 to 32765: --most 100",
     "certificate: too many steps": "a certificate has at most 10,000 steps: cut it in two, with a network between",
-    "certificate: none found": "there may be one nevertheless, or `yampa differ` finds a stream that tells the networks apart",
+    "no certificate found": "there may be one nevertheless, or `yampa differ` finds a stream that tells the networks apart",
 }
 
 

@@ -11,13 +11,14 @@ class Machine {
     this.stack = exports.__stack_pointer;
     this.top = this.stack.value;
     this.view = new DataView(this.memory.buffer);
+    this.read = readerOf(this.output, this.view);
   }
 
   step(dt, value) {
     this.stack.value = this.top;
     this.write(this.input_at, this.input, value);
     this.go(dt);
-    return this.read(this.output_at, this.output);
+    return this.read(this.output_at);
   }
 
   write(at, type, value) {
@@ -36,20 +37,26 @@ class Machine {
     }
   }
 
-  read(at, type) {
-    switch (type.sort) {
-      case "Int": return this.view.getBigInt64(at, true);
-      case "Bool": return this.view.getUint8(at) !== 0;
-      case "Unit": return "unit";
-      case "Pair": return type.at.map((place, k) => this.read(at + place, type.parts[k]));
-      case "Event": return this.view.getUint8(at) ? [this.read(at + type.at[1], type.parts[0])] : null;
-      default: return Array.from({length: this.view.getUint32(at, true)}, (_, k) => this.read(at + type.at[1] + k * type.parts[0].size, type.parts[0]));
-    }
-  }
-
   save() { return new Uint8Array(this.memory.buffer, this.state_at, this.state_size).slice(); }
 
   restore(bytes) { new Uint8Array(this.memory.buffer, this.state_at, this.state_size).set(bytes); }
+}
+
+// What reads a value of a type where it stands.
+function readerOf(type, view) {
+  const [first, second] = type.parts.map(part => readerOf(part, view)), [, place] = type.at ?? [];
+  switch (type.sort) {
+    case "Int": return at => view.getBigInt64(at, true);
+    case "Bool": return at => view.getUint8(at) !== 0;
+    case "Unit": return () => "unit";
+    case "Pair": return at => [first(at + type.at[0]), second(at + place)];
+    case "Event": return at => (view.getUint8(at) ? [first(at + place)] : null);
+    default: return at => {
+      const found = [], {size} = type.parts[0];
+      for (let left = view.getUint32(at, true), from = at + place; left; left -= 1, from += size) found.push(first(from));
+      return found;
+    };
+  }
 }
 
 // The module and its machines; the first one is the network, and the others watch it.
@@ -242,9 +249,13 @@ function spanOf(page, session, column) {
 
 // ---- what is seen
 
-// Samples a second, how many thousandths of a second of a frame are played, and how many samples are shown at first.
-const MOST_RATE = 100000, FRAME = 10, SHOWN = 300;
+// Samples a second, how many thousandths of a second of a frame are played and how many panels are drawn in, how many samples are shown at first, and how many rows of
+// signals inside.
+const MOST_RATE = 100000, FRAME = 10, DRAWING = 1, SHOWN = 300, MOST_ROWS = 12;
 const byId = name => document.getElementById(name);
+
+// Puts a text into an element, where another one stands there.
+function showText(node, text) { if (node.textContent !== text) node.textContent = text; }
 
 class View {
   constructor(page, session) {
@@ -253,7 +264,7 @@ class View {
     byId("inputs").append(...this.controls.map(one => one.row));
     const columns = this.columns();
     this.rows = columns.filter(column => column.of !== "in").map(column => this.outputRow(column));
-    byId("values").append(...this.rows.map(one => one.row));
+    this.startRows();
     this.lamps = page.lamps.map(lamp => element("span", {className: "lamp", textContent: lamp.name, title: lamp.kind}));
     byId("lamps").append(...this.lamps);
     const count = () => session.recording.length, time = k => Number(session.recording[k].time);
@@ -419,7 +430,18 @@ class View {
 
   outputRow({of, name, type, at}) {
     const value = element("td", {className: "value"});
-    return {at, type, value, row: element("tr", {title: type.shown}, element("th", {textContent: name, className: of}), value)};
+    return {at, type, value, isInside: of === "inside", row: element("tr", {title: type.shown}, element("th", {textContent: name}), value)};
+  }
+
+  // The rows of signals inside are folded where they are many.
+  startRows() {
+    const inside = this.rows.filter(one => one.isInside).map(one => one.row), folded = byId("inside");
+    byId("values").append(...this.rows.filter(one => !one.isInside).map(one => one.row));
+    byId("insideValues").append(...inside);
+    folded.hidden = !inside.length;
+    folded.open = inside.length <= MOST_ROWS;
+    folded.querySelector("summary").textContent = `${inside.length} inside`;
+    this.seen = new Seen(this.rows.map(one => one.row), () => this.showSample());
   }
 
   // The number of the sample that is shown: the one under the cursor, or the last; -1 where there is none.
@@ -428,17 +450,18 @@ class View {
   refresh() {
     byId("run").textContent = this.isRunning ? "Pause" : "Run";
     byId("hand").hidden = this.session.byHand;
+    this.panels.draw(this.isRunning ? performance.now() + DRAWING : Infinity);
     this.showInputs();
-    this.panels.draw();
     this.showSample();
   }
 
   showSample() {
     const {session} = this, number = this.shownSample(), sample = session.recording[number];
-    for (const {at, type, value} of this.rows) value.textContent = sample ? told(at(number), type) : "";
+    const rows = this.isRunning ? this.rows.filter(one => this.seen.has(one.row)) : this.rows;
+    for (const {at, type, value} of rows) showText(value, sample ? told(at(number), type) : "");
     this.lamps.forEach((lamp, k) => { lamp.dataset.on = sample ? sample.lamps[k] : ""; });
     const of = session.byHand ? "by hand" : `of ${session.given.length.toLocaleString("en")} replayed`, count = session.recording.length.toLocaleString("en");
-    byId("at").textContent = sample ? `sample ${(number + 1).toLocaleString("en")}, time ${sample.time}; ${count} played, ${of}` : `no sample yet, ${of}`;
+    showText(byId("at"), sample ? `sample ${(number + 1).toLocaleString("en")}, time ${sample.time}; ${count} played, ${of}` : `no sample yet, ${of}`);
     this.drawPicture(number);
   }
 

@@ -7,18 +7,32 @@ const element = (tag, given = {}, ...inside) => {
   return made;
 };
 
-const PANEL_HIGH = 54, PANEL_ROOF = 17, PANEL_FLOOR = PANEL_HIGH - 4, PLACES = 16;
+const PANEL_HIGH = 54, PANEL_ROOF = 17, PANEL_FLOOR = PANEL_HIGH - 4, PLACES = 16, DOT = 8, DOTS = [];
 const COLOURS = ["#1f77b4", "#d55e00", "#009e73", "#cc79a7", "#8c6d31", "#56b4e9", "#e69f00", "#7f7f7f"];
 // The dots of a list's places, by their corners: circle, square, triangle up, triangle down, diamond, cross, plus, bar.
 const SHAPES = [null, [[-3, -3], [3, -3], [3, 3], [-3, 3]], [[0, -4], [4, 3], [-4, 3]], [[0, 4], [4, -3], [-4, -3]], [[0, -4], [4, 0], [0, 4], [-4, 0]],
   [[-3, -3], [0, -1], [3, -3], [1, 0], [3, 3], [0, 1], [-3, 3], [-1, 0]], [[-1, -4], [1, -4], [1, -1], [4, -1], [4, 1], [1, 1], [1, 4], [-1, 4], [-1, 1], [-4, 1], [-4, -1], [-1, -1]], [[-1, -4], [1, -4], [1, 4], [-1, 4]]];
+
+// Those of some elements that are on the screen; `changed` is called where others are.
+class Seen {
+  constructor(elements, changed) {
+    this.found = new Set();
+    const observer = new IntersectionObserver(entries => {
+      for (const {target, isIntersecting} of entries) this.found[isIntersecting ? "add" : "delete"](target);
+      changed();
+    });
+    for (const one of elements) observer.observe(one);
+  }
+
+  has(element) { return this.found.has(element); }
+}
 
 // A column has a name, and what it is drawn as: "steps", "bands", "marks" or "dots". `level(k)` of sample k is a number, a truth value, or
 // numbers; undefined where there is none. `text(k)` is what is told of it; of marks where there is none it is "". `words` name numbers.
 class Panels {
   // Of so many samples as `count()` tells, with their times; as many as `span` are shown at first, the last ones.
   constructor(root, columns, {count, time, span = Infinity, cursorAt = () => {}}) {
-    Object.assign(this, {root, columns, count, time, span, first: span, cursorAt, to: null, cursor: null, down: null});
+    Object.assign(this, {root, columns, count, time, span, first: span, cursorAt, next: 0, to: null, cursor: null, down: null});
     const button = (text, title, work) => element("button", {type: "button", textContent: text, title, onclick: () => { work(); this.draw(); }});
     const move = part => () => this.show(this.end() + Math.round(part * this.shown()), this.shown());
     this.tools = element("p", {className: "zoom"}, button("\u25C0", "earlier", move(-0.5)), button("\u25B6", "later", move(0.5)), button("+", "zoom in", () => this.zoom(0.5)),
@@ -84,7 +98,7 @@ class Panels {
     this.stack.onpointerdown = event => { this.down = left(event); };
     this.stack.onpointerup = event => this.release(left(event));
     this.stack.ondblclick = () => { this.all(); this.draw(); };
-    addEventListener("scroll", () => this.draw(), {passive: true});
+    this.seen = new Seen(this.panels.map(one => one.row), () => this.draw());
     new ResizeObserver(() => this.draw()).observe(this.stack);
   }
 
@@ -112,7 +126,7 @@ class Panels {
     const isDragged = isSeen && this.down !== null && left !== undefined;
     this.line.hidden = !isSeen;
     Object.assign(this.line.style, isDragged ? {left: `${Math.min(left, this.down)}px`, width: `${Math.abs(left - this.down)}px`} : {left: `${at}px`, width: "1px"});
-    for (const {at: told, column} of this.panels) {
+    for (const {at: told, column} of this.panels.filter(one => this.seen.has(one.row))) {
       told.textContent = isSeen ? column.text(this.cursor) : "";
       Object.assign(told.style, at < wide / 2 ? {left: `${at + 4}px`, right: "auto"} : {left: "auto", right: `${wide - at + 4}px`});
     }
@@ -120,14 +134,17 @@ class Panels {
 
   // ---- drawing
 
-  draw() {
+  // Draws the panels that are seen, as many of them as there is time for: the next call begins with the others.
+  draw(until = Infinity) {
     const style = getComputedStyle(document.body), wide = this.stack.clientWidth, view = {...this.window(), wide};
     if (!wide) return;
     view.x = k => (k < view.to ? (this.time(k) - view.start) / view.width * wide : wide);
     const colours = {ink: style.color, paper: style.backgroundColor, line: style.getPropertyValue("--line"), mark: style.getPropertyValue("--mark")};
-    for (const {canvas, column} of this.panels) {
-      const {top, bottom} = canvas.getBoundingClientRect();
-      if (top < innerHeight && bottom > 0) DRAWN[column.draw](penOf(canvas, colours), column, view, colours);
+    const seen = this.panels.filter(one => this.seen.has(one.row)), first = this.next % seen.length || 0;
+    for (const {canvas, column} of [...seen.slice(first), ...seen.slice(0, first)]) {
+      DRAWN[column.draw](penOf(canvas, colours), withLevels(column, view), view, colours);
+      this.next += 1;
+      if (performance.now() > until) break;
     }
     this.drawAxis(view, colours);
     this.showCursor();
@@ -153,6 +170,12 @@ function penOf(canvas, colours) {
   else pen.reset();
   pen.scale(scale, scale);
   return Object.assign(pen, {font: "11px sans-serif", strokeStyle: colours.mark, fillStyle: colours.mark, lineWidth: 1.5});
+}
+
+// A column whose levels in a window are at hand.
+function withLevels(column, {from, to}) {
+  const levels = Array.from({length: to - from}, (_, k) => column.level(from + k));
+  return {...column, level: k => levels[k - from]};
 }
 
 // The least and the greatest of the numbers that are shown, and how high each stands: of words the first at the top.
@@ -249,29 +272,35 @@ function drawMarks(pen, column, view, {ink, mark}) {
 
 // The first elements of lists as dots that nothing joins, each place with a shape and a colour of its own.
 function drawDots(pen, column, view, colours) {
-  const scale = scaleOf(column, view);
-  let before = null, drawn = new Set();
+  const scale = scaleOf(column, view), drawn = new Set();
   for (let k = view.from; k < view.to; k += 1) {
-    const left = view.x(k), numbers = column.level(k) ?? [];
-    if (before !== null && left - before >= 1) drawn = new Set();
-    if (before === null || left - before >= 1) before = left;
-    numbers.slice(0, PLACES).forEach((number, place) => {
-      if (number === undefined) return;
-      const high = scale.y(number), name = `${place} ${Math.round(high)}`;
-      if (!drawn.has(name)) drawDot(pen, place, left + 3, high);
-      drawn.add(name);
-    });
+    const left = Math.round(view.x(k)), numbers = column.level(k) ?? [], count = Math.min(numbers.length, PLACES);
+    for (let place = 0; place < count; place += 1) {
+      if (numbers[place] === undefined) continue;
+      const high = Math.round(scale.y(numbers[place])), dot = (left * PANEL_HIGH + high) * PLACES + place;
+      if (!drawn.has(dot)) pen.drawImage(dotOf(place), left - 1, high - DOT / 2, DOT, DOT);
+      drawn.add(dot);
+    }
   }
   tellScale(pen, column, scale, view.wide, colours);
 }
 
-function drawDot(pen, place, left, high) {
-  const corners = SHAPES[place % SHAPES.length];
-  pen.fillStyle = COLOURS[place % COLOURS.length];
+// The picture of a place's dot, with as many dots of the screen as it is shown with.
+function dotOf(place) {
+  const wide = Math.round(DOT * (devicePixelRatio || 1));
+  if (DOTS[place]?.width !== wide) DOTS[place] = drawnDot(SHAPES[place % SHAPES.length], COLOURS[place % COLOURS.length], wide);
+  return DOTS[place];
+}
+
+function drawnDot(corners, colour, wide) {
+  const canvas = element("canvas", {width: wide, height: wide}), pen = canvas.getContext("2d");
+  pen.fillStyle = colour;
+  pen.setTransform(wide / DOT, 0, 0, wide / DOT, wide / 2, wide / 2);
   pen.beginPath();
-  if (corners) for (const [right, down] of corners) pen.lineTo(left + right * 0.8, high + down * 0.8);
-  else pen.arc(left, high, 2.5, 0, 7);
+  if (corners) for (const [right, down] of corners) pen.lineTo(right * 0.8, down * 0.8);
+  else pen.arc(0, 0, 2.5, 0, 7);
   pen.fill();
+  return canvas;
 }
 
 const DRAWN = {steps: drawSteps, bands: drawBands, marks: drawMarks, dots: drawDots};

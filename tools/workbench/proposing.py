@@ -6,6 +6,7 @@ The searches are a program of their own in Rust, of which nothing is proved. So 
 import fcntl
 import hashlib
 import os
+import random
 import re
 import resource
 import shutil
@@ -13,11 +14,15 @@ import signal
 import subprocess
 import sys
 import tempfile
+import time
+from collections.abc import Iterator
 from pathlib import Path
 from typing import NoReturn
 
 from workbench.ending import REFUSED, UNREADABLE, WRONG_WORDS, Refused, Words, unreadable
+from workbench.outline import read_type
 from workbench.program import TOP, again, path
+from workbench.streams import Recording, Streams, Wishes, stream_text
 
 SOURCES = TOP / "search"
 LAWS = TOP / "tools/workbench/laws.tsv"
@@ -28,10 +33,15 @@ COMPILED = ["--edition", "2021", "-O", "-C", "debuginfo=0"]
 MOST_SECONDS, MOST_MEMORY, MOST_PRINTED = 300, 3 << 30, 4 << 20
 # How many times as long it may last by the clock.
 WAITS = 4
-# What is told where none is found: why, and that.
+# What a search tells where it finds none: why.
 WHY = re.compile(rb"((gave up: \d+ nodes visited\n)?\(at( \d+)*\)\n- .+\n\+ .+\n|too long: \d+ steps, \d+ bytes\n)?")
+APART = b"the normal forms differ here; `./yampa differ` tells whether the networks do\n"
 NONE_FOUND, NOT_IMPROVED = "certificate: none found", "network: not improved"
 DIFFERENT = "certificate: ends elsewhere"
+# How many random samples two networks are run on first, in recordings of at most so many, and for how many seconds at most.
+SAMPLES, LONGEST, SAMPLING = 1_000, 600, 20
+# Says what `improve` has gained, where that is asked for.
+GAIN = "YAMPA_GAIN"
 
 
 IMPROVE = """Rewrites a network by more laws than `optimise`, and prints the result.
@@ -48,12 +58,15 @@ is meant to be faster, but that isn't promised.
   (arr (add (fst x) 1))"""
 CERTIFY = """Looks for a certificate that leads from one network to another.
 
-It rewrites both networks until they are the same, in the end to a normal form. Then it prints the steps
-of SRC, and after them those of TGT undone, which the proved program accepted: both output the same on
-every stream. If it finds none, both may still output the same. It prints
+Both are run on 1,000 random samples first. If an output differs, the recording up to there is printed,
+and a line on standard error. Else both networks are rewritten until they are the same, in the end to a
+normal form. Then it prints the steps of SRC, and after them those of TGT undone, which the proved
+program accepted: both output the same on every stream. With MID it finds the steps from SRC to MID, and
+from there to TGT. If it finds none, both may still output the same. It prints
 
-  (at 0)                               the first position at which their normal forms differ,
-  - (mul x 2)                          what SRC's has there, and what TGT's has;
+  the normal forms differ here; ..     and the first position, what SRC's has there, and TGT's:
+  (at 0)
+  - (mul x 2)
   + (add x x)
   too long: 10120 steps, 902115 bytes  that there are steps, but over a certificate's limits;
   gave up: 15000000 nodes visited      or that it found no steps to a normal form, then the first
@@ -86,9 +99,10 @@ def improve_main() -> None:
 def certify_main() -> None:
     words = Words("certify", CERTIFY)
     words.add_argument("source", metavar="SRC")
+    words.add_argument("between", metavar="MID", nargs="?", help="a network between")
     words.add_argument("target", metavar="TGT")
     given = words.parse_args()
-    certify(kept_once(given.source), kept_once(given.target))
+    certify([kept_once(name) for name in (given.source, given.between, given.target) if name is not None])
 
 
 def kept_once(name: str) -> str:
@@ -198,25 +212,95 @@ def rejected(nothing: str, line: str) -> NoReturn:
     end(f"{nothing}: the program rejects what the search proposed: {line.splitlines()[-1] if line else 'no answer'}", REFUSED)
 
 
-def certify(source: str, target: str) -> None:
-    """Prints a certificate from the one network to the other, which the program accepts, or why there is none."""
+def certify(nets: list[str]) -> None:
+    """Prints a certificate from the first network to the last one, by way of the one between them, which the program accepts, or why there
+    is none."""
     with tempfile.TemporaryDirectory(prefix="yampa-") as folder:
         steps = Path(folder) / "steps"
-        steps.write_text("laws 1\n")
-        status, _, line = told_by("check", source, target, steps)
-        if status and line != DIFFERENT:
-            end(line, status)
-        if status:
-            status = proposed(steps, "certify", source, target)
-        if status == REFUSED and WHY.fullmatch(steps.read_bytes()):
-            write(steps.read_bytes())
-            end(NONE_FOUND, REFUSED)
-        if status:
-            broken(NONE_FOUND, status)
-        status, _, line = told_by("check", source, target, steps)
+        found = [led(source, target, steps, named(number, len(nets))) for number, (source, target) in enumerate(zip(nets, nets[1:]))]
+        steps.write_bytes(joined(found))
+        status, _, line = told_by("check", nets[0], nets[-1], steps)
         if status:
             rejected(NONE_FOUND, line)
         write(steps.read_bytes())
+
+
+def named(number: int, count: int) -> tuple[str, str]:
+    """What the networks are called between which steps are looked for."""
+    return ("source", "target") if count == 2 else (("source", "between"), ("between", "target"))[number]
+
+
+def joined(certificates: list[bytes]) -> bytes:
+    """One certificate after the other, as one of the least version that has all laws."""
+    header = max(one[: len("laws N")] for one in certificates)
+    return header + b"".join(one[len(header) :] for one in certificates)
+
+
+def led(source: str, target: str, steps: Path, names: tuple[str, str]) -> bytes:
+    """A certificate from the one network to the other; where there is none that is told."""
+    steps.write_text("laws 1\n")
+    status, _, line = told_by("check", source, target, steps)
+    if status and line != DIFFERENT:
+        role, _, fault = line.partition(": ")
+        end(f"{dict(zip(('source', 'target'), names)).get(role, role)}: {fault}", status)
+    if not status:
+        return steps.read_bytes()
+    how_many, which = same_samples(source, target, names), "" if names == ("source", "target") else f"{names[0]} and {names[1]}: "
+    status = proposed(steps, "certify", source, target)
+    said = steps.read_bytes()
+    if status == REFUSED and WHY.fullmatch(said):
+        write((APART if said.startswith(b"(at") else b"") + said)
+        end(f"{which}equal on {how_many:,} samples; no certificate found", REFUSED)
+    if status:
+        broken(NONE_FOUND, status)
+    status, _, line = told_by("check", source, target, steps)
+    if status:
+        rejected(NONE_FOUND, line)
+    return said
+
+
+# ---- random samples
+
+
+def same_samples(source: str, target: str, names: tuple[str, str]) -> int:
+    """On how many random samples two networks output the same; where an output differs that is told."""
+    same, until = 0, time.monotonic() + SAMPLING
+    for recording in recordings(source, target):
+        stream = stream_text(recording)
+        outputs = [lines_of_run(net, stream, until) for net in (source, target)]
+        for number, (mine, other) in enumerate(zip(*outputs), 1):
+            if mine != other:
+                write(stream_text(recording[:number]))
+                who = "they differ" if names == ("source", "target") else f"{names[0]} and {names[1]} differ"
+                end(f"{who} on this recording: line {number}: {mine.decode()} and {other.decode()}", REFUSED)
+        same += min(map(len, outputs))
+        if min(map(len, outputs)) < len(recording):
+            break
+    return same
+
+
+def recordings(source: str, target: str) -> Iterator[Recording]:
+    """Random recordings, in which stand the networks' numbers."""
+    given = read_type(told_by("types", source)[1].decode().split(" -> ")[0])
+    texts = [Path(net).read_bytes() for net in (source, target)]
+    numbers = {int(number) for text in texts for number in re.findall(rb"(?<![\w-])-?\d+", text)}
+    streams, left = Streams(given, sorted(numbers), random.Random(1), Wishes(length=LONGEST)), SAMPLES
+    while left:
+        recording = streams.recording()[:left]
+        left -= len(recording)
+        yield recording
+
+
+def lines_of_run(net: str, stream: bytes, until: float) -> list[bytes]:
+    """The lines that a run outputs, as long as there is time."""
+    left = until - time.monotonic()
+    if left <= 0:
+        return []
+    try:
+        ran = subprocess.run([path(), "run", net], input=stream, stdout=subprocess.PIPE, stderr=subprocess.DEVNULL, timeout=left, close_fds=False)
+    except subprocess.TimeoutExpired as ended:
+        return (ended.stdout or b"").split(b"\n")[:-1]
+    return ran.stdout.split(b"\n")[:-1]
 
 
 def improve(net: str, is_certificate: bool) -> None:
@@ -233,6 +317,17 @@ def improve(net: str, is_certificate: bool) -> None:
         if status:
             rejected(NOT_IMPROVED, line)
         write(steps.read_bytes() if is_certificate else output)
+        if os.environ.get(GAIN):
+            made = Path(folder) / "made"
+            made.write_bytes(output)
+            before, after = cost(net), cost(str(made))
+            print(f"yampa improve: by the searches' cost {before} instructions a sample before, {after} after", file=sys.stderr)
+
+
+def cost(net: str) -> str:
+    """About how many instructions a sample of a network takes, by what the searches know of it."""
+    found = subprocess.run([searcher(), "cost", net], capture_output=True, text=True, preexec_fn=limit, close_fds=False, check=False)
+    return f"{int(found.stdout):,}" if found.returncode == 0 else "unknown"
 
 
 def write(data: bytes) -> None:

@@ -14,7 +14,7 @@ from front.spell import shown_type
 from workbench.translated import taken_of
 
 # The files of each command by their roles, and the options behind which a value stands.
-ONE, TWO, THREE = ["network"], ["source", "target"], ["source", "target", "certificate"]
+ONE, TWO, THREE, BETWEEN = ["network"], ["source", "target"], ["source", "target", "certificate"], ["source", "between", "target"]
 ROLES = dict.fromkeys(["types", "run", "outline", "laws", "optimise", "improve", "compile"], ONE)
 ROLES |= {"certify": TWO, "apply": ["source", "certificate"], "check": THREE, "run-checked": THREE, "compile-checked": THREE}
 VALUED = ["--at", "--first", "--name", "--most"]
@@ -27,8 +27,10 @@ def places_of_files(words: list) -> list:
 
 def files_in(words: list) -> Files:
     """The files of a call by their roles."""
-    roles = ROLES.get(words[0], []) if words else []
-    paths = dict(zip(roles, [words[place] for place in places_of_files(words)]))
+    roles, named_files = ROLES.get(words[0], []) if words else [], [words[place] for place in places_of_files(words)]
+    if words and words[0] == "certify" and len(named_files) == len(BETWEEN):
+        roles = BETWEEN
+    paths = dict(zip(roles, named_files))
     return Files({role: PROGRAMS[name].name if name in PROGRAMS else name for role, name in paths.items()}, paths)
 
 
@@ -115,6 +117,8 @@ def answer(program: str, words: list) -> int:
         words[place] = again(words[place])
     networks = of_haskell(files_in(words))
     is_spoken = bool(networks) and words[0] in SPOKEN
+    if networks:
+        os.environ["YAMPA_GAIN"] = "1"
     with tempfile.TemporaryFile() as output:
         to = output if is_spoken else None
         with subprocess.Popen([answering(words), *words], stdout=to, stderr=subprocess.PIPE, text=True, errors="replace") as run:

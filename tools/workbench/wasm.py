@@ -6,11 +6,13 @@ from __future__ import annotations
 
 import contextlib
 import hashlib
+import os
 import re
 import shutil
 import subprocess
 import tempfile
 from collections.abc import Iterator
+from concurrent.futures import ThreadPoolExecutor
 from dataclasses import dataclass
 from pathlib import Path
 from typing import Any
@@ -22,7 +24,7 @@ from workbench.ending import UNREADABLE, Refused
 from workbench.program import answered
 
 PACKAGES = {"clang": "clang", "wasm-ld": "lld"}
-COMPILE = ["clang", "--target=wasm32", "-mmutable-globals", "-O2", "-ffreestanding", "-nostdlib", "-w", "-I.", "-c"]
+COMPILE = ["clang", "--target=wasm32", "-mmutable-globals", "-mbulk-memory", "-O2", "-ffreestanding", "-nostdlib", "-w", "-I.", "-c"]
 STACK = 64 << 20
 LINK = ["wasm-ld", "--no-entry", "--stack-first", "-z", f"stack-size={STACK}", "--strip-all", "--export=__stack_pointer"]
 # The C of a page, its module, and a network's input and output have at most so many bytes.
@@ -32,11 +34,11 @@ SHORTER = "--most makes lists shorter"
 LETTERS = {"Unit": "u", "Bool": "b", "Int": "i", "Pair": "p", "Event": "e", "List": "l"}
 PLAIN = {"Unit": 1, "Bool": 1, "Int": 8}
 
-# What the C wants of a C library.
+# What the C wants of a C library: instructions of WebAssembly.
 STRING_H = "#include <stddef.h>\nvoid *memset(void *to, int byte, size_t count);\nvoid *memcpy(void *to, const void *from, size_t count);\n"
 STRING_C = """#include "string.h"
-void *memset(void *to, int byte, size_t count) { unsigned char *at = to; while (count--) *at++ = (unsigned char)byte; return to; }
-void *memcpy(void *to, const void *from, size_t count) { unsigned char *at = to; const unsigned char *of = from; while (count--) *at++ = *of++; return to; }
+void *memset(void *to, int byte, size_t count) { return __builtin_memset(to, byte, count); }
+void *memcpy(void *to, const void *from, size_t count) { return __builtin_memcpy(to, from, count); }
 """
 # What a script calls of a network: where its input, its output and its state are, and how large that is; to begin anew, and to go on.
 GLUE = """
@@ -164,7 +166,8 @@ def module_of(units: list[str], folder: Path) -> bytes:
     (folder / "string.h").write_text(STRING_H)
     for number, unit in enumerate(units):
         (folder / f"{number}.c").write_bytes(unit.encode("latin-1"))
-        told_by([*COMPILE, f"{number}.c"], folder)
+    with ThreadPoolExecutor(os.cpu_count()) as pool:
+        list(pool.map(lambda number: told_by([*COMPILE, f"{number}.c"], folder), range(len(units))))
     told_by([*LINK, "-o", "page.wasm", *[f"{number}.o" for number in range(len(units))]], folder)
     made = (folder / "page.wasm").read_bytes()
     if len(made) > MOST_MODULE:
