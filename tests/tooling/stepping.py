@@ -124,7 +124,7 @@ def samples_are_told(folder):
     want("its elements", sorted(line.split()[0] for line in longer) == ["b1", "b1", "b10", "b10", "b10", "b10"], longer)
     want("its missing elements", sorted(line.split()[0] for line in empty) == ["b0", "b0", "bx", "bx", "bx", "bx"], empty)
     rows = (folder / "w.gtkw").read_text().splitlines()
-    want("what GTKWave shows", rows[1] == '[dumpfile] "w.vcd"' and "yampa.output.1[63:0]" in rows and "@88420" in rows, rows)
+    want("what GTKWave shows", rows[1] == '[dumpfile] "w.vcd"' and "+{output 1} yampa.output.1" in rows and "@88420" in rows, rows)
     want("what GTKWave shows of no file", tool("waves", lists, file, "--save", folder / "x.gtkw")[0] == 2)
 
 

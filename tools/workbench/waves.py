@@ -149,10 +149,11 @@ class Dump:
         out.write(f"#{self.end}\n".encode())
 
     def rows(self, dump: str) -> str:
-        """What GTKWave shows of this file: all variables, numbers as steps."""
-        lines = ["[*] yampa waves", f'[dumpfile] "{dump}"', "[timestart] 0"]
+        """What GTKWave shows of this file: all variables by their whole names, numbers as steps. It finds an integer by its name alone."""
+        lines = ["[*] yampa waves", f'[dumpfile] "{dump}"', "[timestart] 0", "[size] 1400 900", "[signals_width] 200"]
         for wave in self.variables:
-            name = ".".join(full_path(wave)) + range_of(wave).lstrip()
+            path = full_path(wave)
+            name = f"+{{{' '.join(path[1:])}}} {'.'.join(path)}"
             lines += [STEPS, name, ROOM, "-", "-"] if wave.bits > 1 else [PLAIN, name]
         return "".join(f"{line}\n" for line in lines)
 
