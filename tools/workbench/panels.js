@@ -119,14 +119,15 @@ class Panels {
     this.showCursor(left);
   }
 
-  showCursor(left) {
+  // Shows where the cursor is, and what these panels have there.
+  showCursor(left, panels = this.panels) {
     const {from, to, start, width} = this.window(), wide = this.stack.clientWidth;
     if (this.cursor !== null && this.cursor >= this.count()) this.cursor = null;
     const isSeen = this.cursor !== null && this.cursor >= from && this.cursor < to, at = isSeen ? (this.time(this.cursor) - start) / width * wide : 0;
     const isDragged = isSeen && this.down !== null && left !== undefined;
     this.line.hidden = !isSeen;
     Object.assign(this.line.style, isDragged ? {left: `${Math.min(left, this.down)}px`, width: `${Math.abs(left - this.down)}px`} : {left: `${at}px`, width: "1px"});
-    for (const {at: told, column} of this.panels.filter(one => this.seen.has(one.row))) {
+    for (const {at: told, column} of panels) {
       told.textContent = isSeen ? column.text(this.cursor) : "";
       Object.assign(told.style, at < wide / 2 ? {left: `${at + 4}px`, right: "auto"} : {left: "auto", right: `${wide - at + 4}px`});
     }
@@ -147,7 +148,7 @@ class Panels {
       if (performance.now() > until) break;
     }
     this.drawAxis(view, colours);
-    this.showCursor();
+    this.showCursor(undefined, seen);
   }
 
   drawAxis({start, width, wide}, colours) {
