@@ -88,16 +88,12 @@ pub fn behind_first(budget: &Budget, e: Term) -> Option<Way> {
 
 /// The expression behind an exchange of both parts.
 pub fn behind_swap(budget: &Budget, e: Term) -> Option<Way> {
-    as_behind(budget, e, pair(second_input(), first_input()))
+    as_behind(budget, e, template("SWAP"))
 }
 
 /// The expression as itself behind UNASSOC, and that behind ASSOC.
 pub fn behind_assoc(budget: &Budget, e: Term) -> Option<Way> {
-    let half = |op: Op, e: Term| node(op, &[e]);
-    let (first, second) = (first_input(), second_input());
-    let assoc = pair(half(Op::Fst, first), pair(half(Op::Snd, first), second));
-    let unassoc = pair(pair(first, half(Op::Fst, second)), half(Op::Snd, second));
-    as_then(budget, e, assoc, then(unassoc, e))
+    as_then(budget, e, template("ASSOC"), then(template("UNASSOC"), e))
 }
 
 /// `(pair e (none T))` as e, and behind it the pair with no event.
@@ -196,7 +192,7 @@ fn pass_one(w: &mut Draft, stages: usize, more: bool) -> Option<()> {
     if !more {
         return pass_cell(w, &way);
     }
-    w.regroup(&way)?;
+    w.back(laws::NEST, &way)?;
     pass_cell(w, &joined(&way, &[0]))?;
     w.forward(laws::NEST, &way)
 }
@@ -212,14 +208,11 @@ fn pass_cell(w: &mut Draft, path: &[u32]) -> Option<()> {
     w.clear(&joined(path, &[1, 0]))
 }
 
-/// Makes an `arr` behind a `hold` a map of events before it.
-pub fn map_held(w: &mut Draft) -> Option<()> {
-    let (c, g) = (w.at(&[1, 0, 0])?, w.arr_at(&[1, 1])?);
-    let start = then(c, g);
-    let none = put(Op::NoEvent, 0, Some(told_type(start)?), &[]);
-    let mapped = node(Op::Event, &[then(second_input(), g)]);
-    let map = node(Op::On, &[input(), none, mapped]);
-    w.backward(laws::HOLD_MAP, &[1], seq(arr(map), node(Op::Hold, &[start])))
+/// Makes the `arr` behind a `hold`, both at a path, a map of events before it.
+pub fn map_held(w: &mut Draft, path: &[u32]) -> Option<()> {
+    let (c, g) = (w.at(&joined(path, &[0, 0]))?, w.arr_at(&joined(path, &[1]))?);
+    let ty = told_type(then(c, g))?;
+    w.backward(laws::HOLD_MAP, path, of("(>>> (arr MAP(g)) (hold (then c g)))", &[('c', c), ('g', g), ('T', ty)]))
 }
 
 /// Brings an `arr` behind members, which looks at one of them alone, to what it does with that.
@@ -327,13 +320,6 @@ pub fn flatten_first(w: &mut Draft) -> Option<()> {
     w.flatten(&[0])
 }
 
-/// Makes the `arr` behind a `hold` a map of events before it.
-pub fn pass_hold(w: &mut Draft) -> Option<()> {
-    let (c, g) = (w.at(&[0, 0])?, w.arr_at(&[1])?);
-    let ty = told_type(of("(then c g)", &[('c', c), ('g', g)]))?;
-    w.backward(laws::HOLD_MAP, &[], of("(>>> (arr MAP(g)) (hold (then c g)))", &[('c', c), ('g', g), ('T', ty)]))
-}
-
 /// The input as UNASSOC behind ASSOC.
 pub fn there_and_back(budget: &Budget, input: Term) -> Option<Way> {
     as_then(budget, input, template("ASSOC"), template("UNASSOC"))
@@ -393,11 +379,6 @@ fn largest_left(e: Term) -> Option<Term> {
     found.filter(|&e| e != first_input())
 }
 
-/// The input, a pair, as the pair of its parts.
-pub fn take_apart(w: &mut Draft) -> Option<()> {
-    w.backward(laws::PAIR_OF_PARTS, &[0, 0], pair(first_input(), second_input()))
-}
-
 /// The last `arr` uses of the right part no more than one of its parts: then only that goes past the `first`s.
 pub fn narrow(w: &mut Draft) -> Option<()> {
     let count = length(w.net()) - 2;
@@ -405,7 +386,7 @@ pub fn narrow(w: &mut Draft) -> Option<()> {
     w.part_by(|budget, e| narrowed(budget, e, Op::Fst).or_else(|| narrowed(budget, e, Op::Snd)), &way)?;
     for j in (0..count).rev() {
         let mut way = behind(&[1], j);
-        w.regroup(&way)?;
+        w.back(laws::NEST, &way)?;
         way.push(0);
         w.forward(laws::EXCHANGE, &way)?;
         way.pop();

@@ -72,8 +72,21 @@ pub fn length(chain: Term) -> usize {
     count
 }
 
+/// The stages of a chain, however they are nested.
+pub fn stages(chain: Term) -> Vec<Term> {
+    let mut all = vec![];
+    let mut todo = vec![chain];
+    while let Some(net) = todo.pop() {
+        match parts(net) {
+            Some((f, g)) => todo.extend([g, f]),
+            None => all.push(net),
+        }
+    }
+    all
+}
+
 /// How many stages stand before the first that is itself a chain.
-fn before_chain(chain: Term) -> Option<usize> {
+pub fn before_chain(chain: Term) -> Option<usize> {
     let mut left = chain;
     for stages in 0.. {
         let (f, rest) = parts(left)?;
@@ -83,13 +96,6 @@ fn before_chain(chain: Term) -> Option<usize> {
         left = rest;
     }
     None
-}
-
-/// The chain with its first two stages as one.
-fn regrouped(chain: Term) -> Option<Term> {
-    let (f, rest) = parts(chain)?;
-    let (g, h) = parts(rest)?;
-    Some(seq(seq(f, g), h))
 }
 
 impl Draft {
@@ -121,7 +127,7 @@ impl Draft {
             return Some(way);
         }
         for j in (1..k).rev() {
-            self.regroup(&behind(&way, j - 1))?;
+            self.back(laws::NEST, &behind(&way, j - 1))?;
         }
         way.push(0);
         Some(way)
@@ -135,27 +141,5 @@ impl Draft {
             way.push(1);
         }
         Some(())
-    }
-
-    /// Makes the first two stages of the chain at a path one.
-    pub fn regroup(&mut self, path: &[u32]) -> Option<()> {
-        let given = regrouped(self.at(path)?)?;
-        self.backward(laws::NEST, path, given)
-    }
-
-    /// Makes `(>>> (first f) (first g))` at a path `(first (>>> f g))`.
-    pub fn join_firsts(&mut self, path: &[u32]) -> Option<()> {
-        let (a, b) = parts(self.at(path)?)?;
-        if a.op != Op::First || b.op != Op::First {
-            return None;
-        }
-        let given = node(Op::First, &[seq(a.kids[0], b.kids[0])]);
-        self.backward(laws::FIRST_CHAIN, path, given)
-    }
-
-    /// Makes `(>>> f (first g))` at a path `(>>> (first g) f)`.
-    pub fn exchange(&mut self, path: &[u32]) -> Option<()> {
-        let (f, g) = parts(self.at(path)?)?;
-        self.backward(laws::EXCHANGE, path, seq(g, f))
     }
 }

@@ -2,10 +2,10 @@
 //!
 //! All forward steps of either are tried at the places where the two differ. Of the pairs to which they lead a few nearest ones are kept, from
 //! which the search goes on, until the two are one or don't get nearer for long.
+use crate::chain::stages;
 use crate::draft::{Budget, Path, Step};
 use crate::laws::{forward, laws_at};
 use crate::memo::Memo;
-use crate::segments::stages;
 use crate::term::{replaced, Op, Term};
 use crate::tuning::{self, LOOK};
 

@@ -244,11 +244,9 @@ impl Exprs {
         let ways: Vec<Way> = e.kids.iter().map(|kid| self.improved(aim, kid)).collect();
         let mut walk = Walk::of(e);
         walk.follow_all(&ways);
-        let way = self.finished(aim, walk.now);
-        walk.follow(&way);
+        walk.follow(&self.finished(aim, walk.now));
         if aim == Aim::Cheap {
-            let way = self.shared(walk.now);
-            walk.follow(&way);
+            walk.follow(&self.shared(walk.now));
         }
         let way = walk.done();
         if self.is_whole() {
@@ -297,8 +295,7 @@ impl Exprs {
         walk.forward(laws::THEN_NEST);
         let inner = self.pushed(aim, first.kids[1], e);
         walk.follow_in(1, &inner);
-        let way = self.pushed(aim, first.kids[0], inner.to);
-        walk.follow(&way);
+        walk.follow(&self.pushed(aim, first.kids[0], inner.to));
         walk.done()
     }
 
@@ -333,8 +330,7 @@ impl Exprs {
                 walk.follow_all(&parts);
             }
         }
-        let way = self.settled(aim, walk.now);
-        walk.follow(&way);
+        walk.follow(&self.settled(aim, walk.now));
         walk.done()
     }
 
@@ -362,9 +358,10 @@ impl Exprs {
         let mut walk = Walk::of(e);
         let outer = e.kids[0].kids[0];
         let seen = self.pushed(aim, outer.kids[0], outer.kids[1]);
-        walk.follow_in(0, &below_first(e.kids[0], &seen));
-        let way = self.pushed(aim, walk.now.kids[0], e.kids[1]);
-        walk.follow(&way);
+        let mut both = Walk::of(e.kids[0]);
+        both.follow_in(0, &seen);
+        walk.follow_in(0, &both.done());
+        walk.follow(&self.pushed(aim, walk.now.kids[0], e.kids[1]));
         walk.done()
     }
 
@@ -377,8 +374,7 @@ impl Exprs {
         let mut walk = Walk::of(e);
         walk.follow(&sums::cleared(aim, e));
         if is_certain && walk.now.op == Op::Then {
-            let way = self.pushed(aim, walk.now.kids[0], walk.now.kids[1]);
-            walk.follow(&way);
+            walk.follow(&self.pushed(aim, walk.now.kids[0], walk.now.kids[1]));
         }
         walk.done()
     }
@@ -423,9 +419,7 @@ impl Exprs {
         walk.backward(laws::THEN_NEST, then(then(f, look), g));
         let mut picked = Walk::of(then(f, look));
         picked.forward(laws::INTO_PARTS);
-        let mut whole = Walk::of(picked.now.kids[0]);
-        whole.forward(laws::INPUT_BEHIND);
-        picked.follow_in(0, &whole.done());
+        picked.follow_in(0, &Way::by(laws::INPUT_BEHIND, picked.now.kids[0]));
         picked.forward(picks);
         walk.follow_in(0, &picked.done());
         Some(walk.done())
@@ -613,27 +607,16 @@ fn ended(whole: Term) -> Option<Way> {
         _ if e.is_constant() => laws::CONSTANT_BEHIND,
         _ => return None,
     };
-    let mut walk = Walk::of(whole);
-    walk.forward(law);
-    Some(walk.done())
-}
-
-/// The pair with another first part.
-fn below_first(pair: Term, first: &Way) -> Way {
-    let mut walk = Walk::of(pair);
-    walk.follow_in(0, first);
-    walk.done()
+    Some(Way::by(law, whole))
 }
 
 /// What `fst` or `snd` of a pair is; another expression as it is.
 fn opened(e: Term) -> Way {
-    let mut walk = Walk::of(e);
     match e.op {
-        Op::Fst => walk.forward(laws::FST_OF_PAIR),
-        Op::Snd => walk.forward(laws::SND_OF_PAIR),
-        _ => false,
-    };
-    walk.done()
+        Op::Fst => Way::by(laws::FST_OF_PAIR, e),
+        Op::Snd => Way::by(laws::SND_OF_PAIR, e),
+        _ => Way::still(e),
+    }
 }
 
 /// Whether a part of the expression is a product.

@@ -2,7 +2,7 @@
 //!
 //! At each place of a chain the first move that pays is made, then it goes on at the last stage that this touched. Types aren't looked at
 //! meanwhile: at the end the moves are taken as a check would take them, and one that it would reject is left out.
-use crate::chain::{behind, front, head, length, parts, rest, seq, stage_way};
+use crate::chain::{behind, front, head, length, rest, seq, stage_way, stages};
 use crate::cost::{cost_before, net_cost, Next};
 use crate::draft::{joined, Budget, Clearing, Draft, Path, Step};
 use crate::exprs::{cheap, cheap_in_part};
@@ -137,7 +137,7 @@ fn made_again(replay: &Replay, made: &[Step]) -> Option<Vec<Step>> {
     let mut draft = Draft::new(&Budget::new(u64::MAX), replay.net(), 0, Clearing::ByCost);
     for step in made {
         match (step.law, step.ahead) {
-            (laws::NEST, false) => draft.regroup(&step.at)?,
+            (laws::NEST, false) => draft.back(laws::NEST, &step.at)?,
             (law, true) => draft.forward(law, &step.at)?,
             (law, false) => draft.backward(law, &step.at, step.after)?,
         }
@@ -333,19 +333,8 @@ impl Search {
 
     /// Improves the networks that a move built.
     fn improve_built(&mut self, made: &mut Draft, built: Built, depth: u32) -> Option<()> {
-        match built {
-            Built::Nothing => Some(()),
-            Built::Inside(path) => self.improve_at(made, path, Next::Nothing, depth),
-            Built::Body => self.improve_at(made, &[1], Next::Feedback, depth),
-            Built::Both => {
-                self.improve_at(made, &[0], Next::Nothing, depth)?;
-                self.improve_at(made, &[1], Next::Nothing, depth)
-            }
-            Built::Members => {
-                let members = made.net().kids.len() as u32;
-                (0..members).try_for_each(|k| self.improve_at(made, &[k], Next::Nothing, depth))
-            }
-        }
+        let next = if built == Built::Body { Next::Feedback } else { Next::Nothing };
+        built.places(made.net()).iter().try_for_each(|path| self.improve_at(made, path, next, depth))
     }
 
     /// Improves the chain at a path, whose stages are improved but for the expressions of its `arr`s.
@@ -395,7 +384,7 @@ struct Stages {
 impl Stages {
     /// The stages of a chain that is nested to the right.
     fn of(chain: Term) -> Stages {
-        Stages { stages: stages_of(chain), rests: vec![], moves: vec![] }
+        Stages { stages: stages(chain), rests: vec![], moves: vec![] }
     }
 
     fn count(&self) -> usize {
@@ -413,19 +402,19 @@ impl Stages {
 
     /// Puts what a move makes in place of the stages, where so many stand before.
     fn put(&mut self, place: usize, paying: &Paying) -> Option<()> {
-        let Paying { moved, stages, made } = paying;
-        let behind_them = self.count() - place - stages;
+        let Paying { moved, stages: count, made } = paying;
+        let behind_them = self.count() - place - count;
         let mut here = Draft::new(&Budget::new(u64::MAX), self.from(place), made.olds, made.clearing);
         if moved.fuses() && made.net().op == Op::Arr && behind_them > 0 {
             // In place of its first step, which makes one `arr` of two, the law that has a stage behind them.
             here.forward(laws::FUSE_FRONT, &[])?;
             here.took(&[0], made.net(), &made.steps[1..])?;
         } else {
-            let whole = here.gather(&[], 0, *stages)?;
+            let whole = here.gather(&[], 0, *count)?;
             here.adopt(&whole, made)?;
             here.scatter(&[])?;
         }
-        self.stages.splice(place..place + stages, stages_of(made.net()));
+        self.stages.splice(place..place + count, stages(made.net()));
         self.rests.truncate(behind_them);
         let way = behind(&[], place);
         self.moves.push(here.steps.iter().map(|step| step.below(&way)).collect());
@@ -441,18 +430,6 @@ impl Stages {
         }
         Some(())
     }
-}
-
-/// The stages of a chain that is nested to the right.
-fn stages_of(chain: Term) -> Vec<Term> {
-    let mut stages = vec![];
-    let mut found = chain;
-    while let Some((f, more)) = parts(found) {
-        stages.push(f);
-        found = more;
-    }
-    stages.push(found);
-    stages
 }
 
 #[cfg(test)]

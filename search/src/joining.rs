@@ -1,6 +1,6 @@
 //! Loops and cells made one loop round one `arr`.
 use crate::acts::told_type;
-use crate::chain::{behind, front, head, length, parts, rest, stage_way};
+use crate::chain::{before_chain, behind, front, head, length, parts, rest, stage_way};
 use crate::cost::net_cost;
 use crate::draft::{joined, Budget, Clearing, Draft, Path, Step};
 use crate::laws;
@@ -32,7 +32,7 @@ impl Joining {
     /// Makes loops and cells of the chain at a path one; what is left of its stages is to be looked at then.
     fn join_at(&mut self, way: &[u32]) -> Option<()> {
         let chain = self.draft.at(way)?;
-        if !is_flat(chain) {
+        if before_chain(chain).is_some() {
             self.add_children(way);
             return Some(());
         }
@@ -82,18 +82,6 @@ impl Joining {
         self.draft.budget.spend(made.steps.len() as u64);
         Some(made).filter(|made| net_cost(made.net()) <= enough)
     }
-}
-
-/// Whether no stage of the chain is itself a chain.
-fn is_flat(chain: Term) -> bool {
-    let mut found = chain;
-    while let Some((f, more)) = parts(found) {
-        if f.op == Op::Seq {
-            return false;
-        }
-        found = more;
-    }
-    true
 }
 
 /// What a network is made of, beside `arr`s and chains.
@@ -184,7 +172,7 @@ fn tidy(w: &mut Draft, path: &[u32]) -> Option<()> {
     for stage in (0..length(w.at(path)?)).rev() {
         if beside(w.at(path)?, stage).map_or(false, |(f, g)| f.op == Op::First && g.op == Op::First) {
             let way = w.gather(path, stage, 2)?;
-            w.join_firsts(&way)?;
+            w.back(laws::FIRST_CHAIN, &way)?;
         }
     }
     Some(())

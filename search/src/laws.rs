@@ -259,22 +259,9 @@ fn known_element(list: Term, i: Term, default: Term) -> Option<Term> {
 
 /// What the first part of an `and` or `or` decides, else the two in the other order.
 fn decided(tree: Term, a: Term, b: Term) -> Term {
-    let is_and = tree.op == Op::And;
-    match a.op {
-        Op::True => {
-            if is_and {
-                b
-            } else {
-                a
-            }
-        }
-        Op::False => {
-            if is_and {
-                a
-            } else {
-                b
-            }
-        }
+    match (tree.op, a.op) {
+        (Op::And, Op::True) | (Op::Or, Op::False) => b,
+        (_, Op::True | Op::False) => a,
         _ => tree.with_kids(&[b, a]),
     }
 }

@@ -27,7 +27,6 @@ mod shaping;
 mod short;
 mod shorten;
 mod single;
-mod states;
 mod sums;
 mod term;
 mod told;

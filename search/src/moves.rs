@@ -6,7 +6,7 @@
 use crate::acts::{self, Rewriting};
 use crate::chain::{front, head, last, length};
 use crate::cost::is_cell;
-use crate::draft::Draft;
+use crate::draft::{Draft, Path};
 use crate::exprs::{as_late, as_left, as_map, as_right, shared_at};
 use crate::laws::{self, Law};
 use crate::read::{fits, template, Letters};
@@ -47,6 +47,19 @@ pub enum Built {
     Both,
     /// All members.
     Members,
+}
+
+impl Built {
+    /// Where they stand in what is made.
+    pub fn places(self, made: Term) -> Vec<Path> {
+        match self {
+            Built::Nothing => vec![],
+            Built::Inside(path) => vec![path.to_vec()],
+            Built::Body => vec![vec![1]],
+            Built::Both => vec![vec![0], vec![1]],
+            Built::Members => (0..made.kids.len() as u32).map(|k| vec![k]).collect(),
+        }
+    }
 }
 
 /// Where a move to the normal form is made.
@@ -211,7 +224,7 @@ pub const MOVES: &[Move] = &[
     // (iPre c) >>> (arr e) => (arr e) >>> (iPre (then c e)), also `delay`
     form("(>>> f (arr e))", &[Any(&[laws::CELL_PASS, laws::DELAY_PASS], &[]), Clear(&[1, 0])], Nothing),
     // (hold c) >>> (arr e) => (arr MAP(e)) >>> (hold (then c e))
-    form("(>>> (hold c) (arr e))", &[By(acts::pass_hold), Clear(&[0, 0]), Clear(&[1, 0])], Nothing),
+    form("(>>> (hold c) (arr e))", &[By(|w| acts::map_held(w, &[])), Clear(&[0, 0]), Clear(&[1, 0])], Nothing),
     // (arr e) >>> (iPre c) >>> .. >>> (arr g) => (arr (then e g)) >>> (iPre (then c g)) >>> ..
     cost(CELLS, &[By(acts::pass), Ahead(laws::FUSE_FRONT, &[]), Clear(&[0, 0])], Nothing),
     // (arr e) >>> (first ((arr g) >>> f)) => (arr (then e LEFT(g))) >>> (first f)
@@ -347,7 +360,7 @@ const NESTED_BETWEEN: &[Act] = &[
     Clear(&[1, 1, 0]),
 ];
 
-const HELD_BETWEEN: &[Act] = &[By(acts::map_held), Ahead(laws::FUSE_FRONT, &[]), Clear(&[0, 0]), Clear(&[1, 0])];
+const HELD_BETWEEN: &[Act] = &[By(|w| acts::map_held(w, &[1])), Ahead(laws::FUSE_FRONT, &[]), Clear(&[0, 0]), Clear(&[1, 0])];
 
 const FRONT_IN: &[Act] = &[
     Rewrite(acts::left_behind, &[0]),
@@ -371,7 +384,8 @@ const BACK_IN: &[Act] = &[
     Clear(&[0, 0, 1, 1, 0]),
 ];
 
-const WHOLE_IN: &[Act] = &[Back(laws::IDENTITY_FRONT, &[]), By(acts::take_apart), By(|w| FRONT_IN.iter().try_for_each(|act| act.take(w)))];
+const WHOLE_IN: &[Act] =
+    &[Back(laws::IDENTITY_FRONT, &[]), Back(laws::PAIR_OF_PARTS, &[0, 0]), By(|w| FRONT_IN.iter().try_for_each(|act| act.take(w)))];
 
 /// What a move looks at.
 pub enum Shape {

@@ -7,9 +7,9 @@ use crate::draft::{joined, Budget, Clearing, Draft, Path, Step};
 use crate::joining::join_loops;
 use crate::laws;
 use crate::moves::{Built, Move, DROP_FRONT, MOVES};
-use crate::states::arrange_all;
 use crate::term::{Op, Term};
 use crate::tuning;
+use crate::wires::reduce_loops;
 
 /// A normal form, with the steps to it.
 pub struct Formed {
@@ -36,8 +36,8 @@ pub fn looped_alike(budget: &Budget, nets: (Term, Term), olds: (usize, usize)) -
         return None;
     }
     if there.net() != back.net() {
-        arrange_all(&mut there)?;
-        arrange_all(&mut back)?;
+        reduce_loops(&mut there)?;
+        reduce_loops(&mut back)?;
     }
     let is_one = there.net() == back.net();
     Some((there.steps, back.steps)).filter(|_| is_one)
@@ -197,18 +197,11 @@ impl Former {
 
     /// What a move built at a path is to be formed.
     fn form_built(&mut self, path: &[u32], built: Built) -> Option<()> {
-        let places: &[&[u32]] = match built {
-            Built::Nothing => &[],
-            Built::Inside(inner) => return self.form_later(path, inner),
-            Built::Body => &[&[1]],
-            Built::Both => &[&[0], &[1]],
-            Built::Members => return self.form_children(path),
-        };
-        places.iter().try_for_each(|inner| self.form_later(path, inner))
-    }
-
-    fn form_later(&mut self, path: &[u32], inner: &[u32]) -> Option<()> {
-        self.tasks.push(Task::Form(joined(path, inner)));
+        if built == Built::Members {
+            return self.form_children(path);
+        }
+        let places = built.places(self.draft.at(path)?);
+        self.tasks.extend(places.iter().map(|inner| Task::Form(joined(path, inner))));
         Some(())
     }
 }

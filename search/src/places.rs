@@ -2,11 +2,12 @@
 //!
 //! The two are walked together from the root. What is the same in both is left alone; where they differ steps are looked for that make it the
 //! same, at the smallest places first, by one law or a few, and by normal forms at last.
+use crate::chain::stages;
 use crate::draft::{joined, Budget, Clearing, Draft, Path, Step};
 use crate::laws::laws_at;
 use crate::meeting::{cut_at_meeting, follow_all, Trail};
 use crate::normal::{looped_alike, normal_form};
-use crate::segments::{aligned, stages};
+use crate::segments::aligned;
 use crate::shaping::{gather_all, shaped};
 use crate::term::{node, Op, Term};
 use crate::tuning::{LOOK, MOST_DEPTH, MOST_EFFORT};

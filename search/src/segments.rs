@@ -1,5 +1,4 @@
 //! Stages of two chains, laid beside one another.
-use crate::chain::parts;
 use crate::term::Term;
 use crate::tuning::MOST_STAGE_PAIRS;
 
@@ -15,19 +14,6 @@ pub struct Segment {
 }
 
 const SAME: Segment = Segment { first: 1, second: 1, is_same: true };
-
-/// The stages of a chain, however they are nested.
-pub fn stages(chain: Term) -> Vec<Term> {
-    let mut all = vec![];
-    let mut todo = vec![chain];
-    while let Some(net) = todo.pop() {
-        match parts(net) {
-            Some((f, g)) => todo.extend([g, f]),
-            None => all.push(net),
-        }
-    }
-    all
-}
 
 /// The stages of two chains beside one another, in order: the same ones, as many as there are in one order, and between them what differs,
 /// one by one where there are as many, or as one. Each segment has a stage of both.

@@ -34,7 +34,7 @@ fn split_at(draft: &mut Draft, path: &[u32], count: usize) -> Option<()> {
             way.push(1);
         }
     }
-    turns.iter().rev().try_for_each(|turn| if turn.ahead { draft.forward(laws::NEST, &turn.at) } else { draft.regroup(&turn.at) })
+    turns.iter().rev().try_for_each(|turn| if turn.ahead { draft.forward(laws::NEST, &turn.at) } else { draft.back(laws::NEST, &turn.at) })
 }
 
 /// Makes so many stages of the chain at a path, from one on, one part of it.

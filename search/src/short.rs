@@ -3,10 +3,11 @@
 use crate::draft::{joined, undone, Budget, Step};
 use crate::exprs::normal;
 use crate::laws::{self, forward, laws_at};
+use crate::memo::Memo;
 use crate::single::single_alike;
 use crate::term::{replaced, Term};
 use crate::tuning::{MOST_MET, MOST_MET_SIZE, MOST_SINGLE, MOST_SINGLE_STEPS};
-use std::collections::{HashMap, HashSet};
+use std::collections::HashSet;
 
 /// A search for short ways.
 #[derive(Default)]
@@ -21,13 +22,13 @@ pub struct Short {
 
 /// What forward steps made of a tree.
 struct Side {
-    from: HashMap<Term, Option<(Term, Step)>>,
+    from: Memo<Term, Option<(Term, Step)>>,
     edge: Vec<Term>,
 }
 
 impl Side {
     fn new(root: Term) -> Side {
-        Side { from: HashMap::from([(root, None)]), edge: vec![root] }
+        Side { from: [(root, None)].into_iter().collect(), edge: vec![root] }
     }
 
     /// Takes one more step of each kind from each tree that was made last.

@@ -295,10 +295,9 @@ fn tidy(d: &mut Draft, path: &[u32]) -> Option<()> {
 /// At `(>>> (arr (pair a g)) (>>> (first b) r))`: g is done behind b.
 fn push_back(d: &mut Draft, way: &[u32], a: Term, g: Term) -> Option<()> {
     turn(d, &joined(way, &[0, 0]), of("(then (pair a x) RIGHT(g))", &[('a', a), ('g', g)]))?;
-    let h = d.at(&joined(way, &[1]))?;
-    d.backward(laws::FUSE_FRONT, way, of("(>>> (arr (pair a x)) (>>> (arr RIGHT(g)) h))", &[('a', a), ('g', g), ('h', h)]))?;
-    d.regroup(&joined(way, &[1]))?;
-    d.exchange(&joined(way, &[1, 0]))?;
+    d.back(laws::FUSE_FRONT, way)?;
+    d.back(laws::NEST, &joined(way, &[1]))?;
+    d.back(laws::EXCHANGE, &joined(way, &[1, 0]))?;
     d.forward(laws::NEST, &joined(way, &[1]))?;
     let next = joined(way, &[1, 1]);
     if d.forward(laws::FUSE, &next).is_some() {

@@ -41,9 +41,7 @@ fn laws_of(op: Op) -> &'static [Law] {
 fn summed(aim: Aim, e: Term) -> Way {
     let mut walk = Walk::of(e);
     walk.forward(laws::SUB_AS_ADD);
-    let mut negative = Walk::of(walk.now.kids[1]);
-    negative.forward(laws::COMPUTE);
-    walk.follow_in(1, &negative.done());
+    walk.follow_in(1, &Way::by(laws::COMPUTE, walk.now.kids[1]));
     walk.follow(&in_order(aim, walk.now));
     walk.done()
 }
@@ -147,8 +145,7 @@ fn ordered(aim: Aim, op: Op, e: Term) -> Way {
         walk.follow(&ordered(aim, op, walk.now));
         return walk.done();
     }
-    let rest = ordered(aim, op, e.kids[1]);
-    walk.follow_in(1, &rest);
+    walk.follow_in(1, &ordered(aim, op, e.kids[1]));
     walk.follow(&inserted(aim, walk.now));
     walk.done()
 }
@@ -185,9 +182,7 @@ fn paired(both: Term, joined: bool) -> Way {
     if joined {
         return made_one(both);
     }
-    let mut walk = Walk::of(both);
-    walk.forward(sorting_laws(both.op).0);
-    walk.done()
+    Way::by(sorting_laws(both.op).0, both)
 }
 
 /// Whether two terms are made one: literals, and for the normal form those of a sum that differ in their literal factor alone.

@@ -97,6 +97,13 @@ impl Way {
         Way { to: e, trail: Trail::default() }
     }
 
+    /// A law taken forward at the root, where it fits; else no step.
+    pub fn by(law: Law, e: Term) -> Way {
+        let mut walk = Walk::of(e);
+        walk.forward(law);
+        walk.done()
+    }
+
     /// The steps in their order.
     pub fn steps(&self) -> Vec<Step> {
         self.trail.steps()

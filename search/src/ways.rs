@@ -1,7 +1,7 @@
 //! The ways from a network to another that are tried.
 use crate::climb::{brought_nearer, Nearer};
 use crate::draft::{undone, Budget, Step};
-use crate::improve::improved;
+use crate::improve::{improved, Found};
 use crate::normal::{normal_form, Formed};
 use crate::optimise::optimised;
 use crate::places::{ways_between, Ways};
@@ -10,62 +10,48 @@ use crate::shorten::shortened;
 use crate::term::Term;
 use crate::tuning;
 use crate::types::lead;
+use std::collections::HashMap;
 
-/// How a way is looked for.
-#[derive(Clone, Copy, PartialEq, Eq, Debug)]
-enum Looking {
-    /// By a few steps of both, also between children that differ alone.
-    Near,
-    /// By what `optimise` makes of the source.
-    Optimising,
-    /// By what costs less than the source.
-    Improving,
-    /// At the places where the two differ.
-    AtPlaces,
-    /// By what `optimise` makes of both.
-    Optimised,
-    /// By what costs less than both.
-    Improved,
-    /// By steps that bring them nearer.
-    Nearer,
-    /// By their normal forms.
-    Formed,
-    /// At those places, with loops made one.
-    Looped,
-    /// Where their normal forms differ.
-    BehindForms,
-    /// By short ways, and as one loop round one chain.
-    Short,
-    /// The same between what `optimise` makes of both.
-    ShortOptimised,
-}
+/// The steps of both to a third network.
+type Both = Option<(Vec<Step>, Vec<Step>)>;
 
-/// In this order.
-const WAYS: [Looking; 12] = [
-    Looking::Near,
-    Looking::Optimising,
-    Looking::Improving,
-    Looking::AtPlaces,
-    Looking::Optimised,
-    Looking::Improved,
-    Looking::Nearer,
-    Looking::Formed,
-    Looking::Looped,
-    Looking::BehindForms,
-    Looking::Short,
-    Looking::ShortOptimised,
+/// A way, and so few steps as are enough: where they were found, neither it nor any behind it is tried.
+type Looking = (usize, fn(&mut Search) -> Both);
+
+/// Any steps are enough.
+const ANY: usize = usize::MAX;
+
+/// The ways in their order.
+const WAYS: [Looking; 11] = [
+    // By a few steps of both, also between children that differ alone.
+    (ANY, |search| alone(Short::near().between(search.source, search.target, 0))),
+    // By what `optimise` makes of the source, and by what costs less than it.
+    (ANY, |search| search.to_target(Rewriting::Optimised)),
+    (ANY, |search| search.to_target(Rewriting::Cheaper)),
+    // At the places where the two differ.
+    (ANY, |search| search.at_places(false, tuning::MOST_WORK)),
+    // By what `optimise` makes of both, and by what costs less than both.
+    (tuning::FEW_STEPS, |search| search.of_both(Rewriting::Optimised)),
+    (tuning::MANY_STEPS, |search| search.of_both(Rewriting::Cheaper)),
+    // By steps that bring them nearer.
+    (tuning::MANY_STEPS, Search::nearer),
+    // By their normal forms.
+    (tuning::VERY_MANY_STEPS, Search::at_forms),
+    // At the places where they differ, with loops made one.
+    (tuning::VERY_MANY_STEPS, |search| search.at_places(true, tuning::MOST_LOOPING)),
+    // Where their normal forms differ.
+    (ANY, Search::behind_forms),
+    // By short ways, and as one loop round one chain.
+    (ANY, Search::short),
 ];
 
-impl Looking {
-    /// Where so few steps were found, it isn't tried.
-    fn is_enough(self, steps: usize) -> bool {
-        match self {
-            Looking::Optimised => steps <= tuning::FEW_STEPS,
-            Looking::Improved | Looking::Nearer => steps <= tuning::MANY_STEPS,
-            Looking::Formed | Looking::Looped => steps <= tuning::VERY_MANY_STEPS,
-            _ => true,
-        }
-    }
+/// What a network is rewritten to.
+#[derive(Clone, Copy, PartialEq, Eq, Hash)]
+enum Rewriting {
+    /// What `optimise` makes of it.
+    Optimised,
+    /// What costs less.
+    Cheaper,
 }
 
 /// A search for the way from a network to another.
@@ -77,32 +63,30 @@ pub struct Search {
     pub nodes: u64,
     /// The normal forms of source and target, where these were looked for and aren't one.
     pub forms: Option<(Formed, Formed)>,
-    optimised: Vec<Step>,
-    improved: Vec<Step>,
-    short: Short,
+    rewritten: HashMap<(Rewriting, Term), Option<Found>>,
 }
 
-/// The steps of both to a third network.
-type Both = Option<(Vec<Step>, Vec<Step>)>;
+/// The steps, where the source's lead to the target.
+fn alone(steps: Option<Vec<Step>>) -> Both {
+    Some((steps?, vec![]))
+}
 
 impl Search {
     /// A search from a source to a target, of this input type.
     pub fn new(input: Term, source: Term, target: Term) -> Search {
-        Search { input, source, target, nodes: 0, forms: None, optimised: vec![], improved: vec![], short: Short::whole() }
+        Search { input, source, target, nodes: 0, forms: None, rewritten: HashMap::new() }
     }
 
     /// The fewest steps found that lead from the source to the target, each as a check would take it.
     pub fn shortest(&mut self) -> Option<Vec<Step>> {
         let mut best: Option<Vec<Step>> = None;
-        for way in WAYS {
-            if best.as_ref().map_or(false, |steps| way.is_enough(steps.len())) {
+        for (enough, by) in WAYS {
+            if best.as_ref().map_or(false, |steps| steps.len() <= enough) {
                 break;
             }
-            let found = self.steps_by(way).map(|(there, back)| [there, undone(&back)].concat());
-            if let Some(found) = found.and_then(|steps| self.led(steps)) {
-                if best.as_ref().map_or(true, |steps| found.len() < steps.len()) {
-                    best = Some(found);
-                }
+            let found = by(self).and_then(|(there, back)| self.led([there, undone(&back)].concat()));
+            if found.as_ref().map_or(false, |found| best.as_ref().map_or(true, |steps| found.len() < steps.len())) {
+                best = found;
             }
         }
         best
@@ -110,53 +94,7 @@ impl Search {
 
     /// The steps, where they lead from the source to the target; without those that lead nowhere, where the others do too.
     fn led(&self, steps: Vec<Step>) -> Option<Vec<Step>> {
-        let leads = |steps: &[Step]| lead(self.input, self.source, self.target, steps);
-        let shorter = shortened(self.source, &steps);
-        if leads(&shorter) {
-            return Some(shorter);
-        }
-        Some(steps).filter(|steps| leads(steps))
-    }
-
-    fn steps_by(&mut self, way: Looking) -> Both {
-        match way {
-            Looking::Near => Short::near().between(self.source, self.target, 0).map(|steps| (steps, vec![])),
-            Looking::Optimising => {
-                let (net, steps) = optimised(self.input, self.source)?;
-                self.optimised = steps;
-                Some((self.optimised.clone(), vec![])).filter(|_| net == self.target)
-            }
-            Looking::Improving => {
-                let (net, steps) = self.cheaper(self.source);
-                self.improved = steps;
-                Some((self.improved.clone(), vec![])).filter(|_| net == self.target)
-            }
-            Looking::AtPlaces => self.at_places(false, tuning::MOST_WORK),
-            Looking::Optimised => {
-                let (net, back) = optimised(self.input, self.target)?;
-                Some((if net == self.source { vec![] } else { self.optimised.clone() }, back))
-            }
-            Looking::Improved => {
-                let (net, back) = self.cheaper(self.target);
-                Some((if net == self.source { vec![] } else { self.improved.clone() }, back))
-            }
-            Looking::Nearer => self.nearer(),
-            Looking::Formed => self.at_forms(),
-            Looking::Looped => self.at_places(true, tuning::MOST_LOOPING),
-            Looking::BehindForms => {
-                let (there, back) = self.forms.take()?;
-                let found = self.on_from(&there, &back);
-                self.forms = Some((there, back));
-                found
-            }
-            Looking::Short => self.short_between(self.source, self.target).map(|steps| (steps, vec![])),
-            Looking::ShortOptimised => {
-                let (source, there) = optimised(self.input, self.source)?;
-                let (target, back) = optimised(self.input, self.target)?;
-                let steps = self.short_between(source, target)?;
-                Some(([there, steps].concat(), back))
-            }
-        }
+        [shortened(self.source, &steps), steps].into_iter().find(|steps| lead(self.input, self.source, self.target, steps))
     }
 
     /// Lets a search visit so many nodes at most, and counts them.
@@ -167,9 +105,30 @@ impl Search {
         found
     }
 
-    fn cheaper(&mut self, net: Term) -> (Term, Vec<Step>) {
+    /// What a network is rewritten to, each once.
+    fn rewritten(&mut self, how: Rewriting, net: Term) -> Option<Found> {
+        if let Some(found) = self.rewritten.get(&(how, net)) {
+            return found.clone();
+        }
         let input = self.input;
-        self.within(tuning::MOST_IMPROVING, |budget| improved(budget, input, net))
+        let found = match how {
+            Rewriting::Optimised => optimised(input, net),
+            Rewriting::Cheaper => Some(self.within(tuning::MOST_IMPROVING, |budget| improved(budget, input, net))),
+        };
+        self.rewritten.insert((how, net), found.clone());
+        found
+    }
+
+    /// The steps of the source, where it is rewritten to the target.
+    fn to_target(&mut self, how: Rewriting) -> Both {
+        let (net, steps) = self.rewritten(how, self.source)?;
+        alone(Some(steps).filter(|_| net == self.target))
+    }
+
+    /// The steps to what both are rewritten to.
+    fn of_both(&mut self, how: Rewriting) -> Both {
+        let (net, back) = self.rewritten(how, self.target)?;
+        Some((if net == self.source { vec![] } else { self.rewritten(how, self.source)?.1 }, back))
     }
 
     fn at_places(&mut self, with_loops: bool, most: u64) -> Both {
@@ -198,19 +157,20 @@ impl Search {
         None
     }
 
-    fn short_between(&mut self, source: Term, target: Term) -> Option<Vec<Step>> {
-        let found = self.short.between(source, target, 0);
-        self.nodes += self.short.nodes;
-        found
+    /// The steps to two forms, and on to where these are one: at the places where they differ, then with loops made one there.
+    fn behind_forms(&mut self) -> Both {
+        let forms = self.forms.as_ref().filter(|(there, back)| there.steps.len() + back.steps.len() <= tuning::MOST_STEPS_TAKEN);
+        let (first, second) = forms.map(|(there, back)| (there.net, back.net))?;
+        let mut between = |with_loops| self.within(tuning::MOST_BETWEEN, |budget| ways_between(budget, first, second, with_loops));
+        let ways = between(false).or_else(|| between(true))?;
+        let (there, back) = self.forms.as_ref()?;
+        Some(([there.steps.clone(), ways.there].concat(), [back.steps.clone(), ways.back].concat()))
     }
 
-    /// The steps to two forms, and on to where these are one: at the places where they differ, then with loops made one there.
-    fn on_from(&mut self, there: &Formed, back: &Formed) -> Both {
-        if there.steps.len() + back.steps.len() > tuning::MOST_STEPS_TAKEN {
-            return None;
-        }
-        let mut between = |with_loops| self.within(tuning::MOST_BETWEEN, |budget| ways_between(budget, there.net, back.net, with_loops));
-        let ways = between(false).or_else(|| between(true))?;
-        Some(([there.steps.clone(), ways.there].concat(), [back.steps.clone(), ways.back].concat()))
+    fn short(&mut self) -> Both {
+        let mut short = Short::whole();
+        let found = short.between(self.source, self.target, 0);
+        self.nodes += short.nodes;
+        alone(found)
     }
 }

@@ -5,10 +5,11 @@
 //! and of which what stands there is made: the steps that make it, undone, lead there.
 use crate::draft::{joined, Budget, Draft};
 use crate::exprs::{normal, pair, then};
+use crate::joining::{is_loop, join_loops, places as places_of};
 use crate::laws;
 use crate::read::{filled, of, template};
 use crate::single::{chain_of, flat, go_back, is_closed, part, single, turn, Form};
-use crate::states::{states_of, with_states, State as Leaf};
+use crate::sums::compared;
 use crate::term::{node, put, Op, Term};
 use crate::tuning::MOST_REDUCTIONS;
 
@@ -17,9 +18,13 @@ const WIRE: i64 = 1_000_000;
 /// The numbers of boxes' wires begin here.
 const BOXED: i64 = 1 << 32;
 
-/// A state of the loop, and what it is next.
+/// A state of the loop: a part of what it starts with that is no pair.
 struct State {
-    leaf: Leaf,
+    /// Where it stands in the whole state.
+    place: Term,
+    /// What it is at first.
+    start: Term,
+    /// What it is next.
     next: Term,
 }
 
@@ -74,7 +79,7 @@ impl Graph {
         if form.init.is_some() {
             shown = part(budget, Op::Fst, out);
             let next = part(budget, Op::Snd, out);
-            states = found.into_iter().map(|leaf| State { leaf, next: composed(budget, next, leaf.place) }).collect();
+            states = found.into_iter().map(|(place, start)| State { place, start, next: composed(budget, next, place) }).collect();
         }
         let mut graph = Graph { form, wires, inputs, shown, states, live: vec![] };
         graph.live = graph.needed(&[shown])?;
@@ -98,6 +103,55 @@ impl Graph {
         }
         Some(found)
     }
+
+    /// What a state is at first, beside what it is after one sample, whatever boxes output.
+    fn sign(&self, budget: &Budget, k: usize) -> Term {
+        let state = &self.states[k];
+        pair(state.start, normal(budget, self.at_first(state.next)).to)
+    }
+
+    /// An expression with what the states are at first in place of their wires.
+    fn at_first(&self, e: Term) -> Term {
+        match e.op {
+            Op::Param if e.number >= BOXED => wire(BOXED),
+            Op::Param if e.number > WIRE => self.states[(e.number - WIRE - 1) as usize].start,
+            _ => e.with_kids(&e.kids.iter().map(|kid| self.at_first(kid)).collect::<Vec<Term>>()),
+        }
+    }
+}
+
+/// Where each part of a constant that is no pair stands in it, and what it is, from left to right.
+fn states_of(start: Term) -> Vec<(Term, Term)> {
+    let mut todo = vec![(template("x"), start)];
+    let mut all = vec![];
+    while let Some((place, start)) = todo.pop() {
+        if start.op == Op::Pair {
+            todo.push((node(Op::Snd, &[place]), start.kids[1]));
+            todo.push((node(Op::Fst, &[place]), start.kids[0]));
+        } else {
+            all.push((place, start));
+        }
+    }
+    all
+}
+
+/// The pairs of a constant, with these in place of what is no pair.
+fn with_states(start: Term, parts: &mut impl Iterator<Item = Term>) -> Term {
+    if start.op == Op::Pair {
+        let first = with_states(start.kids[0], parts);
+        return pair(first, with_states(start.kids[1], parts));
+    }
+    parts.next().unwrap_or(start)
+}
+
+/// Reduces all loops round one `arr`, and joins those that come to stand beside one another.
+pub fn reduce_loops(d: &mut Draft) -> Option<()> {
+    for way in places_of(d)?.iter().rev() {
+        if is_loop(d.at(way)?) {
+            reduce(d, way)?;
+        }
+    }
+    join_loops(d).map(|_| ())
 }
 
 /// Reduces the network at a path, which is one loop round one chain: dead stages, constant or doubled parts of delays and of the state, and
@@ -105,20 +159,18 @@ impl Graph {
 pub fn reduce(d: &mut Draft, path: &[u32]) -> Option<()> {
     for _ in 0..MOST_REDUCTIONS {
         let graph = Graph::of(&d.budget, Form::read(d.at(path)?)?)?;
-        let tries = [dead_stage, constant_delay, restated, exchanged, dead_state];
-        if tries.iter().all(|reduction| attempted(d, path, &graph, *reduction).is_none()) {
+        let tries: [fn(&mut Draft, &[u32], &Graph) -> Option<()>; 5] = [dead_stage, constant_delay, restated, exchanged, dead_state];
+        if tries.iter().all(|reduction| attempted(d, |d| reduction(d, path, &graph)).is_none()) {
             return Some(());
         }
     }
     Some(())
 }
 
-type Reduction = fn(&mut Draft, &[u32], &Graph) -> Option<()>;
-
 /// Tries a reduction; where it fails the draft is as before.
-fn attempted(d: &mut Draft, path: &[u32], graph: &Graph, reduction: Reduction) -> Option<()> {
+fn attempted(d: &mut Draft, reduction: impl FnOnce(&mut Draft) -> Option<()>) -> Option<()> {
     let mark = d.mark();
-    let done = reduction(d, path, graph);
+    let done = reduction(d);
     if done.is_none() {
         d.back_to(&mark);
     }
@@ -160,13 +212,11 @@ fn dead_stage(d: &mut Draft, path: &[u32], graph: &Graph) -> Option<()> {
 
 /// At `(>>> (arr z) (>>> (first b) (>>> (arr (snd x)) t)))`: without b.
 fn drop_box(d: &mut Draft, way: &[u32]) -> Option<()> {
-    let t = d.at(&joined(way, &[1, 1, 1]))?;
-    let u = template("(then unit unit)");
-    turn(d, &joined(way, &[1, 1, 0, 0]), of("(then LEFT(u) (snd x))", &[('u', u)]))?;
-    d.backward(laws::FUSE_FRONT, &joined(way, &[1, 1]), of("(>>> (arr LEFT(u)) (>>> (arr (snd x)) t))", &[('u', u), ('t', t)]))?;
+    turn(d, &joined(way, &[1, 1, 0, 0]), template("(then LEFT((then unit unit)) (snd x))"))?;
+    d.back(laws::FUSE_FRONT, &joined(way, &[1, 1]))?;
     d.back(laws::FIRST_ARR, &joined(way, &[1, 1, 0]))?;
-    d.regroup(&joined(way, &[1]))?;
-    d.join_firsts(&joined(way, &[1, 0]))?;
+    d.back(laws::NEST, &joined(way, &[1]))?;
+    d.back(laws::FIRST_CHAIN, &joined(way, &[1, 0]))?;
     d.forward(laws::CONSTANT, &joined(way, &[1, 0, 0]))?;
     d.forward(laws::FIRST_ARR, &joined(way, &[1, 0]))?;
     flat(d, way)
@@ -207,16 +257,8 @@ fn nested(parts: &[Term]) -> Option<Term> {
 
 /// A delay of parts that never change, or are twice there: only the others are delayed.
 fn constant_delay(d: &mut Draft, path: &[u32], graph: &Graph) -> Option<()> {
-    (0..graph.form.stages.len()).find_map(|i| {
-        let delays = graph.form.stages[i].1.op == Op::Delay;
-        let reduction: fn(&mut Draft, &[u32], &Graph, usize) -> Option<()> = narrow_delay;
-        let mark = d.mark();
-        let done = if delays { reduction(d, path, graph, i) } else { None };
-        if done.is_none() {
-            d.back_to(&mark);
-        }
-        done
-    })
+    let mut delays = (0..graph.form.stages.len()).filter(|&i| graph.form.stages[i].1.op == Op::Delay);
+    delays.find_map(|i| attempted(d, |d| narrow_delay(d, path, graph, i)))
 }
 
 fn narrow_delay(d: &mut Draft, path: &[u32], graph: &Graph, i: usize) -> Option<()> {
@@ -234,12 +276,12 @@ fn narrow_delay(d: &mut Draft, path: &[u32], graph: &Graph, i: usize) -> Option<
     if normal(&d.budget, f).to.op == Op::Input {
         return None;
     }
-    let (late, plain) = (b.with_kids(&[then(c, f)]), b.with_kids(&[c]));
+    let late = b.with_kids(&[then(c, f)]);
     let rest = ended(&graph.form.stages[i + 1..], graph.form.out);
     let tail = of("(>>> (arr (pair e x)) (>>> (first (>>> (arr f) d)) n))", &[('e', e), ('f', f), ('d', late), ('n', rest)]);
     go_back(d, path, graph.form.upto(i, tail))?;
     let way = joined(&graph.form.way_to(path, i), &[1, 0, 0]);
-    d.backward(laws::DELAY_PASS, &way, of("(>>> d (arr f))", &[('d', plain), ('f', f)]))?;
+    d.back(laws::DELAY_PASS, &way)?;
     if parts.is_empty() {
         d.forward(laws::CONSTANT, &way)?;
     }
@@ -271,18 +313,21 @@ fn exchanged(d: &mut Draft, path: &[u32], graph: &Graph) -> Option<()> {
     single(d, path)
 }
 
-/// Puts the state in order: constants and doubles out, the dead leaves behind the others.
+/// Puts the state in order: constants and doubles out, the dead ones behind the others. These come as they are at first and after one sample,
+/// and where that is the same as they are asked for.
 fn restated(d: &mut Draft, path: &[u32], graph: &Graph) -> Option<()> {
     let init = graph.form.init?;
-    let is_constant = |state: &State| state.leaf.start == state.next && is_closed(state.next) && state.next.op != Op::Unit;
+    let is_constant = |state: &State| state.start == state.next && is_closed(state.next) && state.next.op != Op::Unit;
     let states = &graph.states;
-    let twin = |i: usize| (0..i).find(|&j| states[j].leaf.start == states[i].leaf.start && states[j].next == states[i].next);
+    let twin = |i: usize| (0..i).find(|&j| states[j].start == states[i].start && states[j].next == states[i].next);
     let stays = |k: &usize| !is_constant(&states[*k]) && twin(*k).is_none();
-    let asked: Vec<usize> =
+    let mut asked: Vec<usize> =
         graph.live.iter().map(|wire| wire.number).filter(|n| (WIRE + 1..BOXED).contains(n)).map(|n| (n - WIRE - 1) as usize).collect();
+    let signs: Vec<Term> = (0..states.len()).map(|k| graph.sign(&d.budget, k)).collect();
+    asked.sort_by(|&i, &j| compared(signs[i], signs[j]));
     let dead: Vec<usize> = (0..states.len()).filter(|k| !asked.contains(k)).filter(|k| stays(k)).collect();
     let order: Vec<usize> = asked.into_iter().filter(|k| stays(k)).collect();
-    let from = |ks: &[usize]| nested(&ks.iter().map(|&k| states[k].leaf.place).collect::<Vec<Term>>());
+    let from = |ks: &[usize]| nested(&ks.iter().map(|&k| states[k].place).collect::<Vec<Term>>());
     let perm = match (from(&order), from(&dead)) {
         (Some(a), Some(b)) => pair(a, b),
         (Some(all), None) | (None, Some(all)) => all,
@@ -297,18 +342,18 @@ fn restated(d: &mut Draft, path: &[u32], graph: &Graph) -> Option<()> {
     let all: Vec<usize> = order.iter().chain(&dead).copied().collect();
     let place = |k: usize| {
         if is_constant(&states[k]) {
-            return Some(states[k].leaf.start);
+            return Some(states[k].start);
         }
         let own = twin(k).unwrap_or(k);
         all.iter().position(|&other| other == own).map(|i| now[i])
     };
     let parts: Option<Vec<Term>> = (0..states.len()).map(place).collect();
     let back = with_states(init, &mut parts?.into_iter());
-    let body = graph.form.write().kids[1];
-    let f = of("(>>> f (arr RIGHT(p)))", &[('f', body), ('p', perm)]);
+    let out = composed(&d.budget, graph.form.out, of("RIGHT(p)", &[('p', perm)]));
+    let f = ended(&graph.form.stages, out);
     let c = composed(&d.budget, init, perm);
     go_back(d, path, of("(loopPre (then c i) (>>> f (arr RIGHT(i))))", &[('c', c), ('i', back), ('f', f)]))?;
-    d.backward(laws::LOOP_TURN, path, of("(loopPre c (>>> (arr RIGHT(i)) f))", &[('c', c), ('i', back), ('f', f)]))?;
+    d.back(laws::LOOP_TURN, path)?;
     single(d, path)
 }
 
@@ -336,6 +381,14 @@ fn dead_state(d: &mut Draft, path: &[u32], graph: &Graph) -> Option<()> {
         more = pair(template("unit"), more);
     }
     let shown = composed(&budget, more, choose("(fst e)", "(pair (fst e) (fst (snd e)))", form.out));
+    let start = if all_dead { init } else { init.kids[1] };
+    let small = Form { init: if all_dead { None } else { init.kid(0) }, stages: kept, out: shown };
+    let stays = normal(&budget, choose("(snd e)", "(snd (snd e))", form.out)).to == choose("(snd e)", "(snd (snd e))", x);
+    if form.stages.is_empty() && stays {
+        go_back(d, path, small.upto(0, of("(loopPre c (first (arr e)))", &[('c', start), ('e', shown)])))?;
+        d.forward(laws::LOOP_UNHEARD, &small.way_to(path, 0))?;
+        return single(d, path);
+    }
     // What the dead part sees: all that is there, and its own state.
     let mut from = template("(fst x)");
     let mut heads = vec![];
@@ -349,12 +402,10 @@ fn dead_state(d: &mut Draft, path: &[u32], graph: &Graph) -> Option<()> {
         .fold(choose("(pair e (snd x))", "(pair (fst e) (pair (snd e) (snd x)))", from), |all, head| pair(head, all));
     let next = normal(&budget, choose("(pair unit (snd e))", "(pair unit (snd (snd e)))", form.out)).to;
     let dead = ended(&form.stages[n..], next);
-    let start = if all_dead { init } else { init.kids[1] };
     let tail = of(
         "(>>> (arr (pair x o)) (>>> (first (loopPre c (>>> (arr a) d))) (>>> (arr (snd x)) (arr x))))",
         &[('o', shown), ('c', start), ('a', all), ('d', dead)],
     );
-    let small = Form { init: if all_dead { None } else { init.kid(0) }, stages: kept, out: shown };
     go_back(d, path, small.upto(n, tail))?;
     drop_box(d, &small.way_to(path, n))?;
     single(d, path)
