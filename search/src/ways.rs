@@ -26,8 +26,8 @@ const WAYS: [Looking; 11] = [
     // By a few steps of both, also between children that differ alone.
     (ANY, |search| alone(Short::near().between(search.source, search.target, 0))),
     // By what `optimise` makes of the source, and by what costs less than it.
-    (ANY, |search| search.to_target(Rewriting::Optimised)),
-    (ANY, |search| search.to_target(Rewriting::Cheaper)),
+    (ANY, |search| search.of_source(Rewriting::Optimised)),
+    (ANY, |search| search.of_source(Rewriting::Cheaper)),
     // At the places where the two differ.
     (ANY, |search| search.at_places(false, tuning::MOST_WORK)),
     // By what `optimise` makes of both, and by what costs less than both.
@@ -120,7 +120,7 @@ impl Search {
     }
 
     /// The steps of the source, where it is rewritten to the target.
-    fn to_target(&mut self, how: Rewriting) -> Both {
+    fn of_source(&mut self, how: Rewriting) -> Both {
         let (net, steps) = self.rewritten(how, self.source)?;
         alone(Some(steps).filter(|_| net == self.target))
     }

@@ -159,13 +159,15 @@ pub fn reduce_loops(d: &mut Draft) -> Option<()> {
 pub fn reduce(d: &mut Draft, path: &[u32]) -> Option<()> {
     for _ in 0..MOST_REDUCTIONS {
         let graph = Graph::of(&d.budget, Form::read(d.at(path)?)?)?;
-        let tries: [fn(&mut Draft, &[u32], &Graph) -> Option<()>; 5] = [dead_stage, constant_delay, restated, exchanged, dead_state];
+        let tries: [Reduction; 5] = [dead_stage, constant_delay, restated, exchanged, dead_state];
         if tries.iter().all(|reduction| attempted(d, |d| reduction(d, path, &graph)).is_none()) {
             return Some(());
         }
     }
     Some(())
 }
+
+type Reduction = fn(&mut Draft, &[u32], &Graph) -> Option<()>;
 
 /// Tries a reduction; where it fails the draft is as before.
 fn attempted(d: &mut Draft, reduction: impl FnOnce(&mut Draft) -> Option<()>) -> Option<()> {
