@@ -158,8 +158,8 @@ def keeps_to_it(search: Search) -> bool:
 
 
 def proved(search: Search, system: System, states: States, until: float, given: Sequence[Candidate] = (), way: str = "") -> bool:
-    """Tries induction from any state: with what is given and hinted, with equal leaves, and with what is guessed, ever more of it. What is proved is
-    told."""
+    """Tries induction from any state: with what is given and hinted, with equal leaves, and with what is guessed, ever more of it. What
+    is proved is told."""
     try:
         found = kept(system, [*given, *hinted(system)], until)
         if by_depths(search, system, FEW, found, min(until, search.by(0.1)), way):
