@@ -14,9 +14,8 @@ from workbench.proving.terms import Leaf, Terms, formula, is_truth, negation
 from workbench.proving.told import Foreign
 from workbench.proving.values import Tree
 
-# What Spacer finds soon depends on chance: it is tried by these seeds in turn, each with so much work, of which 2,000,000 take about
-# a second.
-SEEDS, WORK = (42, 0, 1, 2, 3), 5_000_000
+# What Spacer finds soon depends on chance: it is tried by these seeds in turn, each with so much work, which takes one to three seconds.
+SEEDS, WORK = (42, 0, 1, 2, 3), 2_000_000
 
 
 @dataclass(frozen=True)
