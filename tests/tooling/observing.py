@@ -5,7 +5,7 @@ import shlex
 import subprocess
 import time
 
-from tooling.common import TOP, in_files, leave_out, own_folder, patience, there, tool, want
+from tooling.common import NUMBERS, TOP, in_files, leave_out, own_folder, patience, there, tool, want
 
 NEEDS = ["z3"]
 ALONE = True
@@ -13,6 +13,8 @@ ALONE = True
 ROWS = TOP / "tests/proving/observers"
 # For how long each is looked at, of so many one is, and how many of them may stay open.
 SECONDS, EVERY, OPEN = 30, 5, 2
+# These are always tried: each wants a guess of its own.
+NAMED = ["fifo_sum", "lcm_true", "lock1000", "parity", "ums_speed_jump", "watchdog_timer"]
 # Of these a certificate is written, which cvc5 checks.
 CERTIFIED = ["antiwindup", "buffer100", "counter100", "cruise_modes", "gray3", "handshake", "hysteresis", "leaky", "microwave", "monotone"]
 CERTIFIED += ["movsum4", "prodcell", "readwrite", "retime", "square", "switch", "ticket", "traffic_timed", "ums_speed", "voter_latch"]
@@ -44,7 +46,7 @@ def asked(name, *words):
 
 def truths_are_told():
     every = [name for name, (truth, *_) in observers().items() if truth in STATUS]
-    some = every if os.environ.get("DEAR") else every[::EVERY]
+    some = every if os.environ.get("DEAR") else sorted({*every[::EVERY], *NAMED})
     open_ = []
     for name in some:
         status, told, seconds, _ = asked(name)
@@ -56,12 +58,28 @@ def truths_are_told():
     want("observers that stay open", len(open_) <= OPEN, open_)
 
 
+def checked_by_another(certificate):
+    """What cvc5 answers to each question of a certificate."""
+    ran = subprocess.run(["cvc5", "--lang", "smt2"], input=certificate, capture_output=True, text=True, timeout=300, check=False)
+    return ran.stdout.split()
+
+
+def equal_states_are_certified(folder):
+    """That two parts of the state are always equal is asked of the other solver too."""
+    count = "(loopPre 0 (arr (then (if (less (snd x) (fst x)) (add (snd x) 3) (snd x)) (pair x x))))"
+    (net,) = in_files(folder, net=f"{NUMBERS}(>>> (&&& {count} {count}) (arr (equal (less 50 (fst x)) (less 50 (snd x)))))")
+    status, output, error = tool("prove", net, "--seconds", "30", "--certificate", folder / "certificate")
+    certificate = (folder / "certificate").read_text()
+    want("a certificate of equal states", status == 0 and "if they held before it" in certificate, output + error + certificate)
+    answers = checked_by_another(certificate)
+    want("what is said of it", len(answers) == 4 and set(answers) == {"unsat"}, answers)
+
+
 def certificates_are_checked():
     for name in CERTIFIED if os.environ.get("DEAR") else CERTIFIED[::EVERY]:
         status, told, _, certificate = asked(name, "--certificate", "certificate")
-        ran = subprocess.run(["cvc5", "--lang", "smt2"], input=certificate, capture_output=True, text=True, timeout=300, check=False)
-        answers = ran.stdout.split()
-        want(f"certificate of {name}", status == 0 and len(answers) > 1 and set(answers) == {"unsat"}, told + ran.stdout + ran.stderr)
+        answers = checked_by_another(certificate)
+        want(f"certificate of {name}", status == 0 and len(answers) > 1 and set(answers) == {"unsat"}, told + " ".join(answers))
 
 
 def conditions_are_looked_at(folder):
@@ -76,6 +94,8 @@ def try_all() -> None:
     truths_are_told()
     if there("cvc5"):
         certificates_are_checked()
+        with own_folder() as folder:
+            equal_states_are_certified(folder)
     else:
         leave_out("since cvc5 isn't here: certificates by another solver")
     with own_folder() as folder:

@@ -2,6 +2,7 @@
 import os
 import re
 import time
+from dataclasses import replace
 from textwrap import dedent
 
 from model.trees import GREATEST
@@ -229,7 +230,7 @@ def what_is_stated_is_typed():
 
 
 def invariants_can_be_pasted(folder):
-    """What is printed of a proof is taken by the file that it is about, and the goal rests on it; of a core network it has positions."""
+    """What is printed of a proof is taken by the file that it is about, and the goal rests on it."""
     (path,) = in_files(folder, **{"Counter.hs": COUNTER})
     contract = contract_of(str(path), loaded(str(path)))
     printed = invariants_of(contract.question(contract.goals[0].net, Pace()), contract)
@@ -239,10 +240,46 @@ def invariants_can_be_pasted(folder):
     lemmas = tuple(one.net for one in again.invariants)
     want("pasted invariants", len(lemmas) == len([line for line in printed if "::" in line]), again.invariants)
     want("what rests on them", invariants_of(again.question(again.goals[0].net, Pace(), (), lemmas), again) is not None)
+
+
+def invariants_are_hints(folder):
+    """What is printed of a core network is taken by `--invariant`, and holds there; what says nothing of the network is refused."""
+    from workbench.proving.hints import hinted, hints_in
+    from workbench.proving.induction import kept
+    from workbench.proving.system import System
+    from workbench.proving.terms import Terms
+
     (net,) = in_files(folder, net=NUMBERS + "(>>> (loopPre 0 (arr (then (if (less 0 (fst x)) 5 (sub (snd x) 1)) (pair x x)))) (arr (less x 6)))")
     contract = contract_of(str(net), loaded(str(net)))
-    printed = invariants_of(contract.question(contract.goals[0].net, Pace()), contract)
+    question = contract.question(contract.goals[0].net, Pace(samples=100))
+    printed = invariants_of(question, contract)
     want("invariants of a core network", printed is not None and all("(at 0)" in line or "samples" in line for line in printed), printed)
+    (hints,) = in_files(folder, hints="\n".join(printed) + "\n  ; (mod (at 0) 3)\n")
+    candidates = hinted(System(replace(question, hints=hints_in(str(hints))), Terms(None)))
+    want("hints that hold", len(candidates) == len(printed) == len(kept(System(question, Terms(None)), candidates, time.monotonic() + 60)), candidates)
+    for hint in ("(less (at 7) 3)", "(at 0)", "(less (p 0) 3)", "(less 3)", "(add 1 2)", "(mod (at 0) 3)", "(less (at 0) 3", "(less 0 1))"):
+        (hints,) = in_files(folder, hints=hint)
+        status, output, error = tool("prove", net, "--invariant", hints)
+        want(f"no hint: {hint}", status == 1 and not output and error.startswith("yampa prove: ") and "hints: " in error and error.count("\n") == 1, output + error)
+    (net,) = in_files(folder, net=NUMBERS + CYCLE)
+    (hints,) = in_files(folder, hints="(and (less -1 (at 0)) (less (at 0) 6))")
+    status, output, error = tool("prove", net, "--invariant", hints, "--seconds", "60")
+    want("a hint", status == 0 and output.startswith("holds on every recording\n") and not error, output + error)
+
+
+def what_is_foreign_is_told():
+    """What Spacer says without a word of the language is tried too, and printed as a comment."""
+    import z3
+    from workbench.proving.integers import Lemma, said_by
+    from workbench.proving.spelling import in_core
+    from workbench.proving.terms import Terms
+
+    one, other = z3.Var(0, z3.IntSort()), z3.Var(1, z3.IntSort())
+    says = said_by(z3.Or(one % 3 == 2, other <= 4), 2)
+    want("a rest in words", in_core([says]) == ["  ; (or (equal (mod (p 1) 3) 2) (not (less 4 (p 0))))"], in_core([says]))
+    lemma = Lemma(says, term=z3.Or(one % 3 == 2, other <= 4))
+    found = [z3.is_true(z3.simplify(lemma.of(Terms(None), leaves))) for leaves in ([9, 5], [9, 4], [4, 9])]
+    want("a rest of numbers", found == [True, False, True], found)
 
 
 def invariants_of(question, contract):
@@ -261,6 +298,14 @@ def try_all() -> None:
     answers_are_right()
     seconds_are_held()
     what_is_stated_is_typed()
-    for check in (recordings_are_confirmed, states_are_searched_without_z3, files_say_what_is_to_hold, covers_come_about, invariants_can_be_pasted):
+    what_is_foreign_is_told()
+    for check in (
+        recordings_are_confirmed,
+        states_are_searched_without_z3,
+        files_say_what_is_to_hold,
+        covers_come_about,
+        invariants_can_be_pasted,
+        invariants_are_hints,
+    ):
         with own_folder() as folder:
             check(folder)

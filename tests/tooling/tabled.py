@@ -2,12 +2,18 @@
 long are tried where `tests/tools --dear` asks for it."""
 import os
 import re
+import time
+from unittest.mock import patch
 
 from model.texts import network_text, read_network
 from model.trees import expanded
 from workbench.program import call
+from workbench.proving.contract import contract_of
+from workbench.proving.question import Pace
+from workbench.proving.told import Holds, Search
+from workbench.proving.words import loaded
 
-from tooling.common import NUMBERS, TOP, each, in_folder, leave_out, own_folder, tool, want
+from tooling.common import NUMBERS, TOP, each, in_files, in_folder, leave_out, own_folder, patience, tool, want
 
 NEEDS = ["z3"]
 # The searches are held to the clock: no other module runs beside this one.
@@ -117,6 +123,21 @@ def goals_are_decided():
             want(f"{goal} of {name} {change[1][:60] if change else ''} {words[:2]}", found and re.match(row, found.group()), output + error)
 
 
+def spacer_needs_no_luck():
+    """It decides a goal by whichever seed it is tried with."""
+    from workbench.proving import search
+
+    with own_folder() as folder:
+        (path,) = in_files(folder, **{"Heartbeat.hs": with_goal(text_of("heartbeat"), "three")})
+        contract = contract_of(str(path), loaded(str(path)))
+        question = contract.question(contract.goals[0].net, Pace())
+    for seed in range(10 if DEAR else 3):
+        told: list = []
+        with patch.object(search, "SEEDS", (seed,)):
+            search.PROVING["spacer"](Search(question, time.monotonic() + 60 * patience(), 30, lambda stream: True, tell=told.append))
+        want(f"Spacer by seed {seed}", any(isinstance(one, Holds) for one in told), told)
+
+
 def counts_are_found():
     for (net, most), (_, output, error) in each(lambda case: in_folder(("prove", "net", "--seconds", "60"), net=case[0]), COUNTS, 2):
         want(f"a count to {most}", output == f"false at sample {most}: net.false\n", output + error)
@@ -184,6 +205,7 @@ def equal_ones_are_proved():
 
 def try_all() -> None:
     goals_are_decided()
+    spacer_needs_no_luck()
     counts_are_found()
     mutants_are_told_apart()
     planted_faults_are_falsified()

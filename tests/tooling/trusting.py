@@ -141,7 +141,7 @@ def small(type_, rng, numbers, lists):
 
 def told_of(question):
     """What each way of proof tells by itself, with its name."""
-    return [(name, told) for name in ("induction", "integers", "spacer", "reached", "states") for told in told_by(question, name)]
+    return [(name, told) for name in ("induction", "cases", "integers", "spacer", "reached", "states") for told in told_by(question, name)]
 
 
 def told_by(question, name):

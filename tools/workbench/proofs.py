@@ -5,9 +5,10 @@ from argparse import Namespace
 from dataclasses import replace
 from typing import Any
 
-from workbench.ending import INTERRUPTED, REFUSED, Refused, Words, write
+from workbench.ending import INTERRUPTED, REFUSED, Refused, Words, read, write
+from workbench.program import again
 from workbench.proving.contract import Contract, Said, contract_of, joined
-from workbench.proving.deciding import Decision, Verdict, Way, at_random, breaks, in_long_recordings, ways_or_none, wishes_of
+from workbench.proving.deciding import Decision, Verdict, Way, at_random, breaks, in_long_recordings, ways_of_z3, ways_or_none, wishes_of
 from workbench.proving.explicit import by_states
 from workbench.proving.question import OUTPUT, Question
 from workbench.proving.rows import Rows, counted, counted_covers
@@ -27,8 +28,9 @@ from workbench.streams import stream_text
 
 # For how many seconds it is looked whether the condition of what holds comes about, and how many a property has at least.
 CONDITION, LEAST = 10.0, 0.1
+INVARIANT = "an observer of the input that is proved first, and then used; or what --show prints of a core network"
 # The ways whose answers a certificate can be written of, and those that only find recordings.
-CERTIFIED = ("narrow", "bits", "induction", "integers", "spacer")
+CERTIFIED = ("narrow", "bits", "induction", "cases", "integers", "spacer")
 CERTIFICATE = """; By `yampa prove --certificate`. What is asked for holds if each check-sat answers unsat: by induction over the samples of the
 ; network's encoding, whose states are |state.N|, with the invariants that stand in comments. Trusted is the encoding alone."""
 
@@ -63,7 +65,7 @@ def prove_main() -> None:
     words = Words("prove", PROVE)
     words.add_argument("observer", metavar="OBSERVER")
     with_assumptions(words)
-    words.add_argument("--invariant", metavar="NET", action="append", default=[], help="an observer of the input that is proved first, and then used")
+    words.add_argument("--invariant", metavar="NET", action="append", default=[], help=INVARIANT)
     with_paces(words)
     with_limits(words, 60)
     words.add_argument("--goal", metavar="NAME", action="append", default=[], help="tries only the guarantee of this name")
@@ -85,6 +87,7 @@ class Proof:
         self.contract: Contract = contract_of(given.observer, loaded(given.observer))
         self.assumed = assumed(given.assume, self.contract.loaded.given)
         self.lemmas: tuple = ()
+        self.hints: tuple = ()
         self.pace = pace_of(given)
         self.goals, self.covers = self.asked(self.contract.goals), self.asked(self.contract.covers)
         for name in given.goal:
@@ -100,7 +103,7 @@ class Proof:
         for one in self.contract.invariants:
             self.lemma(one.name, one.net)
         for name in self.given.invariant:
-            self.lemma(name, (">>>", ("arr", ("fst", "x")), observing(name, self.contract.loaded.given, "is an invariant")))
+            self.use(name, again(name))
         goals, covers = self.decide_goals(), self.decide_covers()
         if goals and self.goals[0].name:
             print(counted(goals, self.question(self.goals[0].net)))
@@ -112,7 +115,7 @@ class Proof:
         return next((status for status in (REFUSED, INTERRUPTED, NOT_KNOWN) if status in found), 0)
 
     def question(self, net: Any) -> Question:
-        return self.contract.question(net, self.pace, self.assumed, self.lemmas)
+        return replace(self.contract.question(net, self.pace, self.assumed, self.lemmas), hints=self.hints)
 
     def decided(self, net: Any, seconds: float) -> Verdict:
         question = self.question(net)
@@ -123,6 +126,17 @@ class Proof:
         wishes = wishes_of(question.pace)
         states = {} if self.given.certificate else {"states": by_states}
         return {**self.ways, **states, "long": in_long_recordings(wishes), "short": at_random("short", question.numbers, wishes)}
+
+    def use(self, name: str, file: str) -> None:
+        """Takes in a file of what helps to prove: hints, each in parentheses, or an observer of the input."""
+        if not read(file).lstrip().startswith((b"(", b";")):
+            self.lemma(name, (">>>", ("arr", ("fst", "x")), observing(file, self.contract.loaded.given, "is an invariant")))
+            return
+        ways_of_z3(True)  # refused where z3 isn't there
+        from workbench.proving.hints import hints_in, refuse_others
+
+        self.hints = (*self.hints, *hints_in(file))
+        refuse_others(name, self.question((*self.goals, *self.covers)[0].net))
 
     def lemma(self, name: str, net: Any) -> None:
         """Proves an invariant, which is used from then on, if it only holds of recordings that aren't too long for these alone; one that

@@ -9,6 +9,8 @@ from workbench.proving.system import System
 from workbench.proving.terms import Leaf, Terms, all_of, both, formula, is_known, is_truth, negation
 from workbench.proving.values import decoded, mapped
 
+# What takes choices out of sums, and numbers that are equal to others out of all.
+PARTING = ("simplify", "propagate-values", "solve-eqs", "cofactor-term-ite", "simplify", "solve-eqs")
 DEPTHS = (1, 2, 4, 8, 12, 16, 24, 32, 48, 64, 96, 128, 192, 256, 384, 512, 768, 1024, 2048)
 
 
@@ -32,10 +34,16 @@ def solver_of(terms: Terms, until: float) -> z3.Solver:
     left = until - time.monotonic()
     if left <= 0:
         raise Unknown
-    logic = "QF_UFBV" if terms.named else "QF_BV"
-    solver = z3.SolverFor(logic) if terms.width else z3.Solver()
+    solver = made_for(terms)
     solver.set("timeout", max(1, int(min(left, 100_000) * 1000)))
     return solver
+
+
+def made_for(terms: Terms) -> z3.Solver:
+    if terms.parted:
+        return z3.Then(*PARTING, "simplify", "bit-blast", "sat").solver()
+    logic = "QF_UFBV" if terms.named else "QF_BV"
+    return z3.SolverFor(logic) if terms.width else z3.Solver()
 
 
 def satisfied(solver: z3.Solver) -> bool:

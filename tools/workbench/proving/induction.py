@@ -79,6 +79,19 @@ def needed(system: System, depth: int, invariants: list[Candidate], until: float
     return [invariants[number] for number in sorted(found)]
 
 
+def dropped(system: System, depth: int, invariants: list[Candidate], until: float) -> list[Candidate]:
+    """The invariants without those that aren't missed, each tried in its turn until the time is over: z3 tells no more where choices are
+    taken apart."""
+    for one in invariants:
+        left = [other for other in invariants if other is not one]
+        try:
+            solvers = [broken_goal(system, depth, left, until), *[solver for _, solver in broken_invariants(system, left, until)]]
+            invariants = invariants if any(map(satisfied, solvers)) else left
+        except Unknown:
+            break
+    return invariants
+
+
 def in_core(solver: z3.Solver, literals: list[z3.BoolRef]) -> set[int]:
     """The numbers of the literals without which there may be a solution."""
     if solver.check(*literals) != z3.unsat:

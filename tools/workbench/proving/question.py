@@ -60,7 +60,8 @@ def power(number: int) -> str:
 @dataclass(frozen=True)
 class Question:
     """Whether the goal, a network on the pair of the input and of what the networks output, ever outputs false. It is asked of
-    recordings on which the assumed networks, which see the input, output true; the lemmas see what the goal sees."""
+    recordings on which the assumed networks, which see the input, output true; the lemmas see what the goal sees. Hints may hold of the
+    states, as `hints` reads them."""
 
     given: Any
     nets: tuple
@@ -68,6 +69,7 @@ class Question:
     assumed: tuple = ()
     lemmas: tuple = ()
     pace: Pace = field(default_factory=Pace)
+    hints: tuple = ()
 
     @cached_property
     def observed(self) -> tuple:

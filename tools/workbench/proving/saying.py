@@ -4,6 +4,7 @@ from typing import Any
 from model.trees import is_form
 from workbench.proving.question import all_hold
 from workbench.proving.terms import LEAST, is_truth
+from workbench.proving.told import Foreign
 
 Tree = Any
 
@@ -48,6 +49,8 @@ def rest_is(tree: Tree, power: int, rest: int) -> Tree:
 
 def with_leaves(tree: Tree, leaves: list[Tree]) -> Tree:
     """The same with what the leaves are."""
+    if isinstance(tree, Foreign):
+        return Foreign(tree.word, tuple(with_leaves(part, leaves) for part in tree.parts))
     if not isinstance(tree, tuple):
         return tree
     return leaves[tree[1]] if tree[0] == "p" else (tree[0], *[with_leaves(part, leaves) for part in tree[1:]])

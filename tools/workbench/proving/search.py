@@ -1,14 +1,16 @@
 """The ways to answer a question, run side by side: bounded search, induction, unbounded integers."""
 import time
 from dataclasses import replace
+from itertools import product
 from typing import Callable, Iterator, Optional, Sequence
 
 import z3
 
 from workbench.proving.alike import equal_leaves
 from workbench.proving.bounded import Unknown, Unrolling, depths, fair_samples
-from workbench.proving.induction import Candidate, broken_goal, broken_invariants, is_inductive, kept, needed
-from workbench.proving.integers import Horn
+from workbench.proving.hints import hinted
+from workbench.proving.induction import Candidate, broken_goal, broken_invariants, dropped, is_inductive, kept, needed
+from workbench.proving.integers import SEEDS, Horn
 from workbench.proving.linear import Linear
 from workbench.proving.mining import FEW_STEPS, STEPS, States, Templates
 from workbench.proving.question import Pace, Question
@@ -112,6 +114,12 @@ def by_induction(search: Search) -> None:
             return
 
 
+def by_cases(search: Search) -> None:
+    """Over numbers that wrap, with choices taken apart: what is a sum in each case is compared part by part."""
+    if keeps_to_it(search):
+        proved(search, System(search.question, Terms(parted=True)), States(System(search.question, Terms())), search.until)
+
+
 def by_integers(search: Search) -> None:
     """Over integers, of which it is proved that none leaves 64 bits."""
     if keeps_to_it(search):
@@ -125,13 +133,15 @@ def in_integers(search: Search) -> None:
 
 def by_spacer(search: Search) -> None:
     """Over integers too; z3 finds invariants, which are tried as those that are guessed, and with them."""
-    system = System(search.question, Terms(None))
     if not keeps_to_it(search):
         return
-    horn = Horn(system, search.until)
-    found = horn.invariant() if horn.holds() else None
-    if not found or not proved(search, system, States(system), search.until, [found], "Spacer"):
-        search.tell(Searched("spacer", "Spacer finds none"))
+    for seed, strict in product(SEEDS, (True, False)):
+        system = System(search.question, Terms(None))
+        horn = Horn(system, search.until, seed, strict)
+        found = horn.lemmas() if horn.holds() else []
+        if found and proved(search, system, States(system), search.by(0.4), found, "Spacer"):
+            return
+    search.tell(Searched("spacer", "Spacer finds none"))
 
 
 def keeps_to_it(search: Search) -> bool:
@@ -148,10 +158,10 @@ def keeps_to_it(search: Search) -> bool:
 
 
 def proved(search: Search, system: System, states: States, until: float, given: Sequence[Candidate] = (), way: str = "") -> bool:
-    """Tries induction from any state: with what is given, with equal leaves, and with what is guessed, ever more of it. What is proved is
-    told."""
+    """Tries induction from any state: with what is given and hinted, with equal leaves, and with what is guessed, ever more of it. What
+    is proved is told."""
     try:
-        found = kept(system, [*given], until)
+        found = kept(system, [*given, *hinted(system)], until)
         if by_depths(search, system, FEW, found, min(until, search.by(0.1)), way):
             return True
         equal = found + equal_leaves(system, states.by(FEW_STEPS), found, until)
@@ -192,20 +202,22 @@ def by_depths(search: Search, system: System, depths: tuple, invariants: list[Ca
         found = Unrolling(System(search.question, terms), strict=True).search(0, depth + 1, search.until)
         if found:
             return seen(search, found)
-        invariants = shortened(system, depth, invariants)
+        whole = System(search.question, Terms(terms.width, system.terms.named, system.terms.parted))
+        invariants = shortened(whole, depth, invariants)
         told = way or f"induction over {depth + 1} sample{'s' * (depth > 0)}"
         bounded = system.pace.samples is not None and system.pace.fallback is not None
-        holds = Holds(told + ("" if terms.width else WITHIN), search.question.told(), bounded, viewed(system, invariants))
-        holds.obligations = obligations(search, system, depth, invariants) if search.obliged else []
+        holds = Holds(told + ("" if terms.width else WITHIN), search.question.told(), bounded, viewed(whole, invariants))
+        holds.obligations = obligations(search, whole, depth, invariants) if search.obliged else []
         search.tell(holds)
         return True
     return False
 
 
 def shortened(system: System, depth: int, invariants: list[Candidate]) -> list[Candidate]:
-    """The invariants that are needed, if that is known in a while."""
+    """The invariants that are needed, if that is known in a while, of a system that has learned none of them."""
+    find = dropped if system.terms.parted else needed
     try:
-        return needed(system, depth, invariants, time.monotonic() + NEEDED)
+        return find(system, depth, invariants, time.monotonic() + NEEDED)
     except (Unknown, z3.Z3Exception):
         return invariants
 
@@ -271,5 +283,10 @@ def unless_unknown(way: Way) -> Way:
 
 
 REFUTING = {"narrow": unless_unknown(by_narrow_numbers), "bits": unless_unknown(by_all_bits), "reached": unless_unknown(by_reaching)}
-INDUCTIVE = {"induction": also_bounded(by_induction), "integers": also_bounded(by_integers, in_integers), "spacer": also_bounded(by_spacer)}
+INDUCTIVE = {
+    "induction": also_bounded(by_induction),
+    "cases": also_bounded(by_cases),
+    "integers": also_bounded(by_integers, in_integers),
+    "spacer": also_bounded(by_spacer),
+}
 PROVING = {**REFUTING, **{name: unless_unknown(way) for name, way in INDUCTIVE.items()}}

@@ -9,7 +9,7 @@ from model.trees import is_form
 from workbench.haskell import Text, Writer, applied, atom, behind, infix, laid, lambda_of
 from workbench.layout import laid_out
 from workbench.origin import Program
-from workbench.proving.told import Cell, Path, Tree
+from workbench.proving.told import Cell, Foreign, Path, Tree
 from workbench.written import Node
 
 INDENT = 2
@@ -31,12 +31,20 @@ def spelt(trees: list[Tree], program: Program, given: Any, output: Any) -> list[
 
 
 def in_core(trees: list[Tree]) -> list[str]:
-    return [" " * INDENT + line for tree in trees for line in laid_out(node_of(tree), INDENT)]
+    """Each as it may be hinted, or as a comment where it has a word that the language hasn't."""
+    marks = ["; " if is_foreign(tree) else "" for tree in trees]
+    return [" " * INDENT + mark + line for tree, mark in zip(trees, marks) for line in laid_out(node_of(tree), INDENT + len(mark))]
+
+
+def is_foreign(tree: Tree) -> bool:
+    return isinstance(tree, Foreign) or isinstance(tree, tuple) and any(map(is_foreign, tree))
 
 
 def node_of(tree: Tree) -> Node:
     if isinstance(tree, Cell):
         tree = form_of(tree)
+    if isinstance(tree, Foreign):
+        tree = (tree.word, *tree.parts)
     word, *parts = tree if isinstance(tree, tuple) else (tree,)
     return Node(str(word), [node_of(part) for part in parts], 0, 0, "")
 
@@ -85,6 +93,9 @@ class Speller(Writer):
         if isinstance(tree, Cell):
             self.is_shown = False
             return atom(self.name(tree))
+        if isinstance(tree, Foreign):
+            self.is_shown = False
+            return applied(tree.word, [self.expression(part, given) for part in tree.parts])
         way = way_of(tree)
         if way is not None:
             return self.part(way)

@@ -81,10 +81,11 @@ def formula(a: Leaf) -> z3.BoolRef:
 class Terms:
     """Numbers of `width` bits, which wrap; where that is None they are unbounded integers, `ranges` keeps what must hold so that
     none leaves 64 bits, and `facts` what new numbers are. With `named` the product of two unknown numbers is a function of which nothing
-    else is known. What each part outputs is put into `outputs`, where that is asked for."""
+    else is known; with `parted` choices are taken out of sums before z3 solves, so that these cancel. What each part outputs is put into
+    `outputs`, where that is asked for."""
 
-    def __init__(self, width: Optional[int] = 64, named: bool = False):
-        self.width, self.named = width, named
+    def __init__(self, width: Optional[int] = 64, named: bool = False, parted: bool = False):
+        self.width, self.named, self.parted = width, named, parted
         self.guard: Leaf = True
         self.ranges: list[Leaf] = []
         self.facts: list[Leaf] = []

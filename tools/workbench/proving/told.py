@@ -22,6 +22,14 @@ class Cell:
     outputs: tuple[tuple[tuple, Path], ...] = ()
 
 
+@dataclass(frozen=True)
+class Foreign:
+    """What z3 says and the language has no word for: the word of SMT-LIB, and what it is said of."""
+
+    word: str
+    parts: tuple
+
+
 @dataclass
 class Holds:
     """The goal holds: by which way, on which recordings, with which invariants, and who says so. It is bounded where that was only
