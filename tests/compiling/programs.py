@@ -86,7 +86,7 @@ def objects(bench):
         source = bench.source("object.c", "--no-main", "--name", "seen", net)
         bench.built("object.o", [source], None, "-c")
         names = [line.split()[-2:] for line in bench.ran(["nm", "object.o"]).output.decode().splitlines()]
-        shared = {name for kind, name in names if kind == "T"}
+        shared = {re.sub(r"_[0-9a-f]{16}$", "", name) for kind, name in names if kind == "T"}
         variables = {name for kind, name in names if kind in "bBdDC"}
         called = {name for kind, name in names if kind == "U"}
         if shared != {"seen_init", "seen_step"} or variables or called - CALLED:

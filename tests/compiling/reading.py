@@ -121,6 +121,9 @@ class Reader:
 
     def top_level(self):
         if self.has("typedef"):
+            if self.has("char"):
+                self.assertion()
+                return
             type_, name = self.declared()
             self.named[name] = type_
             self.want(";")
@@ -133,6 +136,11 @@ class Reader:
             while self.next_is("static", "inline"):
                 self.at += 1
             self.function(*self.declared())
+
+    def assertion(self):
+        """An array that has a length if a state has at most so many bytes: here bytes aren't counted."""
+        while not self.has(";"):
+            self.take()
 
     def members(self):
         self.want("{")

@@ -121,7 +121,8 @@ def names_in_c(folder: Path) -> None:
     for way in (["gcc", "-std=c99"], ["g++", "-x", "c++", "-std=c++11"]):
         ran = subprocess.run([*way, *WARNINGS, f"-I{folder}", "-o", made, *sources], capture_output=True, text=True, check=False)
         want(f"names in C by {way[0]}", (ran.returncode, ran.stderr) == (0, ""), ran.stderr)
-        want(f"steps by names, by {way[0]}", subprocess.run([made], capture_output=True, text=True, check=False).stdout == STEPPED)
+        ran = subprocess.run([made], capture_output=True, text=True, check=False)
+        want(f"steps by names, by {way[0]}", (ran.returncode, ran.stdout) == (0, STEPPED), ran)
     derived_names(folder, parts / "Parts.hs")
     plain, = in_files(folder, **{"Plain.hs": "module Plain where\nimport Yampa.Whole\nplain :: SF Int Int\nplain = iPre 0\n"})
     want("a header without names", "step_named" not in compiled("compile", "--header", plain))

@@ -2,7 +2,7 @@
 
 The comment of each function and of each struct of a state also says where the file has that part. A header of a network whose input or
 output has names has a second part: structs and enumerations that are called as in the file, and `P_step_named`, which takes and answers
-them, by copies to and from the structs of `P_step`.
+them, by copies to and from the structs of `P_step`, and returns what that returns.
 
 | Haskell | C, where a file of the name P is made |
 |---|---|
@@ -27,6 +27,7 @@ from workbench.outline import position_in
 ENTRY = re.compile(r"^(/\* \S+ at (\(at[ \d]*\))): ", re.M)
 STRUCT = re.compile(r"^struct (\w+) \{ (.*) \}; /\* (.*) \*/$", re.M)
 BOUND = re.compile(r" e\[(\d+)\];")
+CHECKED = re.compile(r"^bool \w+_step\(", re.M)
 SCALARS = {"Int": "int64_t", "Bool": "bool", "Unit": "uint8_t"}
 # What a header ends with, and a whole file doesn't.
 END = "\n#endif\n"
@@ -73,6 +74,7 @@ class NamedPart:
     def __init__(self, prefix: str, program: Program, header: str):
         self.prefix, self.input, self.output = prefix, program.translation.input, program.translation.output
         self.structs = {type_: (name, inner) for name, inner, type_ in STRUCT.findall(header)}
+        self.is_checked = CHECKED.search(header) is not None
         self.types: dict[Shape, str] = {}
         # Of each data with constructors, the constants that stand for them.
         self.constants: dict[Shape, dict[str, str]] = {}
@@ -93,13 +95,15 @@ class NamedPart:
     def step(self, given: str, answer: str) -> str:
         """`P_step_named`, which copies input and output where they have names."""
         p = self.prefix
-        lines = [f"static inline void {p}_step_named(struct {p}_state *state, int64_t dt, const {given} *input, {answer} *output) {{"]
-        before, call, after = self.around(self.input, True), [f"{p}_step(state, dt"], self.around(self.output, False)
+        returned = "bool" if self.is_checked else "void"
+        lines = [f"static inline {returned} {p}_step_named(struct {p}_state *state, int64_t dt, const {given} *input, {answer} *output) {{"]
+        before, after = self.around(self.input, True), self.around(self.output, False)
         lines += [f"    {p}_input given;", f"    {before}(&given, input);"] if before else []
         lines += [f"    {p}_output answer;"] if after else []
-        call += ["&given" if before else "input", "&answer" if after else "output"]
-        lines += [f"    {', '.join(call)});"]
+        call = f"{p}_step(state, dt, {'&given' if before else 'input'}, {'&answer' if after else 'output'})"
+        lines += [f"    if (!{call}) {{ return false; }}" if self.is_checked else f"    {call};"]
         lines += [f"    {after}(output, &answer);"] if after else []
+        lines += ["    return true;"] if self.is_checked else []
         return "\n".join([*lines, "}", ""])
 
     def around(self, shape: Shape, is_in: bool) -> str:

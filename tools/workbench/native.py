@@ -2,6 +2,7 @@
 import contextlib
 import hashlib
 import os
+import re
 import resource
 import shlex
 import shutil
@@ -32,6 +33,8 @@ UNWRITTEN = b"output: cannot be written\n"
 # What the stack has room for besides: the words of the call, the variables of the environment, the C library.
 BESIDE = 1 << 20
 TOLD = ["yampa_init", "yampa_step", "main"]
+# What the names of functions have behind them that others may call.
+SUM = re.compile(r"_[0-9a-f]{16}$")
 # What compiler and linker say of values that no program holds.
 TOO_LARGE = [b"relocation truncated", b"exceeds maximum", b"too large"]
 SHORTER = "--most makes lists shorter"
@@ -133,7 +136,7 @@ def not_compiled(command: list[str], ran: subprocess.CompletedProcess[bytes]) ->
 def told_in(folder: Path) -> str:
     """What gcc left in a folder of the stack, or nothing."""
     graphs = list(folder.glob("*.ci"))
-    taken = deepest(graphs[0].read_text()) if graphs else {}
+    taken = {SUM.sub("", name): size for name, size in (deepest(graphs[0].read_text()) if graphs else {}).items()}
     return "".join(f"{name} {taken[name]}\n" for name in TOLD if name in taken)
 
 

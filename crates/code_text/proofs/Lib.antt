@@ -1,3 +1,4 @@
 -- Lemmas.
 pub mod Joined
 pub mod NamedLemmas
+pub mod FoldedLemmas

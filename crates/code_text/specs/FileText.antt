@@ -1,5 +1,5 @@
 -- The C of a network: a file.
-use Rattle.std.specs.Prelude.{ℕ, suc, ◌-◌, if◌then◌else◌, List, [], ◌∷◌, ◌++◌, codes, length, map, slice_get, Option, Some, None}
+use Rattle.std.specs.Prelude.{ℕ, suc, ◌-◌, Bool, true, false, if◌then◌else◌, List, [], ◌∷◌, ◌++◌, codes, length, map, slice_get, Option, Some, None}
 use Rattle.sample_core.specs.TypeTree.{TypeTree, unit_ty}
 use Rattle.sample_core.specs.TypeView.{type_of}
 use Rattle.net_code.specs.declared.statement.Function.{Function}
@@ -14,24 +14,30 @@ use Rattle.code_text.specs.PieceView.{pieces_if}
 use Rattle.code_text.specs.NamedText.{with_each}
 use Rattle.code_text.specs.TypeText.{structs_text, helpers_text}
 use Rattle.code_text.specs.ScopeText.{Named, Caller}
-use Rattle.code_text.specs.FixedText.{use_pieces, opening_pieces, prototype_pieces, numbers_text, entries_text}
+use Rattle.code_text.specs.FixedText.{use_pieces, opening_pieces, bounded_pieces, prototype_pieces, numbers_text, entries_text, step_text}
+use Rattle.code_text.specs.FoldedText.{folded_lines}
+use Rattle.code_text.specs.Fingerprint.{fingerprint}
+use Rattle.code_text.specs.FitsText.{all_fits}
 use Rattle.code_text.specs.KeptText.{own_structs}
 use Rattle.code_text.specs.FunctionText.{input_type, output_type, comment_text, function_text}
 use Rattle.code_text.specs.FilterText.{filter_text}
 
 -- how a network's C is printed: the prefix of its names, what of it, how many elements the lists of
--- its input have at most, and the text and the weight of the network
+-- its input have at most, whether its step is unchecked, the program's version, and the text and the
+-- weight of the network
 pub record Options : Type 0 where
   pub prefix : List ℕ
   pub printed : Printed
   pub most : ℕ
+  pub unchecked : Bool
+  pub version : List ℕ
   pub network : List ℕ
   pub weight : ℕ
 
 -- the ones that an `Options` is
 abbrev pub options_in : D.Options → Options
 options_in o =
-    record { prefix = o.prefix.now; printed = o.printed; most = o.most; network = o.network.now; weight = o.weight }
+    record { prefix = o.prefix.now; printed = o.printed; most = o.most; unchecked = o.unchecked; version = o.version.now; network = o.network.now; weight = o.weight }
 
 -- the types of a program
 abbrev pub types_of : Named → List TypeTree
@@ -81,13 +87,25 @@ posix_pieces P.Filter = text POSIX.now ∷ []
 posix_pieces P.Functions = []
 posix_pieces P.Header = []
 
+-- the word for an unchecked step, with a blank before it
+abbrev pub unchecked_word : Bool → List ℕ
+unchecked_word true = codes " --unchecked"
+unchecked_word false = codes ""
+
+-- the words of the command that change what is printed
+abbrev pub options_pieces : Options → List Piece
+options_pieces o =
+    text (codes ":\n * `yampa compile --name ") ∷ name ∷ text (codes " --most ") ∷ number o.most
+    ∷ text (unchecked_word o.unchecked) ∷ text (codes "`, of the network\n *\n * ") ∷ []
+
 -- the file of a program, of which c is the last function
 module _ (c : Caller) (o : Options) where
-  -- the comment at the top: the types, the network's lines, how it is used, and its figures
+  -- the comment at the top: the types, the version, the options, the network, how it is used, and its
+  -- figures
   abbrev pub types_pieces : List Piece
   types_pieces =
       text (codes "/* ") ∷ name ∷ text (codes ": ") ∷ spelt (input_type c) ∷ text (codes " -> ")
-      ∷ spelt (output_type c) ∷ text (codes ". By `yampa compile`, of the network\n *\n * ") ∷ []
+      ∷ spelt (output_type c) ∷ text (codes "\n *\n * By yampa ") ∷ []
 
   abbrev pub figures_pieces : List Piece
   figures_pieces =
@@ -98,8 +116,10 @@ module _ (c : Caller) (o : Options) where
   abbrev pub about_text : List ℕ
   about_text =
       pieces_text o.prefix types_pieces
-      ++ (with_each 10 (codes "\n * ") o.network
-      ++ (pieces_text o.prefix use_pieces ++ pieces_text o.prefix figures_pieces))
+      ++ (with_each 10 (codes ", ") o.version
+      ++ (pieces_text o.prefix (options_pieces o)
+      ++ (folded_lines [] o.network
+      ++ (pieces_text o.prefix (use_pieces o.unchecked) ++ pieces_text o.prefix figures_pieces))))
 
   -- the struct of all that is kept: what the last function keeps
   abbrev pub stored_pieces : List Piece
@@ -114,17 +134,27 @@ module _ (c : Caller) (o : Options) where
       ++ (pieces_text o.prefix (type_name (output_type c) (codes "_output"))
       ++ (pieces_text o.prefix
       (text (codes "\nstruct ") ∷ name ∷ text (codes "_state {\n    bool started;\n") ∷ [])
-      ++ (pieces_text o.prefix stored_pieces ++ pieces_text o.prefix (text (codes "};\n") ∷ []))))
+      ++ (pieces_text o.prefix stored_pieces
+      ++ (pieces_text o.prefix (text (codes "};\n") ∷ []) ++ pieces_text o.prefix bounded_pieces))))
 
-  -- the declarations: the comment, types, structs, and what a program calls
-  abbrev pub declarations_text : List ℕ
-  declarations_text =
-      about_text
-      ++ (pieces_text o.prefix (posix_pieces o.printed)
-      ++ (pieces_text o.prefix opening_pieces
+  -- the declarations with a fingerprint: types, structs, and what a program calls
+  abbrev pub declared_text : ℕ → List ℕ
+  declared_text sum =
+      pieces_text o.prefix (posix_pieces o.printed)
+      ++ (pieces_text o.prefix (opening_pieces sum c.named.program.state_bytes)
       ++ (structs_text o.prefix c.named.program.bounds.items 0 (types_of c.named)
       ++ (all_kept c.named 0 c.named.program.functions.items
-      ++ (state_text ++ pieces_text o.prefix prototype_pieces)))))
+      ++ (state_text ++ pieces_text o.prefix (prototype_pieces o.unchecked)))))
+
+  -- the comment, and the declarations with its fingerprint
+  abbrev pub declarations_text : List ℕ
+  declarations_text = about_text ++ declared_text (fingerprint about_text)
+
+  -- the tests of the input's lists, where the step isn't unchecked
+  abbrev pub tests_text : Bool → List ℕ
+  tests_text true = []
+  tests_text false =
+      all_fits o.prefix c.named.program.bounds.items (input_type c) 0 (types_of c.named)
 
   -- the functions: on numbers and types, of the network, and the two that a program calls
   abbrev pub definitions_text : List ℕ
@@ -132,7 +162,8 @@ module _ (c : Caller) (o : Options) where
       numbers_text o.prefix
       ++ (helpers_text o.prefix (types_of c.named)
       ++ (all_functions c.named 0 c.named.program.functions.items
-      ++ entries_text o.prefix c.number c.layout.keeps))
+      ++ (entries_text o.prefix c.number c.layout.keeps
+      ++ (tests_text o.unchecked ++ step_text o.prefix o.unchecked (input_type c)))))
 
   -- the functions, and what they stand on; the same with a filter
   abbrev pub plain_text : List ℕ

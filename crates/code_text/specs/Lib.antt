@@ -7,6 +7,9 @@ pub mod CellText
 pub mod NamedText
 pub mod FilterText
 pub mod FixedText
+pub mod Fingerprint
+pub mod FitsText
+pub mod FoldedText
 pub mod FileText
 pub mod ScopeText
 pub mod CollectionText

@@ -1,6 +1,6 @@
 -- Pieces of C, and their text. P is the prefix of all of a network's names.
-use Rattle.std.specs.Prelude.{ℕ, zero, suc, ℤ, List, [], ◌∷◌, ◌++◌, codes}
-use Rattle.std.specs.Fmt.{decimal, signed_decimal}
+use Rattle.std.specs.Prelude.{ℕ, zero, suc, ◌-◌, ◌^◌, ℤ, false, List, [], ◌∷◌, ◌++◌, codes}
+use Rattle.std.specs.Fmt.{decimal, digits, format_spec, padded_integral, signed_decimal}
 use Rattle.sample_core.specs.TypeTree.{TypeTree, unit_ty, bool_ty, int_ty, pair_ty, event_ty, list_ty}
 use Rattle.sample_core.specs.Spelling.{type_spelling}
 
@@ -34,6 +34,10 @@ c_type P bool_ty = codes "bool"
 c_type P int_ty = codes "int64_t"
 c_type P T = struct_of P T
 
+-- a number of 64 bits as 16 hexadecimal digits
+abbrev pub sixteen_digits : ℕ → List ℕ
+sixteen_digits n = padded_integral (format_spec 32 0 4 16 (2 ^ 64 - 1)) false [] (digits 16 false n)
+
 -- a piece of C
 pub data Piece : Type 0 where
   -- these bytes
@@ -42,6 +46,7 @@ pub data Piece : Type 0 where
   name : Piece
   number : ℕ → Piece
   signed : ℤ → Piece
+  hex : ℕ → Piece
   -- a type in C, its letters, and as the language spells it
   ty : TypeTree → Piece
   letter : TypeTree → Piece
@@ -56,6 +61,7 @@ piece_text P (text s) = s
 piece_text P name = P
 piece_text P (number n) = decimal n
 piece_text P (signed n) = signed_decimal n
+piece_text P (hex n) = sixteen_digits n
 piece_text P (ty T) = c_type P T
 piece_text P (letter T) = letters T
 piece_text P (spelt T) = type_spelling T

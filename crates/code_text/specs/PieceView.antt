@@ -12,6 +12,7 @@ piece_of (V.Text s) = S.text s.now
 piece_of V.Name = S.name
 piece_of (V.Number n) = S.number n
 piece_of (V.Signed n) = S.signed n
+piece_of (V.Hex n) = S.hex n
 piece_of (V.Type T) = S.ty (type_of T.now)
 piece_of (V.Letters T) = S.letter (type_of T.now)
 piece_of V.UnitType = S.ty unit_ty

@@ -3,11 +3,16 @@
 ghost use Rattle.std.specs.Prelude.{◌≡◌, ◌++◌, IfOk, MatchOption, None, Some, slice_get, string_bytes};
 ghost use Rattle.sample_core.specs.TypeView.{type_of};
 ghost use Rattle.code_text.specs.{FunctionText.function_text, Piece.pieces_text, ScopeText.caller_in, ScopeText.named_in};
-ghost use Rattle.code_text.specs.FileText.{about_text, all_functions, all_kept, c_of, caller, declarations_text, definitions_text, figures_pieces, file_of, file_text, filtered_text, kept_struct, kept_text, options_in, plain_text, posix_pieces, printed_text, state_text, stored_pieces, text_at, type_name, types_pieces};
+ghost use Rattle.code_text.specs.FileText.{about_text, all_functions, all_kept, c_of, caller, declarations_text, declared_text, definitions_text, figures_pieces, file_of, file_text, filtered_text, kept_struct, kept_text, options_in, options_pieces, plain_text, posix_pieces, printed_text, state_text, stored_pieces, tests_text, text_at, type_name, types_pieces, unchecked_word};
 
 use crate::file_text::{FILTER_INCLUDES, PLAIN_INCLUDES, POSIX};
 use crate::filter::push_filter;
-use crate::fixed::{push_entries, push_numbers, push_opening, push_prototypes, push_use};
+use crate::fingerprint::fingerprint;
+use crate::fits::push_all_fits;
+use crate::fixed::{
+    push_bounded, push_entries, push_numbers, push_opening, push_prototypes, push_step, push_use,
+};
+use crate::folded::push_folded;
 use crate::function::{push_comment, push_function};
 use crate::kept::push_kept;
 use crate::named::push_with_each;
@@ -30,13 +35,15 @@ pub enum Printed {
     Header,
 }
 
-/// How a network's C is printed: with this prefix, and this text of the network's file in its comment; the lists of its input have
-/// at most so many elements.
+/// How a network's C is printed: with this prefix, by this version of the program, and with this text of the network's file in its
+/// comment; the lists of its input have at most so many elements; its step tests what it is given, or is unchecked.
 #[derive(Clone, Copy)]
 pub struct Options<'a> {
     pub prefix: &'a str,
     pub printed: Printed,
     pub most: usize,
+    pub unchecked: bool,
+    pub version: &'a str,
     pub network: &'a str,
     pub weight: u64,
 }
@@ -118,7 +125,7 @@ fn push_file(
     ensures { IfOk result (λ _. string_bytes text.new
         ≡ string_bytes text.old ++ file_text (caller_in last.entry) (options_in options.entry)) }
 {
-    push_declarations(text, last, options)?;
+    push_declarations(alloc, text, last, options)?;
     push_printed(alloc, text, last, options)
 }
 
@@ -172,8 +179,9 @@ fn push_filtered(
     push_filter(text, options.prefix, types, input, output, options.most)
 }
 
-/// The comment, types and structs, and what a program calls.
+/// The comment, and the declarations, which have its fingerprint.
 fn push_declarations(
+    alloc: Global,
     text: &mut String,
     last: Caller<'_>,
     options: Options<'_>,
@@ -181,9 +189,31 @@ fn push_declarations(
     ensures { IfOk result (λ _. string_bytes text.new
         ≡ string_bytes text.old ++ declarations_text (caller_in last.entry) (options_in options.entry)) }
 {
-    push_about(text, last, options)?;
+    let about = about(alloc, last, options)?;
+    let sum = fingerprint(about.as_bytes());
+    let pushed = text.push_str(about.as_str());
+    drop(about);
+    pushed?;
+    push_declared(text, last, options, sum)
+}
+
+/// The types and structs, and what a program calls.
+fn push_declared(
+    text: &mut String,
+    last: Caller<'_>,
+    options: Options<'_>,
+    sum: u64,
+) -> Result<(), Memory>
+    ensures { IfOk result (λ _. string_bytes text.new ≡ string_bytes text.old
+        ++ declared_text (caller_in last.entry) (options_in options.entry) sum) }
+{
     push_posix(text, options)?;
-    push_opening(text, options.prefix)?;
+    push_opening(
+        text,
+        options.prefix,
+        sum,
+        last.named.program.state_bytes as usize,
+    )?;
     push_structs(
         text,
         options.prefix,
@@ -192,7 +222,7 @@ fn push_declarations(
     )?;
     push_all_kept(text, last.named)?;
     push_state(text, last, options)?;
-    push_prototypes(text, options.prefix)
+    push_prototypes(text, options.prefix, options.unchecked)
 }
 
 /// What POSIX has, where there is a filter.
@@ -207,14 +237,26 @@ fn push_posix(text: &mut String, options: Options<'_>) -> Result<(), Memory>
     Ok(())
 }
 
+/// The comment at the top, by itself.
+fn about(alloc: Global, last: Caller<'_>, options: Options<'_>) -> Result<String, Memory>
+    ensures { IfOk result (λ text. string_bytes text
+        ≡ about_text (caller_in last.entry) (options_in options.entry)) }
+{
+    let mut text = String::new(alloc);
+    push_about(&mut text, last, options)?;
+    Ok(text)
+}
+
 /// The comment at the top.
 fn push_about(text: &mut String, last: Caller<'_>, options: Options<'_>) -> Result<(), Memory>
     ensures { IfOk result (λ _. string_bytes text.new
         ≡ string_bytes text.old ++ about_text (caller_in last.entry) (options_in options.entry)) }
 {
     push_types(text, last, options)?;
-    push_with_each(text, '\n', "\n * ", options.network)?;
-    push_use(text, options.prefix)?;
+    push_with_each(text, '\n', ", ", options.version)?;
+    push_options(text, options)?;
+    push_folded(text, options.network)?;
+    push_use(text, options.prefix, options.unchecked)?;
     push_figures(text, last, options)
 }
 
@@ -235,7 +277,34 @@ fn push_types(text: &mut String, last: Caller<'_>, options: Options<'_>) -> Resu
             Piece::Spelt(input),
             Piece::Text(" -> "),
             Piece::Spelt(output),
-            Piece::Text(". By `yampa compile`, of the network\n *\n * "),
+            Piece::Text("\n *\n * By yampa "),
+        ],
+    )
+}
+
+/// The word for an unchecked step, with a blank before it.
+fn unchecked_word(unchecked: bool) -> &'static str
+    ensures { result.now ≡ unchecked_word unchecked }
+{
+    if unchecked { " --unchecked" } else { "" }
+}
+
+/// The words of the command that change what is printed.
+fn push_options(text: &mut String, options: Options<'_>) -> Result<(), Memory>
+    ensures { IfOk result (λ _. string_bytes text.new ≡ string_bytes text.old
+        ++ pieces_text options.entry.prefix.now (options_pieces (options_in options.entry))) }
+{
+    let unchecked = unchecked_word(options.unchecked);
+    push(
+        text,
+        options.prefix,
+        &[
+            Piece::Text(":\n * `yampa compile --name "),
+            Piece::Name,
+            Piece::Text(" --most "),
+            Piece::Number(options.most),
+            Piece::Text(unchecked),
+            Piece::Text("`, of the network\n *\n * "),
         ],
     )
 }
@@ -328,7 +397,8 @@ fn push_state(text: &mut String, last: Caller<'_>, options: Options<'_>) -> Resu
         ],
     )?;
     push_stored(text, last, options)?;
-    push(text, options.prefix, &[Piece::Text("};\n")])
+    push(text, options.prefix, &[Piece::Text("};\n")])?;
+    push_bounded(text, options.prefix)
 }
 
 /// What the last function keeps, if it keeps something.
@@ -393,7 +463,28 @@ fn push_definitions(
         last.named.program.types.trees.as_slice(),
     )?;
     push_all_functions(alloc, text, last.named)?;
-    push_entries(text, options.prefix, last.number, last.layout.keeps)
+    push_entries(text, options.prefix, last.number, last.layout.keeps)?;
+    push_tests(text, last, options)?;
+    let input = last.named.ty(last.layout.input);
+    push_step(text, options.prefix, options.unchecked, input)
+}
+
+/// The tests of the input's lists, where the step isn't unchecked.
+fn push_tests(text: &mut String, last: Caller<'_>, options: Options<'_>) -> Result<(), Memory>
+    ensures { IfOk result (λ _. string_bytes text.new
+        ≡ string_bytes text.old ++ tests_text (caller_in last.entry) (options_in options.entry) options.entry.unchecked) }
+{
+    if !options.unchecked {
+        let input = last.named.ty(last.layout.input);
+        push_all_fits(
+            text,
+            options.prefix,
+            last.named.program.types.trees.as_slice(),
+            last.named.program.bounds.as_slice(),
+            input,
+        )?;
+    }
+    Ok(())
 }
 
 /// Each function.

@@ -76,7 +76,7 @@ fn is_same(a: &Ty, b: &Ty) -> bool
 
 /// Whether a type is this one or a part of it.
 #[cycle(is_part)]
-fn is_part(ty: &Ty, whole: &Ty) -> bool
+pub(crate) fn is_part(ty: &Ty, whole: &Ty) -> bool
     ensures { result ≡ is_part (type_of ty.now) (type_of whole.now) }
 {
     match whole {

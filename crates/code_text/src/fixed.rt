@@ -1,17 +1,21 @@
 // The C that each file has: numbers, and the two functions that a program calls.
 
-ghost use Rattle.std.specs.Prelude.{◌≡◌, ◌++◌, IfOk, string_bytes};
+ghost use Rattle.std.specs.Prelude.{◌≡◌, ◌++◌, ◌&&◌, IfOk, not, string_bytes};
+ghost use Rattle.sample_core.specs.TypeView.{type_of};
 ghost use Rattle.code_text.specs.Piece.{pieces_text};
-ghost use Rattle.code_text.specs.FixedText.{binary_pieces, entries_text, init_pieces, numbers_text, opening_pieces, passed, prototype_pieces, step_pieces, use_pieces, wrapped_pieces};
+ghost use Rattle.code_text.specs.FitsText.{has_lists};
+ghost use Rattle.code_text.specs.FixedText.{binary_pieces, bounded_pieces, ended, entries_text, go_pieces, init_pieces, numbers_text, opening_pieces, passed, promised, prototype_pieces, returned, step_end, step_head, step_text, use_pieces, wrapped_pieces};
 
-use crate::piece::{Piece, push};
-use sample_core::Memory;
+use crate::fits::has_lists;
+use crate::piece::{Piece, push, push_if};
+use sample_core::{Memory, Ty};
 
 /// How a program uses the file, in the comment.
-pub(crate) fn push_use(text: &mut String, prefix: &str) -> Result<(), Memory>
+pub(crate) fn push_use(text: &mut String, prefix: &str, unchecked: bool) -> Result<(), Memory>
     ensures { IfOk result (λ _. string_bytes text.new
-        ≡ string_bytes text.old ++ pieces_text prefix.now (use_pieces)) }
+        ≡ string_bytes text.old ++ pieces_text prefix.now (use_pieces unchecked)) }
 {
+    let promised = promised(unchecked);
     push(
         text,
         prefix,
@@ -25,16 +29,33 @@ pub(crate) fn push_use(text: &mut String, prefix: &str) -> Result<(), Memory>
             ),
             Piece::Name,
             Piece::Text(
-                "_step(&state, dt, &input, &output);      at each sample: dt is the time since the sample before, at least 1; at the first sample\n *                                           it is not looked at\n",
+                "_step(&state, dt, &input, &output);      at each sample\n *\n * dt is the time since the sample before, at least 1; at the first sample it is not looked at.\n * Lists of the input have at most as many elements as their arrays. ",
             ),
+            Piece::Text(promised),
         ],
     )
 }
 
-/// The beginning of the declarations.
-pub(crate) fn push_opening(text: &mut String, prefix: &str) -> Result<(), Memory>
+/// Who sees to both.
+fn promised(unchecked: bool) -> &'static str
+    ensures { result.now ≡ promised unchecked }
+{
+    if unchecked {
+        "The caller sees to both.\n"
+    } else {
+        "Else the step\n * does nothing, and returns false.\n"
+    }
+}
+
+/// The beginning of the declarations, with a fingerprint, and the bytes that the state has at most.
+pub(crate) fn push_opening(
+    text: &mut String,
+    prefix: &str,
+    fingerprint: u64,
+    bytes: usize,
+) -> Result<(), Memory>
     ensures { IfOk result (λ _. string_bytes text.new
-        ≡ string_bytes text.old ++ pieces_text prefix.now (opening_pieces)) }
+        ≡ string_bytes text.old ++ pieces_text prefix.now (opening_pieces fingerprint bytes)) }
 {
     push(
         text,
@@ -44,16 +65,66 @@ pub(crate) fn push_opening(text: &mut String, prefix: &str) -> Result<(), Memory
             Piece::Name,
             Piece::Text("_h\n#define "),
             Piece::Name,
-            Piece::Text("_h\n\n#include <stdbool.h>\n#include <stdint.h>\n\n"),
+            Piece::Text(
+                "_h\n\n#include <stdbool.h>\n#include <stdint.h>\n\n/* The sum of the comment above, so that only a header and a file of the same one link. */\n#define ",
+            ),
+            Piece::Name,
+            Piece::Text("_init "),
+            Piece::Name,
+            Piece::Text("_init_"),
+            Piece::Hex(fingerprint),
+            Piece::Text("\n#define "),
+            Piece::Name,
+            Piece::Text("_step "),
+            Piece::Name,
+            Piece::Text("_step_"),
+            Piece::Hex(fingerprint),
+            Piece::Text("\n#define "),
+            Piece::Name,
+            Piece::Text("_STATE_BYTES "),
+            Piece::Number(bytes),
+            Piece::Text("\n\n"),
         ],
     )
 }
 
-/// What a program calls.
-pub(crate) fn push_prototypes(text: &mut String, prefix: &str) -> Result<(), Memory>
+/// No compiler takes a state that has more bytes than that.
+pub(crate) fn push_bounded(text: &mut String, prefix: &str) -> Result<(), Memory>
     ensures { IfOk result (λ _. string_bytes text.new
-        ≡ string_bytes text.old ++ pieces_text prefix.now (prototype_pieces)) }
+        ≡ string_bytes text.old ++ pieces_text prefix.now (bounded_pieces)) }
 {
+    push(
+        text,
+        prefix,
+        &[
+            Piece::Text("typedef char "),
+            Piece::Name,
+            Piece::Text("_state_fits[(sizeof(struct "),
+            Piece::Name,
+            Piece::Text("_state) <= "),
+            Piece::Name,
+            Piece::Text("_STATE_BYTES) ? 1 : -1];\n"),
+        ],
+    )
+}
+
+/// What a step returns.
+fn returned(unchecked: bool) -> &'static str
+    ensures { result.now ≡ returned unchecked }
+{
+    if unchecked { "void " } else { "bool " }
+}
+
+/// What a program calls.
+pub(crate) fn push_prototypes(
+    text: &mut String,
+    prefix: &str,
+    unchecked: bool,
+) -> Result<(), Memory>
+    ensures { IfOk result (λ _. string_bytes text.new
+        ≡ string_bytes text.old ++ pieces_text prefix.now (prototype_pieces unchecked)) }
+{
+    let returned = returned(unchecked);
     push(
         text,
         prefix,
@@ -62,7 +133,8 @@ pub(crate) fn push_prototypes(text: &mut String, prefix: &str) -> Result<(), Mem
             Piece::Name,
             Piece::Text("_init(struct "),
             Piece::Name,
-            Piece::Text("_state *state);\nvoid "),
+            Piece::Text("_state *state);\n"),
+            Piece::Text(returned),
             Piece::Name,
             Piece::Text("_step(struct "),
             Piece::Name,
@@ -153,7 +225,14 @@ pub(crate) fn push_numbers(text: &mut String, prefix: &str) -> Result<(), Memory
     push_binary(text, prefix, "_mul", "*")
 }
 
-/// The two functions that a program calls; the last function of the code keeps something or not.
+/// What the last function is handed, if it keeps anything.
+fn passed(keeps: bool) -> &'static str
+    ensures { result.now ≡ passed keeps }
+{
+    if keeps { "&state->s, " } else { "" }
+}
+
+/// A fresh state, and a step of the last function; the first one's moment is 0.
 pub(crate) fn push_entries(
     text: &mut String,
     prefix: &str,
@@ -163,29 +242,22 @@ pub(crate) fn push_entries(
     ensures { IfOk result (λ _. string_bytes text.new ≡ string_bytes text.old ++ entries_text prefix.now last keeps) }
 {
     push_init(text, prefix)?;
-    push_step(text, prefix, last, keeps)
-}
-
-/// What the last function is handed, if it keeps anything.
-fn passed(keeps: bool) -> &'static str
-    ensures { result.now ≡ passed keeps }
-{
-    if keeps { "&state->s, " } else { "" }
+    push_go(text, prefix, last, keeps)
 }
 
 /// A step of the last function; the first one's moment is 0.
-fn push_step(text: &mut String, prefix: &str, last: usize, keeps: bool) -> Result<(), Memory>
+fn push_go(text: &mut String, prefix: &str, last: usize, keeps: bool) -> Result<(), Memory>
     ensures { IfOk result (λ _. string_bytes text.new
-        ≡ string_bytes text.old ++ pieces_text prefix.now (step_pieces last keeps)) }
+        ≡ string_bytes text.old ++ pieces_text prefix.now (go_pieces last keeps)) }
 {
     let passed = passed(keeps);
     push(
         text,
         prefix,
         &[
-            Piece::Text("\nvoid "),
+            Piece::Text("\nstatic void "),
             Piece::Name,
-            Piece::Text("_step(struct "),
+            Piece::Text("_go(struct "),
             Piece::Name,
             Piece::Text("_state *state, int64_t dt, const "),
             Piece::Name,
@@ -202,4 +274,97 @@ fn push_step(text: &mut String, prefix: &str, last: usize, keeps: bool) -> Resul
             Piece::Text("step, input);\n}\n"),
         ],
     )
+}
+
+/// Whether a step tests the lists of its input.
+fn tests_lists(unchecked: bool, input: &Ty) -> bool
+    ensures { result ≡ (not unchecked && has_lists (type_of input.now)) }
+{
+    !unchecked && has_lists(input)
+}
+
+/// The step that a program calls, whose input has lists or not.
+pub(crate) fn push_step(
+    text: &mut String,
+    prefix: &str,
+    unchecked: bool,
+    input: &Ty,
+) -> Result<(), Memory>
+    ensures { IfOk result (λ _. string_bytes text.new
+        ≡ string_bytes text.old ++ step_text prefix.now unchecked (type_of input.now)) }
+{
+    let lists = tests_lists(unchecked, input);
+    push_step_head(text, prefix, unchecked)?;
+    push_if(
+        text,
+        prefix,
+        !unchecked,
+        &[Piece::Text("    if (state->started && (dt < 1)) {\n        return false;\n    }\n")],
+    )?;
+    push_if(
+        text,
+        prefix,
+        lists,
+        &[
+            Piece::Text("    if (!"),
+            Piece::Name,
+            Piece::Text("_fits_"),
+            Piece::Letters(input),
+            Piece::Text("(input)) {\n        return false;\n    }\n"),
+        ],
+    )?;
+    push_step_end(text, prefix, unchecked)
+}
+
+/// Its head.
+fn push_step_head(text: &mut String, prefix: &str, unchecked: bool) -> Result<(), Memory>
+    ensures { IfOk result (λ _. string_bytes text.new
+        ≡ string_bytes text.old ++ pieces_text prefix.now (step_head unchecked)) }
+{
+    let returned = returned(unchecked);
+    push(
+        text,
+        prefix,
+        &[
+            Piece::Text("\n"),
+            Piece::Text(returned),
+            Piece::Name,
+            Piece::Text("_step(struct "),
+            Piece::Name,
+            Piece::Text("_state *state, int64_t dt, const "),
+            Piece::Name,
+            Piece::Text("_input *input, "),
+            Piece::Name,
+            Piece::Text("_output *output)\n{\n"),
+        ],
+    )
+}
+
+/// What it does.
+fn push_step_end(text: &mut String, prefix: &str, unchecked: bool) -> Result<(), Memory>
+    ensures { IfOk result (λ _. string_bytes text.new
+        ≡ string_bytes text.old ++ pieces_text prefix.now (step_end unchecked)) }
+{
+    let end = ended(unchecked);
+    push(
+        text,
+        prefix,
+        &[
+            Piece::Text("    "),
+            Piece::Name,
+            Piece::Text("_go(state, dt, input, output);\n"),
+            Piece::Text(end),
+        ],
+    )
+}
+
+/// How it ends.
+fn ended(unchecked: bool) -> &'static str
+    ensures { result.now ≡ ended unchecked }
+{
+    if unchecked {
+        "}\n"
+    } else {
+        "    return true;\n}\n"
+    }
 }

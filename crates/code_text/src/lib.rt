@@ -14,7 +14,10 @@ mod file;
 mod file_text;
 mod filter;
 mod filter_text;
+mod fingerprint;
+mod fits;
 mod fixed;
+mod folded;
 mod function;
 mod kept;
 mod leaf;
@@ -25,3 +28,4 @@ mod statement;
 mod types;
 
 pub use file::{Options, Printed, print_c};
+pub use fits::has_lists;

@@ -18,6 +18,8 @@ pub(crate) enum Piece<'a> {
     Number(usize),
     /// A number with its sign.
     Signed(i64),
+    /// 16 hexadecimal digits.
+    Hex(u64),
     /// A type in C.
     Type(&'a Ty),
     /// A type's letters.
@@ -70,6 +72,7 @@ fn push_piece(text: &mut String, prefix: &str, piece: Piece<'_>) -> Result<(), M
         Piece::Name => write!(text, "{prefix}")?,
         Piece::Number(n) => write!(text, "{n}")?,
         Piece::Signed(n) => write!(text, "{n}")?,
+        Piece::Hex(n) => write!(text, "{n:016x}")?,
         Piece::Type(ty) => push_c_type(text, prefix, ty)?,
         Piece::Letters(ty) => push_letters(text, ty)?,
         Piece::UnitType => write!(text, "uint8_t")?,

@@ -25,7 +25,7 @@ pub(crate) fn push_structs(
 }
 
 /// A bound; 0 where there is none.
-fn bound_at(bounds: &[usize], k: usize) -> usize
+pub(crate) fn bound_at(bounds: &[usize], k: usize) -> usize
     ensures { result ≡ slice_index bounds.now k }
 {
     match bounds.get(k) {

@@ -60,14 +60,20 @@ leading_command name =
     (with_rule (with_rule (new_app name) (file_name (codes "SRC"))) (file_name (codes "CERT")))
     (valued (codes "N") (codes "first"))) (flag (codes "steps"))
 
--- a subcommand that takes how C is printed too: the word that names begin with, a flag that leaves out
--- the `main`, one for the declarations alone, and how many elements a list of the input may have
+-- a subcommand that takes the word that names of C begin with too, a flag that leaves out the `main`, and
+-- one for the declarations alone
+abbrev pub with_parts : App → App
+with_parts above =
+    with_rule
+    (with_rule (with_rule above (valued (codes "WORD") (codes "name"))) (flag (codes "no-main")))
+    (flag (codes "header"))
+
+-- a subcommand that takes how C is printed too: these, how many elements a list of the input may have,
+-- and a flag for a step without tests
 abbrev pub with_printing : App → App
 with_printing above =
-    with_rule
-    (with_rule
-    (with_rule (with_rule above (valued (codes "WORD") (codes "name"))) (flag (codes "no-main")))
-    (flag (codes "header"))) (valued (codes "N") (codes "most"))
+    with_rule (with_rule (with_parts above) (valued (codes "N") (codes "most")))
+    (flag (codes "unchecked"))
 
 -- the subcommand of that name that takes so much
 abbrev pub command_taking : Takes → List ℕ → App
@@ -136,12 +142,14 @@ pub record LeadingNames : Type 0 where
 
 -- how C is printed: the word that names begin with, `yampa` where there is none; the word that tells how
 -- many elements a list of the input may have, as many as a line can hold where there is none; whether
--- the `main` is left out; and whether the declarations alone are printed
+-- the `main` is left out; whether the declarations alone are printed; and whether a step takes what it
+-- is given without a test
 pub record PrintingWords : Type 0 where
   pub name : Option (List ℕ)
   pub most : Option (List ℕ)
   pub no_main : Bool
   pub header : Bool
+  pub unchecked : Bool
 
 -- what a command line asks for: the types of the network in the file of that name, or a run of it;
 -- what stands where in it; the steps that may be taken in it, at the place of a word and below;
@@ -201,6 +209,7 @@ printing_in rows = record {
   most = first_of (codes "N") rows;
   no_main = is_given (codes "no-main") rows;
   header = is_given (codes "header") rows;
+  unchecked = is_given (codes "unchecked") rows;
 }
 
 -- what the subcommand `compile` asks for, by its matches
@@ -277,6 +286,7 @@ printing_view p = record {
   most = option_map (λ s. s.now) p.most;
   no_main = p.no_main;
   header = p.header;
+  unchecked = p.unchecked;
 }
 
 -- the code's request as one

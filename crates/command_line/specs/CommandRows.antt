@@ -67,11 +67,16 @@ StepsRows = (request_in (codes "yampa" ∷ codes "apply" ∷ codes "a" ∷ codes
 
 -- words on C: none, and all
 abbrev pub no_words : PrintingWords
-no_words = record { name = None; most = None; no_main = false; header = false }
+no_words = record { name = None; most = None; no_main = false; header = false; unchecked = false }
 
 abbrev pub all_words : PrintingWords
-all_words =
-    record { name = Some (codes "boiler"); most = Some (codes "5"); no_main = true; header = true }
+all_words = record {
+  name = Some (codes "boiler");
+  most = Some (codes "5");
+  no_main = true;
+  header = true;
+  unchecked = true;
+}
 
 -- what is asked for of C: the options stand behind the file's name or before it
 abbrev pub CompileRows : Type 0
@@ -79,7 +84,7 @@ CompileRows = (request_in (codes "yampa" ∷ codes "compile" ∷ codes "net" ∷
     ≡ Some (compile no_words (codes "net")))
     × (request_in
     (codes "yampa" ∷ codes "compile" ∷ codes "--name" ∷ codes "boiler" ∷ codes "--no-main"
-    ∷ codes "net" ∷ codes "--header" ∷ codes "--most" ∷ codes "5" ∷ [])
+    ∷ codes "net" ∷ codes "--header" ∷ codes "--unchecked" ∷ codes "--most" ∷ codes "5" ∷ [])
     ≡ Some (compile all_words (codes "net")))
     × (request_in
     (codes "yampa" ∷ codes "compile-checked" ∷ codes "a" ∷ codes "b" ∷ codes "c" ∷ [])

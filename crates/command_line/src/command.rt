@@ -4,7 +4,7 @@ ghost use Rattle.std.specs.Prelude.{◌≡◌, ℕ, List, Err, IfOk, codes, map,
 ghost use Rattle.clap.specs.Words.{app_of, first_of, found_of, kind_of, rows_of, rule_of, subcommand_rows_of, with_rule};
 ghost use Rattle.clap.specs.declared.builder.command.Command.TheViews.{out-Command};
 ghost use Rattle.command_line.specs.CommandRows.{RequestRows, OptimiseRows, DerivationRows, PlaceRows, StepsRows, CompileRows, HelpRows, VersionRows, NothingRows, NoOptimiseRows, NoStepsRows, NoCompileRows};
-ghost use Rattle.command_line.specs.CommandLine.{IsNothing, ReadsWords, RepliesTo, and_command, and_compiling, and_rewriting, and_running, apply_in, command_line, command_taking, compile_checked_in, compile_in, derivation_in, derivation_view, file_name, flag, is_given, printing_in, printing_view, laws_in, request_by, request_on, request_view, valued, wanted_by, wanted_in, with_printing, types, run, outline, optimise, check, run_checked};
+ghost use Rattle.command_line.specs.CommandLine.{IsNothing, ReadsWords, RepliesTo, and_command, and_compiling, and_rewriting, and_running, apply_in, command_line, command_taking, compile_checked_in, compile_in, derivation_in, derivation_view, file_name, flag, is_given, printing_in, printing_view, laws_in, request_by, request_on, request_view, valued, wanted_by, wanted_in, with_parts, with_printing, types, run, outline, optimise, check, run_checked};
 
 use crate::help::{self, HelpText};
 use clap::error::{Error, ErrorKind};
@@ -56,6 +56,8 @@ pub struct Printing<'a> {
     pub no_main: bool,
     /// Whether the declarations alone are printed.
     pub header: bool,
+    /// Whether a step takes what it is given without a test.
+    pub unchecked: bool,
 }
 
 /// What the command line asks for.
@@ -191,6 +193,37 @@ fn and_file<'a>(
     command.arg(named_file(alloc, id, text))
 }
 
+/// The subcommand, which takes that flag too, with its help text.
+fn and_flag<'a>(
+    alloc: Global,
+    command: Command<'a>,
+    id: &'a str,
+    text: &'a str,
+) -> Result<Command<'a>, AllocError>
+    requires { (out-Command command).has_globals ≡ false }
+    ensures app { IfOk result
+        (λ c. app_of c ≡ with_rule (app_of command.entry) (flag id.entry.now)) }
+    ensures local { IfOk result (λ c. (out-Command c).has_globals ≡ false) }
+{
+    command.arg(flag(alloc, id, text))
+}
+
+/// The subcommand, which takes that option with one value too, with its help text.
+fn and_valued<'a>(
+    alloc: Global,
+    command: Command<'a>,
+    id: &'a str,
+    name: &'a str,
+    text: &'a str,
+) -> Result<Command<'a>, AllocError>
+    requires { (out-Command command).has_globals ≡ false }
+    ensures app { IfOk result
+        (λ c. app_of c ≡ with_rule (app_of command.entry) (valued id.entry.now name.entry.now)) }
+    ensures local { IfOk result (λ c. (out-Command c).has_globals ≡ false) }
+{
+    command.arg(valued(alloc, id, name, text))
+}
+
 /// A subcommand of that name that takes so much, with its help text.
 fn command_taking<'a>(
     alloc: Global,
@@ -245,16 +278,26 @@ fn and_derivation<'a>(alloc: Global, command: Command<'a>) -> Result<Command<'a>
     and_file(alloc, command, "CERT", help::CERT)
 }
 
+/// The subcommand, which takes what all names of C begin with, and which parts are left out.
+fn with_parts<'a>(alloc: Global, command: Command<'a>) -> Result<Command<'a>, AllocError>
+    requires { (out-Command command).has_globals ≡ false }
+    ensures app { IfOk result (λ c. app_of c ≡ with_parts (app_of command.entry)) }
+    ensures local { IfOk result (λ c. (out-Command c).has_globals ≡ false) }
+{
+    let command = and_valued(alloc, command, "WORD", "name", help::NAME)?;
+    let command = and_flag(alloc, command, "no-main", help::NO_MAIN)?;
+    and_flag(alloc, command, "header", help::HEADER)
+}
+
 /// The subcommand, which takes how C is printed.
 fn with_printing<'a>(alloc: Global, command: Command<'a>) -> Result<Command<'a>, AllocError>
     requires { (out-Command command).has_globals ≡ false }
     ensures app { IfOk result (λ c. app_of c ≡ with_printing (app_of command.entry)) }
     ensures local { IfOk result (λ c. (out-Command c).has_globals ≡ false) }
 {
-    let command = command.arg(valued(alloc, "WORD", "name", help::NAME))?;
-    let command = command.arg(flag(alloc, "no-main", help::NO_MAIN))?;
-    let command = command.arg(flag(alloc, "header", help::HEADER))?;
-    command.arg(valued(alloc, "N", "most", help::MOST))
+    let command = with_parts(alloc, command)?;
+    let command = and_valued(alloc, command, "N", "most", help::MOST)?;
+    and_flag(alloc, command, "unchecked", help::UNCHECKED)
 }
 
 /// The subcommand, which takes a source, a certificate, how many steps, and a flag for the steps.
@@ -488,6 +531,7 @@ fn printing_of<'a>(matches: &ArgMatches<'a>) -> Printing<'a>
         most: value_of(matches, "N"),
         no_main: is_given(matches, "no-main"),
         header: is_given(matches, "header"),
+        unchecked: is_given(matches, "unchecked"),
     }
 }
 

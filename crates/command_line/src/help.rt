@@ -262,14 +262,19 @@ pub const HEADER: &str = "Prints the declarations alone";
 /// Help on `--most`.
 pub const MOST: &str = "How many elements a list of the input may have (32765)";
 
+/// Help on `--unchecked`.
+pub const UNCHECKED: &str =
+    "Leaves out the step's tests, of dt and of lists: the caller sees to both";
+
 /// Help on `compile`.
 pub const COMPILE: HelpText<'static> = HelpText {
     usage: "yampa compile [OPTIONS] <NET>",
     does: "Prints a network as C",
     more: "\
 It prints a file of C99, which C++11 takes too: a struct of what the network keeps, a function that
-takes a sample, and a `main` that does what `run` does. If the struct would have more than 64 MiB, the
-network is rejected.
+takes a sample, and a `main` that does what `run` does. The function returns false, and does nothing,
+where the time since the sample before is less than 1, or a list has more elements than its array. If
+the struct would have more than 64 MiB, the network is rejected.
 
 Example: if the file `net` holds `yampa 1 input Int (>>> (arr (add x 1)) (iPre 0))`,
 

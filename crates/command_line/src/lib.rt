@@ -16,3 +16,4 @@ mod command;
 mod help;
 
 pub use command::{Derivation, Leading, Printing, Reply, Request, Wanted, command_rows, parse};
+pub use help::VERSION;

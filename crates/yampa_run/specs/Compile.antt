@@ -1,14 +1,15 @@
 -- What the command `compile` prints, and why it refuses.
-use Rattle.std.specs.Prelude.{◌≡◌, ℕ, Bool, true, false, ◌||◌, List, Option, Some, None, if◌then◌else◌, codes}
-use Rattle.sample_core.specs.TypeTree.{TypeTree, unit_ty, bool_ty, int_ty, pair_ty, event_ty, list_ty}
+use Rattle.std.specs.Prelude.{◌≡◌, ℕ, Bool, false, List, Option, Some, None, if◌then◌else◌, codes}
 use Rattle.net_meaning.specs.TypedNetwork.{TypedNetwork}
 use Rattle.net_text.specs.Printing.{file_spelling}
 use Rattle.code_fits.specs.Programs.{IsProgramOf}
 use Rattle.code_fits.specs.declared.layout.Program.{Program}
 use Rattle.code_text.specs.FileText.{c_of}
+use Rattle.code_text.specs.FitsText.{has_lists}
 use Rattle.code_text.specs.declared.file.Printed.{Printed}
 use Rattle.code_text.specs.declared.file.Printed.TheVariants as P
 use Rattle.command_line.specs.CommandLine.{PrintingWords, DerivationNames}
+use Rattle.command_line.specs.declared.help.TheConstants.{VERSION}
 use Rattle.yampa_run.specs.Words.{TellsMost, TellsName, is_name, most_in}
 use Rattle.yampa_run.specs.declared.compile.Form.{Form}
 use Rattle.yampa_run.specs.RefusalLines.{no_layout_words, no_most_words, no_name_words, too_large_words}
@@ -34,6 +35,8 @@ c_named t program words name most = c_of program (record {
   prefix = name;
   printed = printed_by words;
   most = most;
+  unchecked = words.unchecked;
+  version = VERSION.now;
   network = file_spelling t.input t.net;
   weight = t.weight;
 })
@@ -53,15 +56,6 @@ pub record PrintsC (t : TypedNetwork) (words : PrintingWords) (text : List ℕ) 
   pub name_is : TellsName words.name name
   pub most_is : TellsMost words.most most
   pub prints : PrintsNamed t words name most text
-
--- a type has a list in it
-abbrev pub has_lists : TypeTree → Bool
-has_lists unit_ty = false
-has_lists bool_ty = false
-has_lists int_ty = false
-has_lists (pair_ty A B) = has_lists A || has_lists B
-has_lists (event_ty A) = has_lists A
-has_lists (list_ty A) = true
 
 -- where no word says how long they are
 abbrev pub unless_told : Option (List ℕ) → Bool → Bool

@@ -1,9 +1,8 @@
 // The commands `compile` and `compile-checked`: networks of files as C.
 
 ghost use Rattle.std.specs.Prelude.{◌≡◌, IfErr, IfOk, string_bytes};
-ghost use Rattle.sample_core.specs.TypeView.{type_of};
 ghost use Rattle.command_line.specs.CommandLine.{derivation_view, printing_view};
-ghost use Rattle.yampa_run.specs.Compile.{HasNoC, IsForm, IsNoForm, IsNotCheckedC, IsNotCompiled, PrintsNamed, TellsC, TellsCheckedC, asks_most, c_named, has_lists, printed_by};
+ghost use Rattle.yampa_run.specs.Compile.{HasNoC, IsForm, IsNoForm, IsNotCheckedC, IsNotCompiled, PrintsNamed, TellsC, TellsCheckedC, asks_most, c_named, printed_by};
 ghost use Rattle.yampa_run.specs.Loading.{RefusesWith};
 ghost use Rattle.yampa_run.specs.RefusalLines.{too_large_words};
 
@@ -14,12 +13,12 @@ use crate::preparation::Refusal;
 use crate::refused::{Role, no_layout_line, too_large_line};
 use crate::words::{most_of, name_of};
 use code_fits::{Program, Refused, program_of};
-use code_text::{Options, Printed, print_c};
-use command_line::{Derivation, Printing};
+use code_text::{Options, Printed, has_lists, print_c};
+use command_line::{Derivation, Printing, VERSION};
 use net_syntax::TypedNet;
 use net_text::print_net;
 use net_tree::Position;
-use sample_core::{Memory, Ty};
+use sample_core::Memory;
 use std::alloc::Global;
 
 /// How C is printed, as words tell.
@@ -139,6 +138,8 @@ fn text_of(
             prefix: form.name,
             printed: printed_by(printing),
             most: form.most,
+            unchecked: printing.unchecked,
+            version: VERSION,
             network: network.as_str(),
             weight: u64::from(net.weight()),
         },
@@ -198,17 +199,5 @@ fn asks_most(net: &TypedNet, printing: Printing<'_>) -> bool
     match printing.most {
         Some(_) => false,
         None => has_lists(net.input()),
-    }
-}
-
-/// Whether a type has a list in it.
-fn has_lists(ty: &Ty) -> bool
-    ensures { result ≡ has_lists (type_of ty.now) }
-{
-    match ty {
-        Ty::Unit | Ty::Bool | Ty::Int => false,
-        Ty::Pair(a, b) => has_lists(a.get()) || has_lists(b.get()),
-        Ty::Event(a) => has_lists(a.get()),
-        Ty::List(_) => true,
     }
 }

@@ -42,5 +42,6 @@ int main(void) {
     all.bell.is = true;
     named_step_named(&state, 1, &all, &seen);
     show(&seen);
-    return 0;
+    all.shapes.n = 17;
+    return (named_step_named(&state, 0, &all, &seen) || named_step_named(&state, 1, &all, &seen)) ? 1 : 0;
 }

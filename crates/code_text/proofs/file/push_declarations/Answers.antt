@@ -1,13 +1,5 @@
-use Rattle.code_text.proofs.Joined.{joined_seven}
+use Rattle.code_text.proofs.Joined.{joined_two}
 use Rattle.code_text.proofs.file.push_declarations.Goals as goal
 
 pub returns : goal.returns
-returns c =
-    joined_seven _ _ _ _ _ _ _ _ _ _ _ _ _ _ _ _
-    c.in_ok-push_about.ensures
-    c.in_ok-push_posix.ensures
-    c.in_ok-push_opening.ensures
-    (rw (c.as_slice.ensures.value, c.as_slice-2.ensures.value) at c.in_ok-push_structs.ensures)
-    c.in_ok-push_all_kept.ensures
-    c.in_ok-push_state.ensures
-    c.push_prototypes.ensures
+returns c = ?

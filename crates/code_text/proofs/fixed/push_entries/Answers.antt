@@ -5,4 +5,4 @@ pub returns : goal.returns
 returns c =
     joined_two _ _ _ _ _ _
     c.in_ok-push_init.ensures
-    c.push_step.ensures
+    c.push_go.ensures
