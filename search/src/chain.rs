@@ -26,7 +26,7 @@ pub fn seq(f: Term, g: Term) -> Term {
 
 /// The two parts of a chain.
 pub fn parts(chain: Term) -> Option<(Term, Term)> {
-    match (chain.op, chain.kids.as_slice()) {
+    match (chain.op, &*chain.kids) {
         (Op::Seq, &[f, g]) => Some((f, g)),
         _ => None,
     }

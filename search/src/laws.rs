@@ -192,7 +192,7 @@ pub fn forward(law: Law, tree: Term, olds: usize) -> Option<Term> {
         let mut letters = Letters::new();
         return Some(tree).filter(|_| fits(left, tree, &mut letters)).map(|_| filled(right, &letters));
     }
-    match (law, tree.op, tree.kids.as_slice()) {
+    match (law, tree.op, &*tree.kids) {
         (INTO_PARTS, Op::Then, &[f, g]) => into_parts(f, g),
         (CONSTANT_BEHIND, Op::Then, &[_, constant]) => Some(constant).filter(|e| e.is_constant()),
         (COMPUTE, _, kids) => computed(tree.op, kids),
@@ -292,7 +292,7 @@ fn one_member(members: Term, arr: Term) -> Option<Term> {
     if members.op != Op::Par || arr.op != Op::Arr {
         return None;
     }
-    match (arr.kids[0].op, arr.kids[0].kids.as_slice()) {
+    match (arr.kids[0].op, &*arr.kids[0].kids) {
         (Op::Nth, &[list, i, _]) if list.op == Op::Input && i.op == Op::Int => members.kid(usize::try_from(i.number).ok()?),
         _ => None,
     }
@@ -308,7 +308,7 @@ fn first_members(arr: Term, switch: Term) -> Option<Term> {
     if arr.op != Op::Arr || switch.op != Op::RpSwitch {
         return None;
     }
-    match (arr.kids[0].op, arr.kids[0].kids.as_slice(), switch.kids.as_slice()) {
+    match (arr.kids[0].op, &*arr.kids[0].kids, &*switch.kids) {
         (Op::Pair, &[e, none], [members @ .., _, _]) if none.op == Op::NoEvent => {
             members_of(members.iter().copied()).map(|all| node(Op::Seq, &[node(Op::Arr, &[e]), all]))
         }

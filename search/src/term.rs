@@ -183,7 +183,7 @@ pub struct Node {
     /// The type that is part of the form, of `none` and `list`.
     pub ty: Option<Term>,
     /// The children.
-    pub kids: Vec<Term>,
+    pub kids: Box<[Term]>,
     /// How many nodes the term has, written out.
     pub size: u64,
     /// How many nodes stand in one another.
@@ -263,7 +263,7 @@ pub fn put(op: Op, number: i64, ty: Option<Term>, kids: &[Term]) -> Term {
     let hash = hash_of(op, number, ty, kids.iter().map(|kid| kid.hash));
     TABLE.with(|table| {
         let mut table = table.borrow_mut();
-        let slot = table.slot_of(hash, |node| node.op == op && node.number == number && node.ty == ty && node.kids == kids);
+        let slot = table.slot_of(hash, |node| node.op == op && node.number == number && node.ty == ty && *node.kids == *kids);
         if let Some(node) = table.slots[slot] {
             return node;
         }
@@ -287,7 +287,7 @@ fn made(op: Op, number: i64, ty: Option<Term>, kids: &[Term], hash: u64, id: u32
         _ => (1, net_height),
     };
     let has_new_form = op.is_new() || kids.iter().any(|kid| kid.has_new_form);
-    Node { op, number, ty, kids: kids.to_vec(), size, height, net_height, stages, highest_stage, has_new_form, hash, id }
+    Node { op, number, ty, kids: kids.into(), size, height, net_height, stages, highest_stage, has_new_form, hash, id }
 }
 
 /// The term of a form with these children.
@@ -313,7 +313,7 @@ impl Node {
 
     /// The term with another child k.
     pub fn with_kid(&self, k: usize, kid: Term) -> Term {
-        let mut kids = self.kids.clone();
+        let mut kids = self.kids.to_vec();
         kids[k] = kid;
         self.with_kids(&kids)
     }

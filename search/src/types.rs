@@ -60,7 +60,7 @@ impl Standing {
 
 /// A scope with so many more of a type.
 fn and_more(scope: Term, ty: Term, count: usize) -> Term {
-    let mut kids = scope.kids.clone();
+    let mut kids = scope.kids.to_vec();
     kids.resize(kids.len() + count, ty);
     node(Op::Scope, &kids)
 }
@@ -88,7 +88,7 @@ fn pair_type(a: Term, b: Term) -> Option<Term> {
 
 /// The parts of a pair's type.
 fn both(ty: Term) -> Option<(Term, Term)> {
-    match (ty.op, ty.kids.as_slice()) {
+    match (ty.op, &*ty.kids) {
         (Op::PairType, &[a, b]) => Some((a, b)),
         _ => None,
     }
@@ -124,7 +124,7 @@ fn is_of(tree: Term, at: Standing, wanted: Term) -> Option<()> {
 
 fn expr_type(e: Term, at: Standing) -> Option<Term> {
     let all_are = |wanted: Term| e.kids.iter().try_for_each(|part| is_of(part, at, wanted));
-    match (e.op, e.kids.as_slice()) {
+    match (e.op, &*e.kids) {
         (Op::Input, _) => limited(at.input),
         (Op::Unit, _) => Some(unit_type()),
         (Op::True | Op::False, _) => Some(bool_type()),
@@ -171,7 +171,7 @@ fn is_constant_of(c: Term, at: Standing, wanted: Term) -> Option<()> {
 }
 
 fn net_type(net: Term, at: Standing) -> Option<Term> {
-    match (net.op, net.kids.as_slice()) {
+    match (net.op, &*net.kids) {
         (Op::Arr, &[e]) => leaf_type(e, at),
         (Op::Seq, &[_, g]) => type_of(g, kid_standing(net, 1, at)?),
         (Op::First, &[f]) => {
@@ -227,7 +227,7 @@ fn list_of(members: &[Term], at: Standing) -> Option<Term> {
 /// The output type of a switch.
 fn switch_type(net: Term, at: Standing) -> Option<Term> {
     let template = net.kids.len().checked_sub(1)?;
-    let (output, started) = match (net.op, net.kids.as_slice()) {
+    let (output, started) = match (net.op, &*net.kids) {
         (Op::Switch | Op::DSwitch, &[f, _]) => both(type_of(f, at)?).map(|(output, _)| (output, output))?,
         (Op::RSwitch | Op::DrSwitch, &[f, _]) => type_of(f, kid_standing(net, 0, at)?).map(|output| (output, output))?,
         (Op::KSwitch, &[f, _, _]) => type_of(f, at).map(|output| (output, output))?,
@@ -243,7 +243,7 @@ fn switch_type(net: Term, at: Standing) -> Option<Term> {
 
 /// Where child k of a tree stands, which stands there.
 pub fn kid_standing(tree: Term, k: usize, at: Standing) -> Option<Standing> {
-    let kids = tree.kids.as_slice();
+    let kids = &*tree.kids;
     match (tree.op, k) {
         (Op::Then, 1) => Some(at.with_input(type_of(kids[0], at)?)),
         (Op::On, 2) => {
@@ -269,7 +269,7 @@ pub fn kid_standing(tree: Term, k: usize, at: Standing) -> Option<Standing> {
 
 /// Where child k of a switch stands.
 fn switch_kid(net: Term, k: usize, at: Standing) -> Option<Standing> {
-    let kids = net.kids.as_slice();
+    let kids = &*net.kids;
     let is_template = k + 1 == kids.len();
     match net.op {
         Op::Switch | Op::DSwitch if is_template => {
