@@ -237,7 +237,7 @@ def joined(certificates: list[bytes]) -> bytes:
 
 
 def led(source: str, target: str, steps: Path, names: tuple[str, str]) -> bytes:
-    """A certificate from the one network to the other; where there is none that is told."""
+    """What a search says is a certificate from the one network to the other; where it finds none that is told."""
     steps.write_text("laws 1\n")
     status, _, line = told_by("check", source, target, steps)
     if status and line != DIFFERENT:
@@ -253,9 +253,6 @@ def led(source: str, target: str, steps: Path, names: tuple[str, str]) -> bytes:
         end(f"{which}equal on {how_many:,} samples; no certificate found", REFUSED)
     if status:
         broken(NONE_FOUND, status)
-    status, _, line = told_by("check", source, target, steps)
-    if status:
-        rejected(NONE_FOUND, line)
     return said
 
 
