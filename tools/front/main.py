@@ -1,6 +1,7 @@
 """Translates a file of Haskell: `translate` answers what it means to the tools, or refuses it with all that is wrong."""
 from __future__ import annotations
 
+import contextlib
 import gc
 import hashlib
 import json
@@ -28,6 +29,8 @@ from front.translation import Network, Origin, Stated, Translation, from_kept, k
 from front.types import Con, Type, Var, real, result_of
 from front.types import shown as shown_type
 from front.values import applied
+from workbench.cache import cache_folder, keep
+from workbench.ending import Refused as Unkept
 
 NEW_FORMS = {"-->", ">--", "drSwitch", "rpSwitchB"}
 DEEPEST = 100_000
@@ -286,11 +289,6 @@ def translation_of(file: str, data: bytes | None, of: str | None) -> Translation
 # ---- what is kept
 
 
-def cache_folder() -> Path:
-    given = os.environ.get("XDG_CACHE_HOME") or os.path.join(os.path.expanduser("~"), ".cache")
-    return Path(given) / "yampa" / "haskell"
-
-
 def own_sum() -> bytes:
     """The sum of the front end's own sources."""
     whole = hashlib.sha256()
@@ -309,7 +307,7 @@ def sum_of(files: list[str], of: str | None) -> str:
 def translate(file: str, of: str | None = None) -> Translation:
     """What a file means, which is kept by the sum of it, of what it imports, and of the front end's sources; and by its name as it is
     given, since places are told by that."""
-    index = cache_folder() / hashlib.sha256(repr((file, os.path.realpath(file), of)).encode()).hexdigest()
+    index = cache_folder() / "haskell" / hashlib.sha256(repr((file, os.path.realpath(file), of)).encode()).hexdigest()
     try:
         kept = json.loads(index.read_text(encoding="utf-8"))
         if kept["sum"] == sum_of(kept["files"], of):
@@ -317,10 +315,7 @@ def translate(file: str, of: str | None = None) -> Translation:
     except (OSError, ValueError, KeyError, TypeError):
         pass
     made = translated(file, None, of)
-    try:
-        index.parent.mkdir(parents=True, exist_ok=True)
+    with contextlib.suppress(OSError, Unkept):
         text = json.dumps({"sum": sum_of(made.files, of), "files": made.files, "made": kept_form(made)})
-        index.write_text(text, encoding="utf-8")
-    except OSError:
-        pass
+        keep(index, text.encode())
     return made

@@ -4,10 +4,9 @@ A front end makes a core network of a file, such as one of Haskell. `keep_core` 
 
     SUM.made      SUM is the sum of the file's bytes (SHA-256, in hexadecimal digits): a list of sums and paths as `sha256sum` prints it
     KEY.core      the network that the program reads
-    KEY.table     where its parts are written, in the front end's own form, if it keeps that
 
-The lines of SUM.made are the core network; the table, if there is one; each file of the front end, below `@`, the folder of the tools;
-and each file that was read besides, by its path from the file's folder, behind `./`. The core network is the right one as long as all
+The lines of SUM.made are the core network; each file of the front end, below `@`, the folder of the tools; and each file that was read
+besides, by its path from the file's folder, behind `./`. The core network is the right one as long as all
 lines hold: `core_of` looks. The wrapper `yampa` looks in the same way, by `sha256sum` and without Python (`core_of` there). KEY is the
 sum of the file and of what was made of it, and SUM.made takes its place last; so it makes no difference who else reads or keeps.
 """
@@ -64,9 +63,9 @@ def sum_of(data: bytes) -> str:
 # ---- core networks
 
 
-def made_file(data: bytes, made: bytes, ending: str) -> Path:
-    """A file of the cache folder that holds what was made of a file with these bytes."""
-    path = cache_folder() / f"{sum_of(sum_of(data).encode() + made)}{ending}"
+def made_file(data: bytes, made: bytes) -> Path:
+    """A file of the cache folder that holds the core network that was made of a file with these bytes."""
+    path = cache_folder() / f"{sum_of(sum_of(data).encode() + made)}.core"
     if path.is_file() and path.read_bytes() == made:
         path.touch()
     else:
@@ -77,19 +76,17 @@ def made_file(data: bytes, made: bytes, ending: str) -> Path:
 def core_file(data: bytes, core: bytes) -> str:
     """A file that holds the core network of a file with these bytes, and can be read more than once."""
     try:
-        return str(made_file(data, core, ".core"))
+        return str(made_file(data, core))
     except (OSError, Refused):
         return kept_beside(core)
 
 
-def keep_core(name: str, data: bytes, core: bytes, read: dict[str, bytes], table: bytes | None = None) -> None:
+def keep_core(name: str, data: bytes, core: bytes, read: dict[str, bytes]) -> None:
     """Keeps the core network that is made of a file with this name and these bytes, for which the files `read` were read too: by their
     paths, with what they held. Where that can't be, nothing is kept."""
     folder = os.path.dirname(name) or "."
     with contextlib.suppress(OSError, Refused):
-        lines = [line_of(core, os.fsencode(made_file(data, core, ".core")))]
-        if table is not None:
-            lines.append(line_of(table, os.fsencode(made_file(data, table, ".table"))))
+        lines = [line_of(core, os.fsencode(made_file(data, core)))]
         lines += [line_of(path.read_bytes(), b"@/" + os.fsencode(path.relative_to(TOOLS))) for path in front_end()]
         lines += [line_of(held, b"./" + os.fsencode(os.path.relpath(path, folder))) for path, held in read.items()]
         listed = b"".join(lines)
@@ -107,8 +104,8 @@ def front_end() -> Iterable[Path]:
     return sorted(file for file in files if TOOLS in file.parents)
 
 
-def core_of(name: str, data: bytes) -> tuple[str, bytes | None] | None:
-    """The core network that is kept of a file with this name and these bytes, as a path, and its table, if one was kept; or None."""
+def core_of(name: str, data: bytes) -> str | None:
+    """The path of the core network that is kept of a file with this name and these bytes, or None."""
     folder = os.path.dirname(name) or "."
     try:
         lines = (cache_folder() / f"{sum_of(data)}.made").read_bytes().splitlines()
@@ -117,7 +114,7 @@ def core_of(name: str, data: bytes) -> tuple[str, bytes | None] | None:
         return None
     if not lines or any(sum_of(one).encode() != line[:64] for one, line in zip(held, lines)):
         return None
-    return os.fsdecode(lines[0][66:]), held[1] if lines[1:2] and lines[1].endswith(b".table") else None
+    return os.fsdecode(lines[0][66:])
 
 
 def bytes_at(path: bytes, folder: str) -> bytes:

@@ -125,8 +125,8 @@ class Haskell(HaskellParts, Program):  # type: ignore[misc]
         if kept is None:
             keep_core(self.name, self.data, self.text, self.read_besides())
             return super().path()
-        PROGRAMS[kept[0]] = self
-        return kept[0]
+        PROGRAMS[kept] = self
+        return kept
 
     def read_besides(self) -> dict[str, bytes]:
         """The files that were read besides."""
