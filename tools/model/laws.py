@@ -1,52 +1,61 @@
 """The laws, from left to right; what a step of a certificate makes; what the optimiser takes."""
 from model.meaning import STRICT
 from model.texts import Step
-from model.trees import SWAP, at, head, is_literal, is_network, preorder, replaced
+from model.trees import SWAP, at, child_places, head, is_literal, is_network, part_at, preorder, replaced, with_part
 from model.typed import TypeFault, check_types
 
 ASSOC = ("pair", ("fst", ("fst", "x")), ("pair", ("snd", ("fst", "x")), ("snd", "x")))
 UNASSOC = ("pair", ("pair", ("fst", "x"), ("fst", ("snd", "x"))), ("snd", ("snd", "x")))
 CROSS = ("pair", ("pair", ("fst", ("fst", "x")), ("snd", "x")), ("snd", ("fst", "x")))
+# What an accumulator has kept, and the value of the event that it got.
+BOTH = ("pair", ("snd", ("fst", "x")), ("snd", "x"))
 HELD = ("on", ("fst", "x"), ("pair", ("snd", "x"), ("snd", "x")), ("pair", ("snd", "x"), ("snd", "x")))
 
 DISTRIBUTED = "pair fst snd neg add sub mul less equal not and or if event nth len list".split()
+# The operators past which E49 lifts an `if`: of how many of their parts, from the left.
+LIFTING = {**dict.fromkeys(DISTRIBUTED), "then": 1, "on": 2}
 FOLDED = "neg add sub mul less equal not and or".split()
 MEMBERS = 64
 
 
 LEFT_WORDS = {
-    "then": "E1 E2 E3 E4 E5 E6",
+    "then": "E1 E2 E3 E4 E5 E6 E53",
     "fst": "E7",
     "snd": "E8",
-    "pair": "E9",
-    "if": "E10 E11 E12 E25",
-    "on": "E13 E14",
-    "add": "E15 E16 E17",
+    "pair": "E9 E54 E55",
+    "neg": "E15 E30 E31 E32",
+    "add": "E15 E16 E17 E27 E33",
     "sub": "E15 E19",
-    "mul": "E15 E20 E21 E22",
-    "and": "E15 E23",
-    "or": "E15 E23",
-    "not": "E15 E24",
+    "mul": "E15 E20 E21 E22 E28 E29",
+    "less": "E15 E34",
     "equal": "E15 E26",
+    "not": "E15 E24 E41 E42",
+    "and": "E15 E23 E35 E37 E39 E43 E45",
+    "or": "E15 E23 E36 E38 E40 E46",
+    "if": "E10 E11 E12 E25 E44 E47 E48",
+    "on": "E13 E14 E50 E51 E52",
     "nth": "E18",
-    ">>>": "L1 L2 L3 L4 L7 L8 L9 L10 L11 L13 L14 L18 L19 L20 L21 L22 L23 L24 L25 L26 L27 L28 L29 L30 L35 L36 L40 L41 L45 L46 L48",
-    "-->": "L43",
-    ">--": "L44",
+    ">>>": "L1 L2 L3 L4 L7 L8 L9 L10 L11 L13 L14 L18 L19 L20 L21 L22 L23 L24 L25 L26 L27 L28 L29 L30 L35 L36 L40 L41 L45 L46 L48 "
+    "L52 L53 L54 L56 L57 L60 L63",
+    "-->": "L43 L58 L61 L62",
+    ">--": "L44 L59",
     "first": "L5 L6 L33 L34 L47",
     "iPre": "L12 L49",
+    "delay": "L55",
     "hold": "L50",
     "loopPre": "L15 L16 L17 L51",
-    "switch": "L31",
-    "dSwitch": "L32",
+    "switch": "L31 L64",
+    "dSwitch": "L32 L65",
     "kSwitch": "L37 L38",
     "pSwitch": "L39",
     "arr": "L42",
-} | dict.fromkeys(["neg", "less"], "E15")
+}
 
 
 def laws_by_word(among):
     """By the first word of a tree, those of these laws whose left side may begin with it, in their order."""
-    return {word: [law for law in among if law in laws.split()] for word, laws in LEFT_WORDS.items()}
+    words = dict.fromkeys([*LEFT_WORDS, *LIFTING])
+    return {word: [law for law in among if law in LEFT_WORDS.get(word, "").split() or law == "E49" and word in LIFTING] for word in words}
 
 
 def left(g):
@@ -61,9 +70,12 @@ def mapped(g, carried):
     return ("on", "x", ("none", carried), ("event", ("then", ("snd", "x"), g)))
 
 
+def held_accumulated(g):
+    return ("on", ("fst", "x"), ("pair", ("snd", "x"), ("snd", "x")), ("then", BOTH, ("then", g, ("pair", "x", "x"))))
+
+
 def accumulated(g, kept):
-    both = ("pair", ("snd", ("fst", "x")), ("snd", "x"))
-    return ("on", ("fst", "x"), ("pair", ("none", kept), ("snd", "x")), ("then", both, ("then", g, ("pair", ("event", "x"), "x"))))
+    return ("on", ("fst", "x"), ("pair", ("none", kept), ("snd", "x")), ("then", BOTH, ("then", g, ("pair", ("event", "x"), "x"))))
 
 
 def seq(f, g):
@@ -144,6 +156,83 @@ def of_operators(law, tree):
             return ("if", c, b, a)
         case "E26", ("equal", a, b):
             return "true" if a == b else ("equal", b, a)
+    return next((made for laws in (of_numbers, of_truths, of_choices) if (made := laws(law, tree)) is not None), None)
+
+
+def of_numbers(law, tree):
+    match law, tree:
+        case ("E27", ("add", a, 0)) | ("E28", ("mul", a, 1)) | ("E30", ("neg", ("neg", a))):
+            return a
+        case "E29", ("mul", _, 0):
+            return 0
+        case "E31", ("neg", ("add", a, b)):
+            return ("add", ("neg", a), ("neg", b))
+        case "E32", ("neg", ("mul", a, b)):
+            return ("mul", ("neg", a), b)
+        case "E33", ("add", a, ("neg", b)) if a == b:
+            return 0
+        case "E34", ("less", a, b) if a == b:
+            return "false"
+    return None
+
+
+def of_truths(law, tree):
+    match law, tree:
+        case ("E35", ("and", a, b)) | ("E36", ("or", a, b)) if a == b:
+            return a
+        case ("E37", ("and", ("and", a, b), c)) | ("E38", ("or", ("or", a, b), c)):
+            return (tree[0], a, (tree[0], b, c))
+        case "E39", ("and", a, ("not", b)) if a == b:
+            return "false"
+        case "E40", ("or", a, ("not", b)) if a == b:
+            return "true"
+        case "E41", ("not", ("and", a, b)):
+            return ("or", ("not", a), ("not", b))
+        case "E42", ("not", ("or", a, b)):
+            return ("and", ("not", a), ("not", b))
+        case "E43", ("and", a, ("or", b, c)):
+            return ("or", ("and", a, b), ("and", a, c))
+        case "E44", ("if", c, "true", "false"):
+            return c
+        case "E45", ("and", a, b):
+            return ("if", a, b, "false")
+        case "E46", ("or", a, b):
+            return ("if", a, "true", b)
+    return None
+
+
+def of_choices(law, tree):
+    match law, tree:
+        case "E47", ("if", c, ("if", same, a, _), d) if c == same:
+            return ("if", c, a, d)
+        case "E48", ("if", c, a, ("if", same, _, d)) if c == same:
+            return ("if", c, a, d)
+        case "E49", _:
+            return lifted(tree)
+        case "E50", ("on", ("on", e, d, b), g, h):
+            nested = ("then", ("pair", ("fst", ("fst", "x")), ("snd", "x")), h)
+            return ("on", e, ("on", d, g, h), ("on", b, ("then", ("fst", "x"), g), nested))
+        case "E51", ("on", e, ("none", _), ("event", ("snd", "x"))):
+            return e
+        case "E52", ("on", _, d, ("then", ("fst", "x"), same)) if d == same:
+            return d
+        case "E53", ("then", ("on", e, d, b), f):
+            return ("on", e, ("then", d, f), ("then", b, f))
+        case "E54", ("pair", ("on", e, d, b), f):
+            return ("on", e, ("pair", d, f), ("pair", b, ("then", ("fst", "x"), f)))
+        case "E55", ("pair", f, ("on", e, d, b)):
+            return ("on", e, ("pair", f, d), ("pair", ("then", ("fst", "x"), f), b))
+    return None
+
+
+def lifted(tree):
+    """The `if` that is a part of an operator, around it: the first such of the parts that count; None where there is none."""
+    if head(tree) not in LIFTING:
+        return None
+    for place in child_places(tree)[: LIFTING[head(tree)]]:
+        match part_at(tree, place):
+            case ("if", c, a, b):
+                return ("if", c, with_part(tree, place, a), with_part(tree, place, b))
     return None
 
 
@@ -196,24 +285,46 @@ def of_networks(law, tree):
         case "L11", (">>>", ("iPre", c), ("arr", f)):
             return seq(arr(f), ("iPre", ("then", c, f)))
         case "L12", ("iPre", ("pair", c, d)):
-            return seq(("first", ("iPre", c)), seq(arr(SWAP), seq(("first", ("iPre", d)), arr(SWAP))))
-        case "L18", (">>>", ("arr", ("event", e)), ("hold", _)):
-            return arr(e)
-        case "L19", (">>>", ("arr", ("none", _)), ("hold", c)):
-            return arr(("then", "unit", c))
+            return both_ways(("first", ("iPre", c)), ("first", ("iPre", d)))
         case "L20", (">>>", _, s) if head(s) in ("after", "repeatedly", "time"):
             return s
         case "L25", (">>>", _, ("arr", ("then", "unit", e))):
             return arr(("then", "unit", e))
         case "L26", (">>>", ("delay", q, c), ("arr", f)):
             return seq(arr(f), ("delay", q, ("then", c, f)))
+        case "L45", (">>>", ("drSwitch", f, t), ("arr", h)):
+            return ("drSwitch", seq(f, arr(h)), seq(t, arr(h)))
+        case "L52", (">>>", f, ("arr", ("pair", "x", "x"))):
+            return seq(arr(("pair", "x", "x")), both_ways(("first", f), ("first", f)))
+        case "L55", ("delay", q, ("pair", c, d)):
+            return both_ways(("first", ("delay", q, c)), ("first", ("delay", q, d)))
+        case "L63", (">>>", ("arr", ("then", "unit", 1)), "integral"):
+            return "time"
+    return of_loops(law, tree) or of_events(law, tree) or of_openings(law, tree)
+
+
+def both_ways(f, g):
+    """One network, and then another between swaps."""
+    return seq(f, seq(arr(SWAP), seq(g, arr(SWAP))))
+
+
+def of_openings(law, tree):
+    match law, tree:
         case "L43", ("-->", c, ("-->", _, f)):
             return ("-->", c, f)
         case "L44", (">--", c, ("arr", f)):
             return ("-->", ("then", c, f), arr(f))
-        case "L45", (">>>", ("drSwitch", f, t), ("arr", h)):
-            return ("drSwitch", seq(f, arr(h)), seq(t, arr(h)))
-    return of_loops(law, tree) or of_events(law, tree)
+        case "L58", ("-->", c, (">>>", f, g)):
+            return seq(f, ("-->", c, g))
+        case "L59", (">--", c, (">>>", f, g)):
+            return seq((">--", c, f), g)
+        case "L60", (">>>", ("-->", c, f), g):
+            return seq(f, (">--", c, g))
+        case "L61", ("-->", c, ("iPre", _)):
+            return ("iPre", c)
+        case "L62", ("-->", ("event", c), ("arr", ("none", _))):
+            return ("after", 0, c)
+    return None
 
 
 def of_loops(law, tree):
@@ -239,11 +350,17 @@ def of_loops(law, tree):
         case "L51", ("loopPre", z, ("arr", e)):
             g = accumulator(e)
             return None if g is None else ("accumBy", g, z)
+        case "L53", (">>>", ("accumBy", g, z), ("hold", same)) if z == same:
+            return ("loopPre", z, arr(held_accumulated(g)))
     return None
 
 
 def of_events(law, tree):
     match law, tree:
+        case "L18", (">>>", ("arr", ("event", e)), ("hold", _)):
+            return arr(e)
+        case "L19", (">>>", ("arr", ("none", _)), ("hold", c)):
+            return arr(("then", "unit", c))
         case ("L21", (">>>", ("after", q, c), ("arr", e))) | ("L22", (">>>", ("repeatedly", q, c), ("arr", e))):
             g = mapper(e)
             return None if g is None else (tree[1][0], q, ("then", c, g))
@@ -272,7 +389,8 @@ def accumulator(tree):
     return None
 
 
-SWITCH_LAWS = {f"L{k}": "switch" if k % 2 else "dSwitch" for k in range(27, 35)} | dict.fromkeys(["L35", "L36", "L37"])
+SWITCH_LAWS = {f"L{k}": "switch" if k % 2 else "dSwitch" for k in range(27, 35)} | dict.fromkeys(["L35", "L36", "L37", "L54"])
+SWITCH_LAWS |= {"L56": "rSwitch", "L57": "drSwitch", "L64": "switch", "L65": "dSwitch"}
 
 
 def of_switches(law, tree):
@@ -292,6 +410,12 @@ def of_switches(law, tree):
             return ("rSwitch", seq(f, arr(h)), seq(t, arr(h)))
         case "L37", ("kSwitch", f, ("arr", ("none", _)), _):
             return f
+        case "L54", (">>>", ("arr", ("pair", e, ("none", _))), ("drSwitch", f, _)):
+            return seq(arr(e), f)
+        case ("L56" | "L57"), (">>>", ("arr", ("pair", ("then", ("fst", "x"), h), ("snd", "x"))), (word, f, t)) if word == s:
+            return (s, seq(arr(h), f), seq(arr(h), t))
+        case ("L64" | "L65"), (word, ("arr", ("pair", e, _)), ("arr", same)) if word == s and e == same:
+            return arr(e)
     return None
 
 

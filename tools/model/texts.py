@@ -25,7 +25,7 @@ FILE_BYTES = 1_048_576
 LINE_BYTES = 65_536
 OPEN = 600
 # The greatest numbers of the laws of each version.
-LAST_LAWS = {"1": {"E": 18, "L": 42}, "2": {"E": 18, "L": 46}, "3": {"E": 26, "L": 51}}
+LAST_LAWS = {"1": {"E": 18, "L": 42}, "2": {"E": 18, "L": 46}, "3": {"E": 26, "L": 51}, "4": {"E": 55, "L": 65}}
 
 
 def laws_of(version):
@@ -33,12 +33,10 @@ def laws_of(version):
     return [f"{kind}{k}" for kind, last in LAST_LAWS[version].items() for k in range(1, last + 1)]
 
 
-LAWS = laws_of("3")
-LAWS_SINCE = {
-    "2": [law for law in laws_of("2") if law not in laws_of("1")],
-    "3": [law for law in LAWS if law not in laws_of("2")],
-}
-NEW_LAWS = [*LAWS_SINCE["2"], *LAWS_SINCE["3"]]
+LAWS = laws_of(max(LAST_LAWS))
+# The laws that each version has first, behind the first one's.
+LAWS_SINCE = {version: [law for law in laws_of(version) if law not in laws_of(before)] for before, version in zip("123", "234")}
+NEW_LAWS = [law for laws in LAWS_SINCE.values() for law in laws]
 
 
 class TextFault(Exception):
@@ -72,10 +70,14 @@ def step_text(step):
 
 
 def certificate_text(steps):
-    version = 2 if any(step.law in NEW_LAWS or is_new(step.given) for step in steps) else 1
-    if any(step.law in LAWS_SINCE["3"] for step in steps):
-        version = 3
+    version = max(map(version_of, steps), default="1")
     return "".join(line + "\n" for line in [f"laws {version}", *map(step_text, steps)])
+
+
+def version_of(step):
+    """The least version of certificates that has a step's law and the forms of its tree."""
+    since = [version for version, laws in LAWS_SINCE.items() if step.law in laws]
+    return max([*since, "2" if is_new(step.given) else "1"])
 
 
 def trace_text(lines):
@@ -97,7 +99,9 @@ SORTS = {
 }
 VERSIONS = {
     "yampa": {"1": NEW_FORMS, "2": []},
-    "laws": {"1": NEW_FORMS + NEW_LAWS, "2": LAWS_SINCE["3"], "3": []},
+    "laws": {
+        version: NEW_FORMS * (version == "1") + [law for law in NEW_LAWS if law not in laws_of(version)] for version in LAST_LAWS
+    },
 }
 
 

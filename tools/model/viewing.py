@@ -2,9 +2,9 @@
 import re
 from os.path import commonprefix
 
-from model.laws import StepFault, answer, taken
+from model.laws import StepFault, answer, laws_by_word, taken
 from model.texts import LAWS, Step, step_text
-from model.trees import at_text, is_network, shown
+from model.trees import at_text, head, is_network, shown
 from model.typed import WEIGHT, weight
 
 # How long a line of a tree is at most, and how deep in brackets what it shows of a longer one; and of a part of a tree how much it
@@ -13,6 +13,7 @@ LINE = 100
 DEEPEST = 8
 PART = 96
 FRONT = 20
+LAWS_BY_WORD = laws_by_word(LAWS)
 
 
 def outline_lines(typed):
@@ -33,7 +34,7 @@ def in_order(typed, top=()):
 def possible_steps(typed, top):
     """Each step forward at and below a position that can be taken, with what stands there and what then does."""
     for position, place in in_order(typed, top):
-        steps = [Step(law, "forward", position) for law in LAWS]
+        steps = [Step(law, "forward", position) for law in LAWS_BY_WORD.get(head(place.tree), [])]
         for step in [step for step in steps if answer(step, place.tree, len(place.scope.olds)) is not None]:
             try:
                 yield step, place.tree, taken(typed, step).places[position].tree

@@ -14,6 +14,7 @@ MEANINGS = {
     "ASSOC": "(pair (fst (fst x)) (pair (snd (fst x)) (snd x)))",
     "CROSS": "(pair (pair (fst (fst x)) (snd x)) (snd (fst x)))",
     "HELD": "(on (fst x) (pair (snd x) (snd x)) (pair (snd x) (snd x)))",
+    "HELD_ACCUM(g)": "(on (fst x) (pair (snd x) (snd x)) (then (pair (snd (fst x)) (snd x)) (then g (pair x x))))",
     "LEFT(g)": "(pair (then (fst x) g) (snd x))",
     "RIGHT(g)": "(pair (fst x) (then (snd x) g))",
     "MAP(g)": "(on x (none T) (event (then (snd x) g)))",
@@ -36,8 +37,16 @@ def law_of(left: str, right: str, note: str = "") -> Law:
     for word, meaning in MEANINGS.items():
         if re.search(rf"\b{word.partition('(')[0]}\b", left + right):
             words.append(f"{word} being {meaning}")
-        pattern = pattern.replace(word, meaning)
+        pattern = written_out(pattern, word, meaning)
     return Law(left, ", ".join([right, *words, *[f"where {note}"] * bool(note)]), pattern)
+
+
+def written_out(side: str, word: str, meaning: str) -> str:
+    """A side of a law with what a word in it means, there with the letter that stands behind it."""
+    name, _, letter = word.partition("(")
+    if not letter:
+        return re.sub(rf"\b{name}\b", meaning, side)
+    return re.sub(rf"\b{name}\((\w)\)", lambda found: re.sub(r"\bg\b", found[1], meaning), side)
 
 
 def read_laws(text: str) -> dict:

@@ -4,5 +4,8 @@ pub mod Numbers
 pub mod SideValues
 pub mod SideTypes
 pub mod Elements
+pub mod Choices
+pub mod Sums
+pub mod Lifting
 pub mod Products
 pub mod Answered

@@ -1,6 +1,6 @@
 -- The product of integers is associative and goes over sums.
 use Rattle.std.proofs.Common.{◌≡◌, zero, suc, ℤ, pos, negsuc, ◌+ℤ◌, ◌-ℤ◌, ◌*ℤ◌, neg_ℤ, sym, ap, ap₂, ◌∙◌}
-use Rattle.std.proofs.Math.IntN.{+ℤ_comm, +ℤ_assoc, +ℤ-neg_ℤ_cancel, -ℤ-+ℤ_cancel, neg_ℤ-+ℤ, *ℤ_comm, zero-*ℤ, suc_ℤ-*ℤ, pred_ℤ-*ℤ}
+use Rattle.std.proofs.Math.IntN.{+ℤ_comm, +ℤ_assoc, +ℤ_idl, +ℤ-neg_ℤ_cancel, -ℤ-+ℤ_cancel, neg_ℤ-+ℤ, *ℤ_comm, zero-*ℤ, suc_ℤ-*ℤ, pred_ℤ-*ℤ}
 
 -- the second and the third of four summands exchanged
 four : (a b c d : ℤ) → (a +ℤ b) +ℤ (c +ℤ d) ≡ (a +ℤ c) +ℤ (b +ℤ d)
@@ -34,6 +34,11 @@ pub *ℤ-+ℤ : (m n o : ℤ) → m *ℤ (n +ℤ o) ≡ m *ℤ n +ℤ m *ℤ o
 difference : (m n o : ℤ) → (m -ℤ n) *ℤ o ≡ m *ℤ o -ℤ n *ℤ o
 difference m n o =
     sym (+ℤ-neg_ℤ_cancel ((m -ℤ n) *ℤ o) (n *ℤ o)) ∙ ap (λ t. t -ℤ n *ℤ o) (sym (+ℤ-*ℤ (m -ℤ n) n o) ∙ ap (λ t. t *ℤ o) (-ℤ-+ℤ_cancel m n))
+
+-- the opposite of a product
+pub neg_ℤ-*ℤ : (m n : ℤ) → neg_ℤ (m *ℤ n) ≡ neg_ℤ m *ℤ n
+neg_ℤ-*ℤ m n =
+    sym (ap (λ t. t *ℤ n) (sym (+ℤ_idl (neg_ℤ m))) ∙ difference (pos zero) m n ∙ ap (λ t. t -ℤ m *ℤ n) (zero-*ℤ n) ∙ +ℤ_idl (neg_ℤ (m *ℤ n)))
 
 none-of-three : (n o : ℤ) → (pos zero *ℤ n) *ℤ o ≡ pos zero *ℤ (n *ℤ o)
 none-of-three n o = ap (λ t. t *ℤ o) (zero-*ℤ n) ∙ zero-*ℤ o ∙ sym (zero-*ℤ (n *ℤ o))

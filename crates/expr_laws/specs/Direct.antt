@@ -2,7 +2,7 @@
 -- side where the expression is a left side, else nothing.
 use Rattle.std.specs.Prelude.{ℤ, Bool, true, false, ◌&&◌, cond, [], Option, Some, None}
 use Rattle.sample_core.specs.Datum.{unit}
-use Rattle.leaf_core.specs.Expression.{Expression, Expressions, param, unit_expr, bool_expr, int_expr, pair_expr, fst, snd, then_expr, neg, add, sub, mul, less, equal, not_expr, and_expr, or_expr, if_expr, no_event_expr, event_expr, list_expr, nth, len, no_more, and_then}
+use Rattle.leaf_core.specs.Expression.{Expression, Expressions, param, unit_expr, bool_expr, int_expr, pair_expr, fst, snd, then_expr, neg, add, sub, mul, less, equal, not_expr, and_expr, or_expr, if_expr, no_event_expr, event_expr, on, list_expr, nth, len, no_more, and_then}
 use Rattle.leaf_core.specs.ExpressionValue.{value_of}
 use Rattle.leaf_core.specs.ExpressionCode.{expression_code}
 use Rattle.leaf_core.specs.EqualityByCode.{same_by}
@@ -115,3 +115,50 @@ turned_equal a b = cond (same_by expression_code a b) (bool_expr true) (equal b 
 abbrev pub law26 : Expression → Option Expression
 law26 (equal a b) = Some (turned_equal a b)
 law26 _ = None
+
+-- an operator of one part, at an `if`: an `if` between the operators at its parts
+abbrev pub lift_one : (Expression → Expression) → Expression → Option Expression
+lift_one form (if_expr c a b) = Some (if_expr c (form a) (form b))
+lift_one form _ = None
+
+-- the same of two parts, at the first that is an `if`
+abbrev pub lift_two : (Expression → Expression → Expression) → Expression → Expression
+    → Option Expression
+lift_two form (if_expr c a b) e = Some (if_expr c (form a e) (form b e))
+lift_two form d e = lift_one (form d) e
+
+-- the same of three parts
+abbrev pub lift_three : (Expression → Expression → Expression → Expression) → Expression
+    → Expression → Expression → Option Expression
+lift_three form (if_expr c a b) e f = Some (if_expr c (form a e f) (form b e f))
+lift_three form d e f = lift_two (form d) e f
+
+-- the same of the elements of a list
+abbrev pub lift_all : (Expressions → Expression) → Expressions → Option Expression
+lift_all form no_more = None
+lift_all form (and_then (if_expr c a b) es) =
+    Some (if_expr c (form (and_then a es)) (form (and_then b es)))
+lift_all form (and_then e es) = lift_all (λ fs. form (and_then e fs)) es
+
+-- an operator with an `if` among its parts that have its input
+abbrev pub law49 : Expression → Option Expression
+law49 (fst e) = lift_one fst e
+law49 (snd e) = lift_one snd e
+law49 (neg a) = lift_one neg a
+law49 (not_expr a) = lift_one not_expr a
+law49 (event_expr e) = lift_one event_expr e
+law49 (len e) = lift_one len e
+law49 (then_expr f g) = lift_one (λ d. then_expr d g) f
+law49 (pair_expr a b) = lift_two pair_expr a b
+law49 (add a b) = lift_two add a b
+law49 (sub a b) = lift_two sub a b
+law49 (mul a b) = lift_two mul a b
+law49 (less a b) = lift_two less a b
+law49 (equal a b) = lift_two equal a b
+law49 (and_expr a b) = lift_two and_expr a b
+law49 (or_expr a b) = lift_two or_expr a b
+law49 (on e d b) = lift_two (λ f g. on f g b) e d
+law49 (if_expr c a b) = lift_three if_expr c a b
+law49 (nth e i d) = lift_three nth e i d
+law49 (list_expr T es) = lift_all (list_expr T) es
+law49 _ = None

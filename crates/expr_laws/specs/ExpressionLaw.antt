@@ -96,6 +96,75 @@ pub data Compared : Expression → Expression → Type 0 where
   equal_same : {a : Expression} → Compared (equal a a) (bool_expr true)
   equal_turned : {a b : Expression} → (a ≡ b → ⊥) → Compared (equal a b) (equal b a)
 
+-- whether an expression is an `if`
+abbrev pub is_if : Expression → Bool
+is_if (if_expr c a b) = true
+is_if _ = false
+
+-- one expression
+abbrev pub one_of : Expression → Expressions
+one_of d = and_then d no_more
+
+-- two expressions
+abbrev pub two_of : Expression → Expression → Expressions
+two_of d e = and_then d (one_of e)
+
+-- three expressions
+abbrev pub three_of : Expression → Expression → Expression → Expressions
+three_of d e f = and_then d (two_of e f)
+
+-- some expressions, of which the first that is an `if` has the test c; and they with that `if`'s
+-- first part in its place, and with its second
+pub data FirstIf (c : Expression) : Expressions → Expressions → Expressions → Type 0 where
+  here : {a b : Expression} {es : Expressions}
+      → FirstIf c (and_then (if_expr c a b) es) (and_then a es) (and_then b es)
+  later : {e : Expression} {es ls rs : Expressions} → is_if e ≡ false → FirstIf c es ls rs
+      → FirstIf c (and_then e es) (and_then e ls) (and_then e rs)
+
+-- an operator with an `if` among its parts that have its input, and the `if` between the operators
+-- with the first `if`'s parts in its place
+pub data Lifted : Expression → Expression → Type 0 where
+  fst_lifted : {c a b : Expression}
+      → Lifted (fst (if_expr c a b)) (if_expr c (fst a) (fst b))
+  snd_lifted : {c a b : Expression}
+      → Lifted (snd (if_expr c a b)) (if_expr c (snd a) (snd b))
+  neg_lifted : {c a b : Expression}
+      → Lifted (neg (if_expr c a b)) (if_expr c (neg a) (neg b))
+  not_lifted : {c a b : Expression}
+      → Lifted (not_expr (if_expr c a b)) (if_expr c (not_expr a) (not_expr b))
+  event_lifted : {c a b : Expression}
+      → Lifted (event_expr (if_expr c a b)) (if_expr c (event_expr a) (event_expr b))
+  len_lifted : {c a b : Expression}
+      → Lifted (len (if_expr c a b)) (if_expr c (len a) (len b))
+  then_lifted : {c a b g : Expression}
+      → Lifted (then_expr (if_expr c a b) g) (if_expr c (then_expr a g) (then_expr b g))
+  pair_lifted : {c d e l m r s : Expression} → FirstIf c (two_of d e) (two_of l m) (two_of r s)
+      → Lifted (pair_expr d e) (if_expr c (pair_expr l m) (pair_expr r s))
+  add_lifted : {c d e l m r s : Expression} → FirstIf c (two_of d e) (two_of l m) (two_of r s)
+      → Lifted (add d e) (if_expr c (add l m) (add r s))
+  sub_lifted : {c d e l m r s : Expression} → FirstIf c (two_of d e) (two_of l m) (two_of r s)
+      → Lifted (sub d e) (if_expr c (sub l m) (sub r s))
+  mul_lifted : {c d e l m r s : Expression} → FirstIf c (two_of d e) (two_of l m) (two_of r s)
+      → Lifted (mul d e) (if_expr c (mul l m) (mul r s))
+  less_lifted : {c d e l m r s : Expression} → FirstIf c (two_of d e) (two_of l m) (two_of r s)
+      → Lifted (less d e) (if_expr c (less l m) (less r s))
+  equal_lifted : {c d e l m r s : Expression} → FirstIf c (two_of d e) (two_of l m) (two_of r s)
+      → Lifted (equal d e) (if_expr c (equal l m) (equal r s))
+  and_lifted : {c d e l m r s : Expression} → FirstIf c (two_of d e) (two_of l m) (two_of r s)
+      → Lifted (and_expr d e) (if_expr c (and_expr l m) (and_expr r s))
+  or_lifted : {c d e l m r s : Expression} → FirstIf c (two_of d e) (two_of l m) (two_of r s)
+      → Lifted (or_expr d e) (if_expr c (or_expr l m) (or_expr r s))
+  on_lifted : {c d e l m r s g : Expression} → FirstIf c (two_of d e) (two_of l m) (two_of r s)
+      → Lifted (on d e g) (if_expr c (on l m g) (on r s g))
+  if_lifted : {c d e f l m n r s t : Expression}
+      → FirstIf c (three_of d e f) (three_of l m n) (three_of r s t)
+      → Lifted (if_expr d e f) (if_expr c (if_expr l m n) (if_expr r s t))
+  nth_lifted : {c d e f l m n r s t : Expression}
+      → FirstIf c (three_of d e f) (three_of l m n) (three_of r s t)
+      → Lifted (nth d e f) (if_expr c (nth l m n) (nth r s t))
+  list_lifted : {c : Expression} {T : TypeTree} {es ls rs : Expressions} → FirstIf c es ls rs
+      → Lifted (list_expr T es) (if_expr c (list_expr T ls) (list_expr T rs))
+
 -- a law's number, its left side and its right side; a letter that comes twice on the left stands
 -- for one expression
 pub data ExpressionLaw : ℕ → Expression → Expression → Type 0 where
@@ -132,3 +201,46 @@ pub data ExpressionLaw : ℕ → Expression → Expression → Type 0 where
   law_e24 : {a : Expression} → ExpressionLaw 24 (not_expr (not_expr a)) a
   law_e25 : {c a b : Expression} → ExpressionLaw 25 (if_expr (not_expr c) a b) (if_expr c b a)
   law_e26 : {o r : Expression} → Compared o r → ExpressionLaw 26 o r
+  law_e27 : {a : Expression} → ExpressionLaw 27 (add a (int_expr (pos 0))) a
+  law_e28 : {a : Expression} → ExpressionLaw 28 (mul a (int_expr (pos 1))) a
+  law_e29 : {a : Expression} → ExpressionLaw 29 (mul a (int_expr (pos 0))) (int_expr (pos 0))
+  law_e30 : {a : Expression} → ExpressionLaw 30 (neg (neg a)) a
+  law_e31 : {a b : Expression} → ExpressionLaw 31 (neg (add a b)) (add (neg a) (neg b))
+  law_e32 : {a b : Expression} → ExpressionLaw 32 (neg (mul a b)) (mul (neg a) b)
+  law_e33 : {a : Expression} → ExpressionLaw 33 (add a (neg a)) (int_expr (pos 0))
+  law_e34 : {a : Expression} → ExpressionLaw 34 (less a a) (bool_expr false)
+  law_e35 : {a : Expression} → ExpressionLaw 35 (and_expr a a) a
+  law_e36 : {a : Expression} → ExpressionLaw 36 (or_expr a a) a
+  law_e37 : {a b c : Expression}
+      → ExpressionLaw 37 (and_expr (and_expr a b) c) (and_expr a (and_expr b c))
+  law_e38 : {a b c : Expression} → ExpressionLaw 38 (or_expr (or_expr a b) c) (or_expr a (or_expr b c))
+  law_e39 : {a : Expression} → ExpressionLaw 39 (and_expr a (not_expr a)) (bool_expr false)
+  law_e40 : {a : Expression} → ExpressionLaw 40 (or_expr a (not_expr a)) (bool_expr true)
+  law_e41 : {a b : Expression}
+      → ExpressionLaw 41 (not_expr (and_expr a b)) (or_expr (not_expr a) (not_expr b))
+  law_e42 : {a b : Expression}
+      → ExpressionLaw 42 (not_expr (or_expr a b)) (and_expr (not_expr a) (not_expr b))
+  law_e43 : {a b c : Expression}
+      → ExpressionLaw 43 (and_expr a (or_expr b c)) (or_expr (and_expr a b) (and_expr a c))
+  law_e44 : {c : Expression} → ExpressionLaw 44 (if_expr c (bool_expr true) (bool_expr false)) c
+  law_e45 : {a b : Expression} → ExpressionLaw 45 (and_expr a b) (if_expr a b (bool_expr false))
+  law_e46 : {a b : Expression} → ExpressionLaw 46 (or_expr a b) (if_expr a (bool_expr true) b)
+  law_e47 : {c a b d : Expression} → ExpressionLaw 47 (if_expr c (if_expr c a b) d) (if_expr c a d)
+  law_e48 : {c a b d : Expression} → ExpressionLaw 48 (if_expr c a (if_expr c b d)) (if_expr c a d)
+  law_e49 : {o r : Expression} → Lifted o r → ExpressionLaw 49 o r
+  law_e50 : {e d b g h : Expression}
+      → ExpressionLaw 50 (on (on e d b) g h)
+      (on e (on d g h)
+      (on b (then_expr (fst input) g)
+      (then_expr (pair_expr (fst (fst input)) (snd input)) h)))
+  law_e51 : {T : TypeTree} {e : Expression}
+      → ExpressionLaw 51 (on e (no_event_expr T) (event_expr (snd input))) e
+  law_e52 : {e d : Expression} → ExpressionLaw 52 (on e d (then_expr (fst input) d)) d
+  law_e53 : {e d b f : Expression}
+      → ExpressionLaw 53 (then_expr (on e d b) f) (on e (then_expr d f) (then_expr b f))
+  law_e54 : {e d b f : Expression}
+      → ExpressionLaw 54 (pair_expr (on e d b) f)
+      (on e (pair_expr d f) (pair_expr b (then_expr (fst input) f)))
+  law_e55 : {f e d b : Expression}
+      → ExpressionLaw 55 (pair_expr f (on e d b))
+      (on e (pair_expr f d) (pair_expr (then_expr (fst input) f) b))

@@ -8,6 +8,7 @@ ghost use Rattle.expr_laws.specs.Answer.{IsExpressionAnswer, IsRightSide};
 
 use crate::compare::compared;
 use crate::constant::constant_behind;
+use crate::lift::lifted;
 use crate::literals::computed;
 use crate::pick::pick_element;
 use crate::spread::spread_then;
@@ -56,6 +57,7 @@ fn forward(alloc: Global, number: u8, expr: &Expr) -> Result<Option<Expr>, Memor
         Rule::Pick => pick_element(alloc, expr),
         Rule::Turn => turned(alloc, expr),
         Rule::Compare => compared(expr),
+        Rule::Lift => lifted(alloc, expr),
     }
 }
 

@@ -15,6 +15,7 @@ mod apply;
 mod compare;
 mod constant;
 mod laws;
+mod lift;
 mod literals;
 mod pick;
 mod spread;

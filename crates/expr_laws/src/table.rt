@@ -3,10 +3,10 @@
 ghost use Rattle.std.specs.Prelude.{◌≡◌, [], get_or, map};
 ghost use Rattle.expr_laws.specs.Table.{left_at, right_at, rule_at};
 
-use Rule::{Compare, Compute, Constant, Nothing, Pick, Sides, Spread, Turn};
+use Rule::{Compare, Compute, Constant, Lift, Nothing, Pick, Sides, Spread, Turn};
 use law_patterns::{
-    ADD, EVENT, F, FALSE, FST, G, H, I, IF, LawLine, MUL, NEG, NONE, NOT, ON, PAIR, SND, SUB, Sym,
-    THEN, TRUE, X,
+    ADD, AND, EVENT, F, FALSE, FST, G, H, I, IF, J, LESS, LawLine, MUL, NEG, NONE, NOT, ON, ONE,
+    OR, PAIR, SND, SUB, Sym, THEN, TRUE, X, ZERO,
 };
 use net_tree::LAST_EXPRESSION_LAW;
 
@@ -29,6 +29,8 @@ pub enum Rule {
     Turn,
     /// `equal` of one expression is `true`, another is turned round.
     Compare,
+    /// An operator at an `if` is an `if` between operators.
+    Lift,
 }
 
 /// The laws by number, from 0. In each side a form is written before its parts.
@@ -66,6 +68,56 @@ pub const LAWS: [LawLine<Rule, Sym>; LAST_EXPRESSION_LAW as usize + 1] = [
     (Sides, &[NOT, NOT, F], &[F]),
     (Sides, &[IF, NOT, F, G, H], &[IF, F, H, G]),
     (Compare, &[], &[]),
+    (Sides, &[ADD, F, ZERO], &[F]),
+    (Sides, &[MUL, F, ONE], &[F]),
+    (Sides, &[MUL, F, ZERO], &[ZERO]),
+    // 30
+    (Sides, &[NEG, NEG, F], &[F]),
+    (Sides, &[NEG, ADD, F, G], &[ADD, NEG, F, NEG, G]),
+    (Sides, &[NEG, MUL, F, G], &[MUL, NEG, F, G]),
+    (Sides, &[ADD, F, NEG, F], &[ZERO]),
+    (Sides, &[LESS, F, F], &[FALSE]),
+    (Sides, &[AND, F, F], &[F]),
+    (Sides, &[OR, F, F], &[F]),
+    (Sides, &[AND, AND, F, G, H], &[AND, F, AND, G, H]),
+    (Sides, &[OR, OR, F, G, H], &[OR, F, OR, G, H]),
+    (Sides, &[AND, F, NOT, F], &[FALSE]),
+    // 40
+    (Sides, &[OR, F, NOT, F], &[TRUE]),
+    (Sides, &[NOT, AND, F, G], &[OR, NOT, F, NOT, G]),
+    (Sides, &[NOT, OR, F, G], &[AND, NOT, F, NOT, G]),
+    (Sides, &[AND, F, OR, G, H], &[OR, AND, F, G, AND, F, H]),
+    (Sides, &[IF, F, TRUE, FALSE], &[F]),
+    (Sides, &[AND, F, G], &[IF, F, G, FALSE]),
+    (Sides, &[OR, F, G], &[IF, F, TRUE, G]),
+    (Sides, &[IF, F, IF, F, G, H, I], &[IF, F, G, I]),
+    (Sides, &[IF, F, G, IF, F, H, I], &[IF, F, G, I]),
+    (Lift, &[], &[]),
+    // 50
+    (
+        Sides,
+        &[ON, ON, F, G, H, I, J],
+        &[
+            ON, F, ON, G, I, J, ON, H, THEN, FST, X, I, THEN, PAIR, FST, FST, X, SND, X, J,
+        ],
+    ),
+    (Sides, &[ON, F, NONE, EVENT, SND, X], &[F]),
+    (Sides, &[ON, F, G, THEN, FST, X, G], &[G]),
+    (
+        Sides,
+        &[THEN, ON, F, G, H, I],
+        &[ON, F, THEN, G, I, THEN, H, I],
+    ),
+    (
+        Sides,
+        &[PAIR, ON, F, G, H, I],
+        &[ON, F, PAIR, G, I, PAIR, H, THEN, FST, X, I],
+    ),
+    (
+        Sides,
+        &[PAIR, F, ON, G, H, I],
+        &[ON, G, PAIR, F, H, PAIR, THEN, FST, X, F, I],
+    ),
 ];
 
 /// The law of this number.

@@ -1,8 +1,11 @@
 -- Matching finds a choice of trees exactly where there is one.
 use Rattle.std.proofs.Common.{◌≡◌, Bool, true, false, List, [], ◌∷◌, Option, Some, None, refl, sym, ap, ◌∙◌, subst}
+use Rattle.std.specs.Prelude.{ℤ}
+use Rattle.std.specs.Ordering.{int_eq}
+use Rattle.std.proofs.lemmas.Bool.Decides.{Decides-int_eq}
 use Rattle.sample_core.specs.TypeTree.{TypeTree}
 use Rattle.sample_core.specs.TypeCode.{type_code}
-use Rattle.leaf_core.specs.Expression.{Expression, input, unit_expr, bool_expr, no_event_expr, fst, snd, event_expr, pair_expr, then_expr, neg, not_expr, add, sub, mul, if_expr, on}
+use Rattle.leaf_core.specs.Expression.{Expression, input, unit_expr, bool_expr, int_expr, no_event_expr, fst, snd, event_expr, pair_expr, then_expr, neg, add, sub, mul, less, not_expr, and_expr, or_expr, if_expr, on}
 use Rattle.leaf_core.specs.ExpressionCode.{expression_code}
 use Rattle.leaf_core.specs.EqualityByCode.{same_by, same_by_decides}
 use Rattle.law_patterns.specs.declared.sym.Letter.{Letter}
@@ -24,6 +27,7 @@ pub record Agrees (a : Assignment) (s : FoundLetters) : Type 0 where
   pub g : AgreesAt s.g a.g
   pub h : AgreesAt s.h a.h
   pub i : AgreesAt s.i a.i
+  pub j : AgreesAt s.j a.j
   pub t : AgreesAt s.t a.t
 
 agrees-at : (a : Assignment) (s : FoundLetters) (k : Letter) → Agrees a s → AgreesAt (found_at s k) (letter_choice a k)
@@ -31,12 +35,14 @@ agrees-at a s L.F c = c.f
 agrees-at a s L.G c = c.g
 agrees-at a s L.H c = c.h
 agrees-at a s L.I c = c.i
+agrees-at a s L.J c = c.j
 
 agrees-with : (a : Assignment) (s : FoundLetters) (k : Letter) → Agrees a s → Agrees a (found_with s k (letter_choice a k))
-agrees-with a s L.F c = record { f = refl; g = c.g; h = c.h; i = c.i; t = c.t }
-agrees-with a s L.G c = record { f = c.f; g = refl; h = c.h; i = c.i; t = c.t }
-agrees-with a s L.H c = record { f = c.f; g = c.g; h = refl; i = c.i; t = c.t }
-agrees-with a s L.I c = record { f = c.f; g = c.g; h = c.h; i = refl; t = c.t }
+agrees-with a s L.F c = record { f = refl; g = c.g; h = c.h; i = c.i; j = c.j; t = c.t }
+agrees-with a s L.G c = record { f = c.f; g = refl; h = c.h; i = c.i; j = c.j; t = c.t }
+agrees-with a s L.H c = record { f = c.f; g = c.g; h = refl; i = c.i; j = c.j; t = c.t }
+agrees-with a s L.I c = record { f = c.f; g = c.g; h = c.h; i = refl; j = c.j; t = c.t }
+agrees-with a s L.J c = record { f = c.f; g = c.g; h = c.h; i = c.i; j = refl; t = c.t }
 
 -- what goes on from a match: the rest to match is es, and the chosen trees agree
 abbrev pub GoesOn : Assignment → List Expression → Matching → Type 0
@@ -49,7 +55,7 @@ bound-complete (Some d) k a es s h c =
 
 bound_type-complete : (o : Option TypeTree) (a : Assignment) (es : List Expression) (s : FoundLetters) → AgreesAt o a.t → Agrees a s → GoesOn a es (bound_type o a.t es s)
 bound_type-complete None a es s h c =
-    (record s { t = Some a.t }, refl, record { f = c.f; g = c.g; h = c.h; i = c.i; t = refl })
+    (record s { t = Some a.t }, refl, record { f = c.f; g = c.g; h = c.h; i = c.i; j = c.j; t = refl })
 bound_type-complete (Some u) a es s h c =
     (s, ap (λ b. going b es s) ((same_by_decides type_code u a.t).1 h), c)
 
@@ -67,6 +73,7 @@ fits-put (S.Letter k) a s xs c = bound-complete (found_at s k) k a xs s (agrees-
 fits-put S.Input a s xs c = (s, refl, c)
 fits-put S.Unit a s xs c = (s, refl, c)
 fits-put (S.Truth b) a s xs c = (s, ap (λ r. going r xs s) (truth-itself b), c)
+fits-put (S.Number n) a s xs c = (s, ap (λ r. going r xs s) ((Decides-int_eq n n).1 refl), c)
 fits-put S.NoEvent a s xs c = bound_type-complete s.t a xs s c.t c
 fits-put S.Fst a s (d ∷ xs) c = (s, refl, c)
 fits-put S.Snd a s (d ∷ xs) c = (s, refl, c)
@@ -78,6 +85,9 @@ fits-put S.Not a s (d ∷ xs) c = (s, refl, c)
 fits-put S.Add a s (b ∷ d ∷ xs) c = (s, refl, c)
 fits-put S.Sub a s (b ∷ d ∷ xs) c = (s, refl, c)
 fits-put S.Mul a s (b ∷ d ∷ xs) c = (s, refl, c)
+fits-put S.Less a s (b ∷ d ∷ xs) c = (s, refl, c)
+fits-put S.And a s (b ∷ d ∷ xs) c = (s, refl, c)
+fits-put S.Or a s (b ∷ d ∷ xs) c = (s, refl, c)
 fits-put S.If a s (e ∷ b ∷ d ∷ xs) c = (s, refl, c)
 fits-put S.On a s (e ∷ b ∷ d ∷ xs) c = (s, refl, c)
 fits-put _ a s _ c = tt
@@ -134,10 +144,11 @@ pub agrees-none : {A : Type 0} (o : Option A) (x : A) → o ≡ None → AgreesA
 agrees-none o x p = subst (λ o. AgreesAt o x) (sym p) tt
 
 agrees-before : (k : Letter) (a : Assignment) (e : Expression) (s : FoundLetters) → found_at s k ≡ None → Agrees a (found_with s k e) → Before a k e s
-agrees-before L.F a e s p c = (sym c.f, record { f = agrees-none s.f a.f p; g = c.g; h = c.h; i = c.i; t = c.t })
-agrees-before L.G a e s p c = (sym c.g, record { f = c.f; g = agrees-none s.g a.g p; h = c.h; i = c.i; t = c.t })
-agrees-before L.H a e s p c = (sym c.h, record { f = c.f; g = c.g; h = agrees-none s.h a.h p; i = c.i; t = c.t })
-agrees-before L.I a e s p c = (sym c.i, record { f = c.f; g = c.g; h = c.h; i = agrees-none s.i a.i p; t = c.t })
+agrees-before L.F a e s p c = (sym c.f, record { f = agrees-none s.f a.f p; g = c.g; h = c.h; i = c.i; j = c.j; t = c.t })
+agrees-before L.G a e s p c = (sym c.g, record { f = c.f; g = agrees-none s.g a.g p; h = c.h; i = c.i; j = c.j; t = c.t })
+agrees-before L.H a e s p c = (sym c.h, record { f = c.f; g = c.g; h = agrees-none s.h a.h p; i = c.i; j = c.j; t = c.t })
+agrees-before L.I a e s p c = (sym c.i, record { f = c.f; g = c.g; h = c.h; i = agrees-none s.i a.i p; j = c.j; t = c.t })
+agrees-before L.J a e s p c = (sym c.j, record { f = c.f; g = c.g; h = c.h; i = c.i; j = agrees-none s.j a.j p; t = c.t })
 
 bound-sound : (o : Option Expression) (k : Letter) (a : Assignment) (e : Expression) (es xs : List Expression) (s r : FoundLetters) → found_at s k ≡ o → letter_bound o k e es s ≡ matching xs r → Agrees a r → Writes a (S.Letter k) xs (e ∷ es) s
 bound-sound None k a e es xs s r p q c =
@@ -154,7 +165,7 @@ bound_type-sound : (o : Option TypeTree) (a : Assignment) (t : TypeTree) (es xs 
 bound_type-sound None a t es xs s r p q c =
     let h = from-matching es xs (record s { t = Some t }) r q in
     let b = subst (Agrees a) (sym h.1) c in
-    (λ j. Some (no_event_expr (sym b.t j) ∷ sym h.0 j), record { f = b.f; g = b.g; h = b.h; i = b.i; t = agrees-none s.t a.t p })
+    (λ j. Some (no_event_expr (sym b.t j) ∷ sym h.0 j), record { f = b.f; g = b.g; h = b.h; i = b.i; j = b.j; t = agrees-none s.t a.t p })
 bound_type-sound (Some u) a t es xs s r p q c =
     let h = going-sound (same_by type_code u t) es xs s r q in
     let b = subst (Agrees a) (sym h.1.1) c in
@@ -172,12 +183,18 @@ truth-sound b d a es xs s r q c =
     let h = going-sound (same_truth b d) es xs s r q in
     (λ j. Some (bool_expr (truth-same b d h.0 j) ∷ sym h.1.0 j), subst (Agrees a) (sym h.1.1) c)
 
+number-sound : (n m : ℤ) (a : Assignment) (es xs : List Expression) (s r : FoundLetters) → going (int_eq n m) es s ≡ matching xs r → Agrees a r → Writes a (S.Number n) xs (int_expr m ∷ es) s
+number-sound n m a es xs s r q c =
+    let h = going-sound (int_eq n m) es xs s r q in
+    (λ j. Some (int_expr ((Decides-int_eq n m).0 h.0 j) ∷ sym h.1.0 j), subst (Agrees a) (sym h.1.1) c)
+
 -- a symbol writes what it has met
 met-sound : (y : Sym) (e : Expression) (a : Assignment) (es xs : List Expression) (s r : FoundLetters) → met y e es s ≡ matching xs r → Agrees a r → Writes a y xs (e ∷ es) s
 met-sound (S.Letter k) e a es xs s r q c = bound-sound (found_at s k) k a e es xs s r refl q c
 met-sound S.Input input a es xs s r q c = form-sound S.Input a es (input ∷ es) xs s r refl q c
 met-sound S.Unit unit_expr a es xs s r q c = form-sound S.Unit a es (unit_expr ∷ es) xs s r refl q c
 met-sound (S.Truth b) (bool_expr d) a es xs s r q c = truth-sound b d a es xs s r q c
+met-sound (S.Number n) (int_expr m) a es xs s r q c = number-sound n m a es xs s r q c
 met-sound S.NoEvent (no_event_expr t) a es xs s r q c = bound_type-sound s.t a t es xs s r refl q c
 met-sound S.Fst (fst d) a es xs s r q c = form-sound S.Fst a (d ∷ es) (fst d ∷ es) xs s r refl q c
 met-sound S.Snd (snd d) a es xs s r q c = form-sound S.Snd a (d ∷ es) (snd d ∷ es) xs s r refl q c
@@ -189,6 +206,9 @@ met-sound S.Not (not_expr d) a es xs s r q c = form-sound S.Not a (d ∷ es) (no
 met-sound S.Add (add b d) a es xs s r q c = form-sound S.Add a (b ∷ d ∷ es) (add b d ∷ es) xs s r refl q c
 met-sound S.Sub (sub b d) a es xs s r q c = form-sound S.Sub a (b ∷ d ∷ es) (sub b d ∷ es) xs s r refl q c
 met-sound S.Mul (mul b d) a es xs s r q c = form-sound S.Mul a (b ∷ d ∷ es) (mul b d ∷ es) xs s r refl q c
+met-sound S.Less (less b d) a es xs s r q c = form-sound S.Less a (b ∷ d ∷ es) (less b d ∷ es) xs s r refl q c
+met-sound S.And (and_expr b d) a es xs s r q c = form-sound S.And a (b ∷ d ∷ es) (and_expr b d ∷ es) xs s r refl q c
+met-sound S.Or (or_expr b d) a es xs s r q c = form-sound S.Or a (b ∷ d ∷ es) (or_expr b d ∷ es) xs s r refl q c
 met-sound S.If (if_expr f b d) a es xs s r q c = form-sound S.If a (f ∷ b ∷ d ∷ es) (if_expr f b d ∷ es) xs s r refl q c
 met-sound S.On (on f b d) a es xs s r q c = form-sound S.On a (f ∷ b ∷ d ∷ es) (on f b d ∷ es) xs s r refl q c
 met-sound _ _ a es xs s r q c = never-failed xs r q

@@ -4,7 +4,7 @@ use Rattle.std.proofs.lemmas.Bool.Decides.{Decides-eqb}
 use Rattle.leaf_core.specs.Expression.{Expression}
 use Rattle.leaf_core.specs.ExpressionCode.{expression_code}
 use Rattle.leaf_core.specs.EqualityByCode.{same_by, same_by_decides}
-use Rattle.net_tree.specs.Network.{Network, arr, seq, first, loop_pre, initial_out, initial_in, i_pre, delay, hold, accum_by, after, repeatedly, at_once, delayed, switch, r_switch, k_switch}
+use Rattle.net_tree.specs.Network.{Network, arr, seq, first, loop_pre, initial_out, initial_in, i_pre, delay, hold, accum_by, after, repeatedly, time, integral, at_once, delayed, switch, r_switch, k_switch}
 use Rattle.net_tree.specs.NetworkCode.{network_code}
 use Rattle.law_patterns.specs.declared.sym.Sym.{Sym}
 use Rattle.law_patterns.specs.declared.net_sym.NetLetter.{NetLetter}
@@ -76,6 +76,9 @@ fits-put S.Hold a s (both (e ∷ es) fs) c = (s, refl, c)
 fits-put S.Delay a s (both (e ∷ es) fs) c = number-complete s.q a (e ∷ es) fs s c.q c
 fits-put S.After a s (both (e ∷ es) fs) c = number-complete s.q a (e ∷ es) fs s c.q c
 fits-put S.Repeatedly a s (both (e ∷ es) fs) c = number-complete s.q a (e ∷ es) fs s c.q c
+fits-put S.Now a s (both (e ∷ es) fs) c = (s, refl, c)
+fits-put S.Time a s (both es fs) c = (s, refl, c)
+fits-put S.Integral a s (both es fs) c = (s, refl, c)
 fits-put S.AccumBy a s (both (d ∷ e ∷ es) fs) c = (s, refl, c)
 fits-put S.LoopPre a s (both (e ∷ es) (f ∷ fs)) c = (s, refl, c)
 fits-put S.InitialOut a s (both (e ∷ es) (f ∷ fs)) c = (s, refl, c)
@@ -183,6 +186,13 @@ timed-writes form y q e a es xs fs gs s r put m c =
     let n = number-sound s.q a q (e ∷ es) xs fs gs s r refl m c in
     ((λ j. net_put_before a y (both (sym n.1 j) (sym n.2 j))) ∙ put ∙ (λ j. Some (both es (form (n.0 j) e ∷ fs))), n.3)
 
+now-sound : (n : ℕ) (e : Expression) (a : NetAssignment) (es xs : List Expression) (fs gs : List (Network Expression)) (s r : NetFound) → net_going (nat_eq n 0) (e ∷ es) fs s ≡ net_matching xs gs r → NetAgrees a r
+    → Writes a S.Now (both xs gs) (both es (after n e ∷ fs)) s
+now-sound n e a es xs fs gs s r q c =
+    let h = going-sound (nat_eq n 0) (e ∷ es) xs fs gs s r q in
+    let zero : n ≡ 0 = (Decides-eqb n 0).0 h.0 in
+    ((λ j. net_put_before a S.Now (both (sym h.1.0 j) (sym h.1.1 j))) ∙ (λ j. Some (both es (after (sym zero j) e ∷ fs))), subst (NetAgrees a) (sym h.1.2) c)
+
 -- a letter or a form writes what it has met
 net_met-sound : (y : NetSym) (n : Network Expression) (a : NetAssignment) (es xs : List Expression) (fs gs : List (Network Expression)) (s r : NetFound) → net_met y n es fs s ≡ net_matching xs gs r → NetAgrees a r
     → Writes a y (both xs gs) (both es (n ∷ fs)) s
@@ -193,6 +203,9 @@ net_met-sound S.Hold (hold e) a es xs fs gs s r q c = form-sound S.Hold a _ (e �
 net_met-sound S.Delay (delay n e) a es xs fs gs s r q c = timed-writes delay S.Delay n e a es xs fs gs s r refl q c
 net_met-sound S.After (after n e) a es xs fs gs s r q c = timed-writes after S.After n e a es xs fs gs s r refl q c
 net_met-sound S.Repeatedly (repeatedly n e) a es xs fs gs s r q c = timed-writes repeatedly S.Repeatedly n e a es xs fs gs s r refl q c
+net_met-sound S.Now (after n e) a es xs fs gs s r q c = now-sound n e a es xs fs gs s r q c
+net_met-sound S.Time time a es xs fs gs s r q c = form-sound S.Time a _ es xs fs gs s r refl q c
+net_met-sound S.Integral integral a es xs fs gs s r q c = form-sound S.Integral a _ es xs fs gs s r refl q c
 net_met-sound S.AccumBy (accum_by d e) a es xs fs gs s r q c = form-sound S.AccumBy a _ (d ∷ e ∷ es) xs fs gs s r refl q c
 net_met-sound S.LoopPre (loop_pre e f) a es xs fs gs s r q c = form-sound S.LoopPre a _ (e ∷ es) xs (f ∷ fs) gs s r refl q c
 net_met-sound S.InitialOut (initial_out e f) a es xs fs gs s r q c = form-sound S.InitialOut a _ (e ∷ es) xs (f ∷ fs) gs s r refl q c

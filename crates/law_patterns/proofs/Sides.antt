@@ -27,6 +27,7 @@ put-alike (S.Letter k) a b xs ys h = h
 put-alike S.Input a b xs ys h = h
 put-alike S.Unit a b xs ys h = h
 put-alike (S.Truth t) a b xs ys h = h
+put-alike (S.Number n) a b xs ys h = h
 put-alike S.NoEvent a b xs ys h = h
 put-alike S.Fst a b (x ∷ xs) (y ∷ ys) h = h
 put-alike S.Snd a b (x ∷ xs) (y ∷ ys) h = h
@@ -38,6 +39,9 @@ put-alike S.Not a b (x ∷ xs) (y ∷ ys) h = h
 put-alike S.Add a b (x ∷ x' ∷ xs) (y ∷ y' ∷ ys) h = h
 put-alike S.Sub a b (x ∷ x' ∷ xs) (y ∷ y' ∷ ys) h = h
 put-alike S.Mul a b (x ∷ x' ∷ xs) (y ∷ y' ∷ ys) h = h
+put-alike S.Less a b (x ∷ x' ∷ xs) (y ∷ y' ∷ ys) h = h
+put-alike S.And a b (x ∷ x' ∷ xs) (y ∷ y' ∷ ys) h = h
+put-alike S.Or a b (x ∷ x' ∷ xs) (y ∷ y' ∷ ys) h = h
 put-alike S.If a b (x ∷ x' ∷ x'' ∷ xs) (y ∷ y' ∷ y'' ∷ ys) h = h
 put-alike S.On a b (x ∷ x' ∷ x'' ∷ xs) (y ∷ y' ∷ y'' ∷ ys) h = h
 put-alike _ a b [] [] h = tt
@@ -85,11 +89,12 @@ completed-agrees s = record {
   g = or_input-agrees s.g;
   h = or_input-agrees s.h;
   i = or_input-agrees s.i;
+  j = or_input-agrees s.j;
   t = or_unit-agrees s.t;
 }
 
 pub nothing-agrees : (a : Assignment) → Agrees a nothing_found
-nothing-agrees a = record { f = tt; g = tt; h = tt; i = tt; t = tt }
+nothing-agrees a = record { f = tt; g = tt; h = tt; i = tt; j = tt; t = tt }
 
 some-sides : (left right : List Sym) (e r : Expression) (o : Option FoundLetters) → fitted left (e ∷ []) nothing_found ≡ o → built right o ≡ Some r → PatternSides left right e r
 some-sides left right e r None q p = absurd (cc)

@@ -1,6 +1,6 @@
 -- Building symbol by symbol.
 use Rattle.std.specs.Prelude.{Bool, true, false, List, Option, Some, None}
-use Rattle.leaf_core.specs.Expression.{Expression, fst, snd, event_expr, pair_expr, then_expr, neg, not_expr, add, sub, mul, if_expr, on}
+use Rattle.leaf_core.specs.Expression.{Expression, fst, snd, event_expr, pair_expr, then_expr, neg, add, sub, mul, less, not_expr, and_expr, or_expr, if_expr, on}
 use Rattle.law_patterns.specs.declared.sym.Sym.{Sym}
 use Rattle.law_patterns.specs.declared.sym.Sym.TheVariants as S
 
@@ -23,6 +23,9 @@ two_form S.Pair a b = pair_expr a b
 two_form S.Then a b = then_expr a b
 two_form S.Sub a b = sub a b
 two_form S.Mul a b = mul a b
+two_form S.Less a b = less a b
+two_form S.And a b = and_expr a b
+two_form S.Or a b = or_expr a b
 two_form _ a b = add a b
 
 -- the form of three parts

@@ -1,11 +1,12 @@
 -- Matching symbol by symbol.
 use Rattle.std.specs.Prelude.{Bool, true, false, not, List, [], ◌∷◌, map, Option, Some, None}
+use Rattle.std.specs.Ordering.{int_eq}
 use Rattle.std.proofs.Common.{Bor}
 use Rattle.sample_core.specs.TypeTree.{TypeTree, unit_ty}
 use Rattle.sample_core.specs.TypeCode.{type_code}
 use Rattle.sample_core.specs.TypeView.{type_of}
 use Rattle.sample_core.specs.declared.ty.Ty.{Ty}
-use Rattle.leaf_core.specs.Expression.{Expression, input, unit_expr, bool_expr, no_event_expr, fst, snd, event_expr, pair_expr, then_expr, neg, not_expr, add, sub, mul, if_expr, on}
+use Rattle.leaf_core.specs.Expression.{Expression, input, unit_expr, bool_expr, int_expr, no_event_expr, fst, snd, event_expr, pair_expr, then_expr, neg, add, sub, mul, less, not_expr, and_expr, or_expr, if_expr, on}
 use Rattle.leaf_core.specs.ExpressionCode.{expression_code}
 use Rattle.leaf_core.specs.EqualityByCode.{same_by}
 use Rattle.leaf_core.specs.ExpressionView.{expression_of}
@@ -23,11 +24,12 @@ pub record FoundLetters : Type 0 where
   pub g : Option Expression
   pub h : Option Expression
   pub i : Option Expression
+  pub j : Option Expression
   pub t : Option TypeTree
 
 -- no letter has a tree
 abbrev pub nothing_found : FoundLetters
-nothing_found = record { f = None; g = None; h = None; i = None; t = None }
+nothing_found = record { f = None; g = None; h = None; i = None; j = None; t = None }
 
 -- the expression that the code holds, if there is one
 abbrev pub held_expression : Option (Bor Expr) → Option Expression
@@ -50,6 +52,7 @@ found_of s = record {
   g = held_expression s.g;
   h = held_expression s.h;
   i = held_expression s.i;
+  j = held_expression s.j;
   t = held_type s.t;
 }
 
@@ -59,6 +62,7 @@ found_at s L.F = s.f
 found_at s L.G = s.g
 found_at s L.H = s.h
 found_at s L.I = s.i
+found_at s L.J = s.j
 
 -- with this expression for a letter
 abbrev pub found_with : FoundLetters → Letter → Expression → FoundLetters
@@ -66,6 +70,7 @@ found_with s L.F e = record s { f = Some e }
 found_with s L.G e = record s { g = Some e }
 found_with s L.H e = record s { h = Some e }
 found_with s L.I e = record s { i = Some e }
+found_with s L.J e = record s { j = Some e }
 
 -- how far a match has come: the expressions that are still to be matched, and the trees of the
 -- letters
@@ -99,6 +104,7 @@ met (S.Letter k) e es s = letter_bound (found_at s k) k e es s
 met S.Input input es s = matching es s
 met S.Unit unit_expr es s = matching es s
 met (S.Truth b) (bool_expr c) es s = going (same_truth b c) es s
+met (S.Number n) (int_expr m) es s = going (int_eq n m) es s
 met S.NoEvent (no_event_expr t) es s = bound_type s.t t es s
 met S.Fst (fst d) es s = matching (d ∷ es) s
 met S.Snd (snd d) es s = matching (d ∷ es) s
@@ -110,6 +116,9 @@ met S.Not (not_expr d) es s = matching (d ∷ es) s
 met S.Add (add c d) es s = matching (c ∷ d ∷ es) s
 met S.Sub (sub c d) es s = matching (c ∷ d ∷ es) s
 met S.Mul (mul c d) es s = matching (c ∷ d ∷ es) s
+met S.Less (less c d) es s = matching (c ∷ d ∷ es) s
+met S.And (and_expr c d) es s = matching (c ∷ d ∷ es) s
+met S.Or (or_expr c d) es s = matching (c ∷ d ∷ es) s
 met S.If (if_expr b c d) es s = matching (b ∷ c ∷ d ∷ es) s
 met S.On (on b c d) es s = matching (b ∷ c ∷ d ∷ es) s
 met _ _ es s = failed
@@ -151,6 +160,7 @@ completed s = record {
   g = or_input s.g;
   h = or_input s.h;
   i = or_input s.i;
+  j = or_input s.j;
   t = or_unit s.t;
 }
 

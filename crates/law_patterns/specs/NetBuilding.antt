@@ -17,6 +17,7 @@ leaf_form S.IPre q e = i_pre e
 leaf_form S.Hold q e = hold e
 leaf_form S.Delay q e = delay q e
 leaf_form S.After q e = after q e
+leaf_form S.Now q e = after 0 e
 leaf_form S.Repeatedly q e = repeatedly q e
 leaf_form _ q e = arr e
 

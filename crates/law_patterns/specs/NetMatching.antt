@@ -5,7 +5,7 @@ use Rattle.leaf_core.specs.Expression.{Expression}
 use Rattle.leaf_core.specs.ExpressionCode.{expression_code}
 use Rattle.leaf_core.specs.EqualityByCode.{same_by}
 use Rattle.leaf_core.specs.declared.expr.Expr.{Expr}
-use Rattle.net_tree.specs.Network.{Network, arr, seq, first, loop_pre, initial_out, initial_in, i_pre, delay, hold, accum_by, after, repeatedly, time, at_once, delayed, switch, r_switch, k_switch}
+use Rattle.net_tree.specs.Network.{Network, arr, seq, first, loop_pre, initial_out, initial_in, i_pre, delay, hold, accum_by, after, repeatedly, time, integral, at_once, delayed, switch, r_switch, k_switch}
 use Rattle.net_tree.specs.NetworkCode.{network_code}
 use Rattle.net_tree.specs.NetworkView.{tree_of}
 use Rattle.net_tree.specs.declared.net.Net.{Net}
@@ -98,7 +98,10 @@ net_met S.IPre (i_pre e) es fs s = net_matching (e ∷ es) fs s
 net_met S.Hold (hold e) es fs s = net_matching (e ∷ es) fs s
 net_met S.Delay (delay q e) es fs s = number_bound s.q q (e ∷ es) fs s
 net_met S.After (after q e) es fs s = number_bound s.q q (e ∷ es) fs s
+net_met S.Now (after q e) es fs s = net_going (nat_eq q 0) (e ∷ es) fs s
 net_met S.Repeatedly (repeatedly q e) es fs s = number_bound s.q q (e ∷ es) fs s
+net_met S.Time time es fs s = net_matching es fs s
+net_met S.Integral integral es fs s = net_matching es fs s
 net_met S.AccumBy (accum_by g z) es fs s = net_matching (g ∷ z ∷ es) fs s
 net_met S.LoopPre (loop_pre c f) es fs s = net_matching (c ∷ es) (f ∷ fs) s
 net_met S.InitialOut (initial_out c f) es fs s = net_matching (c ∷ es) (f ∷ fs) s

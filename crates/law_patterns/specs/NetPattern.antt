@@ -1,7 +1,7 @@
 -- Patterns of networks: what they stand for, and the laws that pairs of them make.
 use Rattle.std.specs.Prelude.{◌≡◌, ℕ, List, [], ◌∷◌, Option, Some, None}
 use Rattle.leaf_core.specs.Expression.{Expression}
-use Rattle.net_tree.specs.Network.{Network, arr, seq, first, loop_pre, initial_out, initial_in, i_pre, delay, hold, accum_by, after, repeatedly, at_once, delayed, switch, r_switch, k_switch}
+use Rattle.net_tree.specs.Network.{Network, arr, seq, first, loop_pre, initial_out, initial_in, i_pre, delay, hold, accum_by, after, repeatedly, time, integral, at_once, delayed, switch, r_switch, k_switch}
 use Rattle.law_patterns.specs.declared.net_sym.NetLetter.{NetLetter}
 use Rattle.law_patterns.specs.declared.net_sym.NetLetter.TheVariants as L
 use Rattle.law_patterns.specs.declared.net_sym.NetSym.{NetSym}
@@ -65,7 +65,10 @@ net_put_before a S.IPre (both es fs) = of_leaf i_pre es fs
 net_put_before a S.Hold (both es fs) = of_leaf hold es fs
 net_put_before a S.Delay (both es fs) = of_leaf (delay a.q) es fs
 net_put_before a S.After (both es fs) = of_leaf (after a.q) es fs
+net_put_before a S.Now (both es fs) = of_leaf (after 0) es fs
 net_put_before a S.Repeatedly (both es fs) = of_leaf (repeatedly a.q) es fs
+net_put_before a S.Time (both es fs) = Some (both es (time ∷ fs))
+net_put_before a S.Integral (both es fs) = Some (both es (integral ∷ fs))
 net_put_before a S.AccumBy (both es fs) = of_leaves accum_by es fs
 net_put_before a S.LoopPre (both es fs) = of_fed loop_pre es fs
 net_put_before a S.InitialOut (both es fs) = of_fed initial_out es fs

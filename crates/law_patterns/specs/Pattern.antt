@@ -1,18 +1,19 @@
 -- Patterns of expressions: what they stand for, and the laws that pairs of them make.
 use Rattle.std.specs.Prelude.{◌≡◌, List, [], ◌∷◌, Option, Some, None}
 use Rattle.sample_core.specs.TypeTree.{TypeTree}
-use Rattle.leaf_core.specs.Expression.{Expression, input, unit_expr, bool_expr, no_event_expr, fst, snd, event_expr, pair_expr, then_expr, neg, not_expr, add, sub, mul, if_expr, on}
+use Rattle.leaf_core.specs.Expression.{Expression, input, unit_expr, bool_expr, int_expr, no_event_expr, fst, snd, event_expr, pair_expr, then_expr, neg, add, sub, mul, less, not_expr, and_expr, or_expr, if_expr, on}
 use Rattle.law_patterns.specs.declared.sym.Letter.{Letter}
 use Rattle.law_patterns.specs.declared.sym.Letter.TheVariants as L
 use Rattle.law_patterns.specs.declared.sym.Sym.{Sym}
 use Rattle.law_patterns.specs.declared.sym.Sym.TheVariants as S
 
--- a choice of trees for the letters: expressions f, g, h and i, and a type t
+-- a choice of trees for the letters: expressions f, g, h, i and j, and a type t
 pub record Assignment : Type 0 where
   pub f : Expression
   pub g : Expression
   pub h : Expression
   pub i : Expression
+  pub j : Expression
   pub t : TypeTree
 
 -- the expression that a letter stands for
@@ -21,6 +22,7 @@ letter_choice a L.F = a.f
 letter_choice a L.G = a.g
 letter_choice a L.H = a.h
 letter_choice a L.I = a.i
+letter_choice a L.J = a.j
 
 -- a form of one part, around the first of some trees; None if there is none
 abbrev pub around_one : {A : Type 0} → (A → A) → List A → Option (List A)
@@ -44,6 +46,7 @@ put_before a (S.Letter k) es = Some (letter_choice a k ∷ es)
 put_before a S.Input es = Some (input ∷ es)
 put_before a S.Unit es = Some (unit_expr ∷ es)
 put_before a (S.Truth b) es = Some (bool_expr b ∷ es)
+put_before a (S.Number n) es = Some (int_expr n ∷ es)
 put_before a S.NoEvent es = Some (no_event_expr a.t ∷ es)
 put_before a S.Fst es = around_one fst es
 put_before a S.Snd es = around_one snd es
@@ -55,6 +58,9 @@ put_before a S.Not es = around_one not_expr es
 put_before a S.Add es = around_two add es
 put_before a S.Sub es = around_two sub es
 put_before a S.Mul es = around_two mul es
+put_before a S.Less es = around_two less es
+put_before a S.And es = around_two and_expr es
+put_before a S.Or es = around_two or_expr es
 put_before a S.If es = around_three if_expr es
 put_before a S.On es = around_three on es
 

@@ -75,12 +75,14 @@ pub(crate) fn make(
         Sym::Input => put(alloc, Expr::Input, stack),
         Sym::Unit => put(alloc, Expr::Literal(Literal::Unit), stack),
         Sym::Truth(b) => put(alloc, Expr::Literal(Literal::Bool(b)), stack),
+        Sym::Number(n) => put(alloc, Expr::Literal(Literal::Int(n)), stack),
         Sym::NoEvent => {
             let carried = letters.copy_of_type(alloc)?;
             put(alloc, Expr::NoEvent(carried), stack)
         }
         Sym::Fst | Sym::Snd | Sym::Event | Sym::Neg | Sym::Not => make_one(alloc, sym, stack),
-        Sym::Pair | Sym::Then | Sym::Add | Sym::Sub | Sym::Mul => make_two(alloc, sym, stack),
+        Sym::Pair | Sym::Then | Sym::Add | Sym::Sub | Sym::Mul | Sym::Less | Sym::And | Sym::Or =>
+            make_two(alloc, sym, stack),
         Sym::If | Sym::On => make_three(alloc, sym, stack),
     }
 }
@@ -152,6 +154,9 @@ fn two(form: Sym, a: ExprChild, b: ExprChild) -> Expr
         Sym::Then => Expr::Then(a, b),
         Sym::Sub => Expr::Sub(a, b),
         Sym::Mul => Expr::Mul(a, b),
+        Sym::Less => Expr::Less(a, b),
+        Sym::And => Expr::And(a, b),
+        Sym::Or => Expr::Or(a, b),
         _ => Expr::Add(a, b),
     }
 }

@@ -18,6 +18,7 @@ pub(crate) struct Letters<'t> {
     pub g: Option<&'t Expr>,
     pub h: Option<&'t Expr>,
     pub i: Option<&'t Expr>,
+    pub j: Option<&'t Expr>,
     pub t: Option<&'t Ty>,
 }
 
@@ -31,6 +32,7 @@ impl<'t> Letters<'t> {
             g: None,
             h: None,
             i: None,
+            j: None,
             t: None,
         }
     }
@@ -44,6 +46,7 @@ impl<'t> Letters<'t> {
             Letter::G => self.g,
             Letter::H => self.h,
             Letter::I => self.i,
+            Letter::J => self.j,
         }
     }
 
@@ -56,6 +59,7 @@ impl<'t> Letters<'t> {
             Letter::G => self.g = Some(expr),
             Letter::H => self.h = Some(expr),
             Letter::I => self.i = Some(expr),
+            Letter::J => self.j = Some(expr),
         }
     }
 
@@ -95,6 +99,7 @@ impl<'t> Letters<'t> {
             Letter::G => copy_or_input(alloc, self.g),
             Letter::H => copy_or_input(alloc, self.h),
             Letter::I => copy_or_input(alloc, self.i),
+            Letter::J => copy_or_input(alloc, self.j),
         }
     }
 

@@ -27,7 +27,7 @@ pub use laws::pattern_laws;
 pub use net_sym::{NetLetter, NetSym};
 pub use rewrite::{rewrite_expr, rewrite_net};
 pub use sym::{
-    ADD, EVENT, F, FALSE, FST, G, H, I, IF, Letter, MUL, NEG, NONE, NOT, ON, PAIR, SND, SUB, Sym,
-    THEN, TRUE, UNIT, X,
+    ADD, AND, EVENT, F, FALSE, FST, G, H, I, IF, J, LESS, Letter, MUL, NEG, NONE, NOT, ON, ONE, OR,
+    PAIR, SND, SUB, Sym, THEN, TRUE, UNIT, X, ZERO,
 };
 pub use table::LawLine;

@@ -92,7 +92,10 @@ fn make(
         | NetSym::Hold
         | NetSym::Delay
         | NetSym::After
+        | NetSym::Now
         | NetSym::Repeatedly => make_leaf(alloc, sym, letters.number(), exprs, nets),
+        NetSym::Time => put(alloc, Net::Time, nets),
+        NetSym::Integral => put(alloc, Net::Integral, nets),
         NetSym::AccumBy => make_accum(alloc, exprs, nets),
         NetSym::LoopPre => make_fed(alloc, FedForm::LoopPre, exprs, nets),
         NetSym::InitialOut => make_fed(alloc, FedForm::InitialOut, exprs, nets),
@@ -152,6 +155,7 @@ fn leaf(form: NetSym, q: u64, expr: Expr) -> Net<Expr>
         NetSym::Hold => LeafForm::Hold.of(expr),
         NetSym::Delay => LeafForm::Delay(q).of(expr),
         NetSym::After => LeafForm::After(q).of(expr),
+        NetSym::Now => LeafForm::After(0).of(expr),
         NetSym::Repeatedly => LeafForm::Repeatedly(q).of(expr),
         _ => LeafForm::Arr.of(expr),
     }

@@ -1,6 +1,6 @@
 // Matching a network against a pattern.
 
-ghost use Rattle.std.specs.Prelude.{◌≡◌, IfOk, MatchOption, ◌∷◌, [], Some, None, true};
+ghost use Rattle.std.specs.Prelude.{◌≡◌, IfOk, MatchOption, ◌∷◌, [], Some, None, true, nat_eq};
 ghost use Rattle.leaf_core.specs.ExpressionView.{expression_of};
 ghost use Rattle.net_tree.specs.NetworkView.{tree_of, tree};
 ghost use Rattle.law_patterns.specs.Matching.{todo_of};
@@ -90,7 +90,10 @@ fn meet_net<'t>(
         (NetSym::Hold, Net::Hold(c)) => exprs.put(c),
         (NetSym::Delay, Net::Delay(q, c)) => letters.meet_timed(*q, c, exprs),
         (NetSym::After, Net::After(q, c)) => letters.meet_timed(*q, c, exprs),
+        (NetSym::Now, Net::After(q, c)) => meet_now(*q, c, exprs),
         (NetSym::Repeatedly, Net::Repeatedly(q, c)) => letters.meet_timed(*q, c, exprs),
+        (NetSym::Time, Net::Time) => Ok(true),
+        (NetSym::Integral, Net::Integral) => Ok(true),
         (NetSym::AccumBy, Net::AccumBy(g, z)) => exprs.put_two(g, z),
         (NetSym::LoopPre, Net::LoopPre(c, f)) => meet_fed(c, f, exprs, nets),
         (NetSym::InitialOut, Net::InitialOut(c, f)) => meet_fed(c, f, exprs, nets),
@@ -104,6 +107,14 @@ fn meet_net<'t>(
         (NetSym::KSwitch, Net::KSwitch(f, e, t)) => nets.put_three(f.get(), e.get(), t.get()),
         _ => Ok(false),
     }
+}
+
+/// Puts the expression of an `after` first, whose number is to be 0: whether it is.
+fn meet_now<'t>(q: u64, c: &'t Expr, exprs: &mut Stack<&'t Expr>) -> Result<bool, Memory>
+    ensures { IfOk result (λ b. (b ≡ nat_eq q 0) × (todo_of exprs.new ≡ expression_of c.now ∷ todo_of exprs.old)) }
+{
+    exprs.put(c)?;
+    Ok(q == 0)
 }
 
 /// Puts the parts of a form of an expression and a network first, and answers true.

@@ -31,8 +31,14 @@ pub enum NetSym {
     Delay,
     /// `(after q c)`.
     After,
+    /// `(after 0 c)`.
+    Now,
     /// `(repeatedly q c)`.
     Repeatedly,
+    /// `time`.
+    Time,
+    /// `integral`.
+    Integral,
     /// `(accumBy g z)`.
     AccumBy,
     /// `(loopPre c f)`.

@@ -11,6 +11,8 @@ pub enum Letter {
     H,
     /// `i`.
     I,
+    /// `j`.
+    J,
 }
 
 /// A symbol of a pattern of expressions, which is written with each form before its parts.
@@ -24,6 +26,8 @@ pub enum Sym {
     Unit,
     /// `true` or `false`.
     Truth(bool),
+    /// A number.
+    Number(i64),
     /// `(none T)`, where T is a letter: any type, the same one at each place.
     NoEvent,
     /// `(fst e)`.
@@ -44,8 +48,14 @@ pub enum Sym {
     Sub,
     /// `(mul a b)`.
     Mul,
+    /// `(less a b)`.
+    Less,
     /// `(not a)`.
     Not,
+    /// `(and a b)`.
+    And,
+    /// `(or a b)`.
+    Or,
     /// `(if c a b)`.
     If,
     /// `(on e d b)`.
@@ -60,6 +70,8 @@ pub const G: Sym = Sym::Letter(Letter::G);
 pub const H: Sym = Sym::Letter(Letter::H);
 /// `i`.
 pub const I: Sym = Sym::Letter(Letter::I);
+/// `j`.
+pub const J: Sym = Sym::Letter(Letter::J);
 /// `x`.
 pub const X: Sym = Sym::Input;
 /// `unit`.
@@ -68,6 +80,10 @@ pub const UNIT: Sym = Sym::Unit;
 pub const TRUE: Sym = Sym::Truth(true);
 /// `false`.
 pub const FALSE: Sym = Sym::Truth(false);
+/// `0`.
+pub const ZERO: Sym = Sym::Number(0);
+/// `1`.
+pub const ONE: Sym = Sym::Number(1);
 /// `(none T)`.
 pub const NONE: Sym = Sym::NoEvent;
 /// `(fst e)`.
@@ -88,8 +104,14 @@ pub const ADD: Sym = Sym::Add;
 pub const SUB: Sym = Sym::Sub;
 /// `(mul a b)`.
 pub const MUL: Sym = Sym::Mul;
+/// `(less a b)`.
+pub const LESS: Sym = Sym::Less;
 /// `(not a)`.
 pub const NOT: Sym = Sym::Not;
+/// `(and a b)`.
+pub const AND: Sym = Sym::And;
+/// `(or a b)`.
+pub const OR: Sym = Sym::Or;
 /// `(if c a b)`.
 pub const IF: Sym = Sym::If;
 /// `(on e d b)`.

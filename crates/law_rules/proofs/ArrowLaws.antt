@@ -207,3 +207,23 @@ module _ (f g : SignalFunction) (sf : IsSignalFunction f) (sg : IsSignalFunction
 
   pub exchanged : (xs : TimedList) → seq_function (first_function f) (second_function g) xs ≡ seq_function (second_function g) (first_function f) xs
   exchanged xs = both_sides xs ∙ sym (right_first xs)
+
+-- L52
+abbrev pub doubled : Datum → Datum
+doubled v = pair v v
+
+pairs-doubled : (vs : List Datum) → map doubled vs ≡ pairs vs vs
+pairs-doubled [] = refl
+pairs-doubled (v ∷ vs) = ap (λ us. pair v v ∷ us) (pairs-doubled vs)
+
+each_value-same : (xs : TimedList) → each_value (λ v. v) xs ≡ xs
+each_value-same [] = refl
+each_value-same (x ∷ xs) = ap (λ ys. x ∷ ys) (each_value-same xs)
+
+pub sequence-doubled : (f : SignalFunction) → IsSignalFunction f → (xs : TimedList) → seq_function f (applied doubled) xs ≡ seq_function (applied doubled) (seq_function (first_function f) (second_function f)) xs
+sequence-doubled f sf xs =
+    sequence-after doubled f sf xs ∙ pairs-doubled (f xs)
+    ∙ sym (sequence-before doubled (seq_function (first_function f) (second_function f)) xs
+    ∙ both_sides f f sf sf (each_value doubled xs)
+    ∙ ap₂ (λ ys zs. pairs (f ys) (f zs))
+    (each_value-each_value left doubled xs ∙ each_value-same xs) (each_value-each_value right doubled xs ∙ each_value-same xs))

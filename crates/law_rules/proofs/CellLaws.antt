@@ -1,17 +1,20 @@
 -- Laws of the cells, on signals.
-use Rattle.std.proofs.Common.{Bool, List, [], ap, ap₂, arith, false, if◌then◌else◌, length, map, nat_le, refl, sym, true, ℕ, ◌+◌, ◌∙◌, ◌∷◌, ◌≡◌}
+use Rattle.std.proofs.Common.{Bool, List, [], ap, ap₂, arith, false, if◌then◌else◌, length, map, nat_le, nat_lt, pos, refl, sym, true, ℕ, ◌&&◌, ◌+ℤ◌, ◌+◌, ◌∙◌, ◌∷◌, ◌≡◌}
+use Rattle.std.proofs.Math.IntN.{+ℤ_idl, +ℤ_idr}
+use Rattle.std.specs.Int.{int_wrap, w64}
+use Rattle.std.proofs.lemmas.Int.{ints}
 use Rattle.std.proofs.lemmas.List.{length-map}
 use Rattle.std.proofs.lemmas.Simd.{map-map}
 use mathlib.Core.Path.{fun_ext}
 use Rattle.leaf_core.specs.ExpressionValue.{on_event}
-use Rattle.net_meaning.specs.SignalFunction.{IsSignalFunction, SignalFunction, TimedList, accum_by_value, after_value, before_last, by_past, delay_value, each_value, first_function, first_sample, fold_events, i_pre_value, if_event, last_or, latest_by, latest_event, pairs, prefixes, repeatedly_value, seq_function, time_at, time_value, times, times_after, values, when, with_values}
+use Rattle.net_meaning.specs.SignalFunction.{IsSignalFunction, SignalFunction, TimedList, accum_by_value, after_value, area, before_last, by_past, delay_value, each_value, first_function, first_sample, fold_events, i_pre_value, if_event, initial_out_function, integral_value, last_or, latest_by, latest_event, pairs, prefixes, repeatedly_value, seq_function, time_at, time_value, times, times_after, values, when, with_values}
 use Rattle.net_meaning.specs.Typing.{TypedSamples, and_sample, no_sample}
-use Rattle.sample_core.specs.Datum.{Datum, event, left, no_event, pair, right, unit}
+use Rattle.sample_core.specs.Datum.{Datum, event, int, left, no_event, pair, right, unit}
 use Rattle.sample_core.specs.HasType.{HasType, pair_has}
 use Rattle.sample_core.specs.TypeTree.{TypeTree, pair_ty}
 use Rattle.law_rules.proofs.ArrowLaws.{applied, both_sides, map-constant, sequence-before, swapped, values-each_value, values-with_values}
 use Rattle.net_meaning.proofs.Prefixes.{length-prefixes}
-use Rattle.net_meaning.proofs.TypedLists.{typed_previous_of}
+use Rattle.net_meaning.proofs.TypedLists.{typed_latest_by, typed_previous_of, typed_values}
 
 -- a formula over the samples so far, by its values there: there is at least one
 pub by_past-same : (h k : TimedList → Datum) (xs : TimedList) → ((x : ℕ × Datum) (p : TimedList) → h (x ∷ p) ≡ k (x ∷ p)) → by_past h xs ≡ by_past k xs
@@ -185,7 +188,7 @@ held-no_event c xs =
     ∙ ap (λ k. by_past k xs) (fun_ext (held-nothing c))
     ∙ map-constant c (prefixes xs) (values xs) (length-prefixes xs ∙ sym (length-map xs (λ x. x.1)))
 
--- L12
+-- L12, L55
 pairs-by_past : (h k : TimedList → Datum) (ps : List TimedList) → pairs (map h ps) (map k ps) ≡ map (λ p. pair (h p) (k p)) ps
 pairs-by_past h k [] = refl
 pairs-by_past h k (p ∷ ps) = ap (λ vs. pair (h p) (k p) ∷ vs) (pairs-by_past h k ps)
@@ -212,3 +215,59 @@ previous_of-pair c d xs sc sd h k =
     ∙ sym (pairs-by_past (λ p. i_pre_value c (each_value left p)) (λ p. i_pre_value d (each_value right p)) (prefixes xs))
     ∙ sym (ap₂ pairs (by_past-each_value (i_pre_value c) left xs) (by_past-each_value (i_pre_value d) right xs))
     ∙ sym (both_sides (by_past (i_pre_value c)) (by_past (i_pre_value d)) sc sd xs)
+
+-- L55
+delayed-parts : {A B : TypeTree} (q : ℕ) (c d : Datum) (p : TimedList) → HasType (pair c d) (pair_ty A B) → TypedSamples (pair_ty A B) p → delay_value q (pair c d) p ≡ pair (delay_value q c (each_value left p)) (delay_value q d (each_value right p))
+delayed-parts q c d p h k =
+    sym (whole_pair (delay_value q (pair c d) p) (typed_latest_by q (time_at p) (pair c d) (times p) (values p) h (typed_values p k)))
+    ∙ sym (ap₂ pair (delayed-each_value left q (pair c d) p) (delayed-each_value right q (pair c d) p))
+
+pub delayed-pair : {A B : TypeTree} (q : ℕ) (c d : Datum) (xs : TimedList) → IsSignalFunction (by_past (delay_value q c)) → IsSignalFunction (by_past (delay_value q d)) → HasType (pair c d) (pair_ty A B) → TypedSamples (pair_ty A B) xs
+    → by_past (delay_value q (pair c d)) xs ≡ seq_function (first_function (by_past (delay_value q c))) (seq_function (applied swapped) (seq_function (first_function (by_past (delay_value q d))) (applied swapped))) xs
+delayed-pair q c d xs sc sd h k =
+    by_past-typed (delay_value q (pair c d)) (λ p. pair (delay_value q c (each_value left p)) (delay_value q d (each_value right p))) xs k (λ p j. delayed-parts q c d p h j)
+    ∙ sym (pairs-by_past (λ p. delay_value q c (each_value left p)) (λ p. delay_value q d (each_value right p)) (prefixes xs))
+    ∙ sym (ap₂ pairs (by_past-each_value (delay_value q c) left xs) (by_past-each_value (delay_value q d) right xs))
+    ∙ sym (both_sides (by_past (delay_value q c)) (by_past (delay_value q d)) sc sd xs)
+
+-- the values of a formula behind the first sample
+pub by_past-behind : (h k : TimedList → Datum) (x : ℕ × Datum) (xs : TimedList) → ((y : ℕ × Datum) (p : TimedList) → h (x ∷ y ∷ p) ≡ k (y ∷ p)) → map h (map (λ p. x ∷ p) (prefixes xs)) ≡ by_past k xs
+by_past-behind h k x xs e = map-map h (λ p. x ∷ p) (prefixes xs) ∙ by_past-same (λ p. h (x ∷ p)) k xs e
+
+-- L61
+pub first-previous_of : (c d : Datum) (xs : TimedList) → initial_out_function c (by_past (i_pre_value d)) xs ≡ by_past (i_pre_value c) xs
+first-previous_of c d [] = refl
+first-previous_of c d (x ∷ xs) =
+    ap (λ vs. c ∷ vs)
+    (by_past-behind (i_pre_value d) (i_pre_value x.1) x xs (λ y p. refl) ∙ sym (by_past-behind (i_pre_value c) (i_pre_value x.1) x xs (λ y p. refl)))
+
+-- L62
+never-again : (c : Datum) (x y : ℕ × Datum) (p : TimedList) → after_value 0 c (x ∷ y ∷ p) ≡ no_event
+never-again c x y p =
+    ap (λ b. when b c) (before-zero (nat_le 0 (time_at (x ∷ y ∷ p))) (time_at (before_last (x ∷ y ∷ p))))
+  where
+    before-zero : (b : Bool) (n : ℕ) → b && nat_lt n 0 ≡ false
+    before-zero true n = grind arith
+    before-zero false n = refl
+
+pub reached-at_once : (c : Datum) (xs : TimedList) → initial_out_function (event c) (applied (λ v. no_event)) xs ≡ by_past (after_value 0 c) xs
+reached-at_once c [] = refl
+reached-at_once c (x ∷ xs) =
+    ap (λ vs. event c ∷ vs)
+    (sym (by_past-behind (after_value 0 c) (λ p. no_event) x xs (never-again c x)
+    ∙ map-constant no_event (prefixes xs) (values xs) (length-prefixes xs ∙ sym (length-map xs (λ x. x.1)))))
+
+-- L63: the area under 1 is the time
+abbrev ones : TimedList → TimedList
+ones p = each_value (λ v. int (pos 1)) p
+
+area-of_ones : (t : ℕ) (p : TimedList) → pos t +ℤ area (pos 1) (ones p) ≡ pos (last_or t (times_after t p))
+area-of_ones t [] = +ℤ_idr (pos t)
+area-of_ones t (x ∷ p) = omega (arith, ints, area-of_ones (t + x.0) p)
+
+integral-of_ones : (x : ℕ × Datum) (p : TimedList) → integral_value (ones (x ∷ p)) ≡ time_value (x ∷ p)
+integral-of_ones x p = ap (λ n. int (int_wrap w64 n)) (sym (+ℤ_idl (area (pos 1) (ones p))) ∙ area-of_ones 0 p)
+
+pub integral-of_one : (xs : TimedList) → seq_function (applied (λ v. int (pos 1))) (by_past integral_value) xs ≡ by_past time_value xs
+integral-of_one xs =
+    applied-by_past (λ v. int (pos 1)) integral_value xs ∙ by_past-same (λ p. integral_value (ones p)) time_value xs integral-of_ones

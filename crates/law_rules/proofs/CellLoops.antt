@@ -1,11 +1,11 @@
 -- Cells are loops of one `arr`, on signals.
-use Rattle.std.proofs.Common.{List, [], ap, arith, le_refl, length, map, refl, suc, sym, take, take_all, zero, ℕ, ◌∙◌, ◌∷◌, ◌≡◌, ◌≤◌}
+use Rattle.std.proofs.Common.{List, [], ap, ap₂, arith, le_refl, length, map, refl, suc, sym, take, take_all, zero, ℕ, ◌∙◌, ◌∷◌, ◌≡◌, ◌≤◌}
 use Rattle.std.proofs.lemmas.Simd.{map-map}
 use Rattle.leaf_core.specs.ExpressionValue.{on_event}
-use Rattle.net_meaning.specs.SignalFunction.{TimedList, accum_by_value, by_past, feedback_values, fold_events, i_pre_value, if_event, last_or, latest_event, loop_pre_function, pair_samples, prefixes, values}
+use Rattle.net_meaning.specs.SignalFunction.{TimedList, accum_by_value, by_past, feedback_values, fold_events, i_pre_value, if_event, last_or, latest_event, loop_pre_function, pair_samples, prefixes, seq_function, values, with_values}
 use Rattle.sample_core.specs.Datum.{Datum, event, left, no_event, pair, right}
 use Rattle.law_rules.proofs.ArrowLaws.{applied, swapped}
-use Rattle.law_rules.proofs.CellLaws.{by_past-same}
+use Rattle.law_rules.proofs.CellLaws.{by_past-behind, by_past-same}
 
 -- of a loop of `arr h`: the states before each value, and the outputs
 module _ (h : Datum → Datum) where
@@ -89,3 +89,47 @@ module _ (g : Datum → Datum) where
   accumulation-looped = by_past-looped accumulating (accum_by_value g)
       (λ s x. accumulated-one s x.1)
       (λ s x y p. ap (if_event (last_or y.1 (values p))) (accumulated-more s x.1 (values (y ∷ p))))
+
+  -- L53
+  abbrev pub held_accumulating : Datum → Datum
+  held_accumulating x = on_event (left x) (pair (right x) (right x)) (λ v. pair (g (pair (right x) v)) (g (pair (right x) v)))
+
+  -- the accumulator after one more value
+  abbrev kept : Datum → Datum → Datum
+  kept s v = right (accumulating (pair v s))
+
+  held-first : (s v : Datum) → latest_event s (if_event v (fold_events g s (v ∷ [])) ∷ []) ≡ fold_events g s (v ∷ [])
+  held-first s (event v) = refl
+  held-first s _ = refl
+
+  held-behind : (s v : Datum) (vs : List Datum) → latest_event s (if_event v (fold_events g s (v ∷ [])) ∷ vs) ≡ latest_event (kept s v) vs
+  held-behind s (event v) vs = refl
+  held-behind s _ vs = refl
+
+  accumulated-held : (s : Datum) (xs : TimedList) → seq_function (by_past (accum_by_value g s)) (by_past (λ p. latest_event s (values p))) xs ≡ by_past (λ p. fold_events g s (values p)) xs
+  accumulated-held s [] = refl
+  accumulated-held s (x ∷ xs) =
+      let t : Datum = kept s x.1 in
+      let w : ℕ × Datum = (x.0, if_event x.1 (fold_events g s (x.1 ∷ []))) in
+      let ys : TimedList = with_values xs (by_past (accum_by_value g t) xs) in
+      ap (λ vs. by_past (λ p. latest_event s (values p)) (w ∷ with_values xs vs))
+      (by_past-behind (accum_by_value g s) (accum_by_value g t) x xs (λ y p. ap (if_event (last_or y.1 (values p))) (accumulated-more s x.1 (values (y ∷ p)))))
+      ∙ ap₂ (λ v vs. v ∷ vs) (held-first s x.1)
+      (by_past-behind (λ p. latest_event s (values p)) (λ p. latest_event t (values p)) w ys (λ y p. held-behind s x.1 (values (y ∷ p)))
+      ∙ accumulated-held t xs
+      ∙ sym (by_past-behind (λ p. fold_events g s (values p)) (λ p. fold_events g t (values p)) x xs (λ y p. accumulated-more s x.1 (values (y ∷ p)))))
+
+  held_accumulated-one : (s v : Datum) → fold_events g s (v ∷ []) ≡ left (held_accumulating (pair v s))
+  held_accumulated-one s (event v) = refl
+  held_accumulated-one s _ = refl
+
+  held_accumulated-more : (s v : Datum) (vs : List Datum) → fold_events g s (v ∷ vs) ≡ fold_events g (right (held_accumulating (pair v s))) vs
+  held_accumulated-more s (event v) vs = refl
+  held_accumulated-more s _ vs = refl
+
+  pub accumulated-held_looped : (z : Datum) (xs : TimedList)
+      → seq_function (by_past (accum_by_value g z)) (by_past (λ p. latest_event z (values p))) xs ≡ loop_pre_function z (applied held_accumulating) xs
+  accumulated-held_looped z xs =
+      accumulated-held z xs
+      ∙ by_past-looped held_accumulating (λ s p. fold_events g s (values p))
+      (λ s x. held_accumulated-one s x.1) (λ s x y p. held_accumulated-more s x.1 (values (y ∷ p))) z xs

@@ -1,13 +1,13 @@
 -- Each law's two sides have one meaning: most in every context, the rest where both are typed.
-use Rattle.std.proofs.Common.{Some, [], ap, ap₂, pos, refl, suc, sym, ℕ, ◌∙◌, ◌∷◌, ◌≡◌, ◌≤◌, subst}
-use Rattle.law_rules.specs.NetworkLaw.{SeesSteps, accumulated_next, after_sees, assoc, behind_routes, each_after, each_arr, event_by, held_next, left_by, repeatedly_sees, right_by, swap, cross, time_sees, unassoc}
+use Rattle.std.proofs.Common.{List, Some, [], ap, ap₂, arith, drop, length, pos, refl, suc, sym, ℕ, ◌∙◌, ◌∷◌, ◌≡◌, ◌≤◌, subst}
+use Rattle.law_rules.specs.NetworkLaw.{SeesSteps, accumulated_next, after_sees, assoc, behind_routes, copied, each_after, each_arr, event_by, held_accumulated, held_next, left_by, repeatedly_sees, right_by, swap, cross, time_sees, unassoc}
 use Rattle.leaf_core.specs.Expression.{Expression, Expressions, event_expr, fst, input, int_expr, list_expr, no_event_expr, nth, pair_expr, then_expr, unit_expr}
 use Rattle.leaf_core.specs.ExpressionValue.{value_of}
 use Rattle.net_meaning.specs.Meaning.{Context, meaning, meanings, with_olds, with_param}
-use Rattle.net_tree.specs.Network.{Timing, at_once, Network, Networks, accum_by, after, and_member, arr, delay, first, hold, i_pre, initial_in, initial_out, k_switch, loop_pre, no_members, p_switch, par, r_switch, repeatedly, rp_switch, seq, switch}
+use Rattle.net_tree.specs.Network.{Timing, Network, Networks, accum_by, after, and_member, arr, delay, first, hold, i_pre, initial_in, initial_out, integral, k_switch, loop_pre, no_members, p_switch, par, r_switch, repeatedly, rp_switch, seq, switch, time}
 use Rattle.net_meaning.specs.Typing.{members}
 use Rattle.net_tree.specs.Place.{member}
-use Rattle.net_meaning.specs.SignalFunction.{IsSignalFunction, SignalFunction, TimedList, par_function, route_each}
+use Rattle.net_meaning.specs.SignalFunction.{IsSignalFunction, SignalFunction, TimedList, initial_out_function, par_function, route_each, with_first, with_values}
 use Rattle.sample_core.specs.Datum.{Datum, int, pair, unit}
 use Rattle.sample_core.specs.TypeTree.{TypeTree}
 use Rattle.law_rules.proofs.ArrowLaws
@@ -119,8 +119,8 @@ laws_31_32 tm C f t E s xs = at xs (switching-quiet tm (meaning value_of f E) (i
 pub laws_33_34 : (tm : Timing) (f t : Network Expression) → AlikeNets (first (switch tm f t)) (switch tm (seq (first f) (arr cross)) (first t))
 laws_33_34 tm f t E s xs = at xs (on_left-switching tm (meaning value_of f E) (into t E) (signal f E s))
 
-pub law_35 : (C : TypeTree) (e : Expression) (f t : Network Expression) → AlikeNets (seq (arr (pair_expr e (no_event_expr C))) (r_switch at_once f t)) (seq (arr e) f)
-law_35 C e f t E s xs = at xs (restarting-quiet at_once (value_of e E.params) (meaning value_of f E) (into t E))
+pub laws_35_54 : (tm : Timing) (C : TypeTree) (e : Expression) (f t : Network Expression) → AlikeNets (seq (arr (pair_expr e (no_event_expr C))) (r_switch tm f t)) (seq (arr e) f)
+laws_35_54 tm C e f t E s xs = at xs (restarting-quiet tm (value_of e E.params) (meaning value_of f E) (into t E))
 
 pub law_37 : (C : TypeTree) (f t : Network Expression) → AlikeNets (k_switch f (arr (no_event_expr C)) t) f
 law_37 C f t E s xs = at xs (switching_on-quiet (meaning value_of f E) (λ c o. meaning value_of t (with_olds (with_param E c) (o ∷ []))))
@@ -172,3 +172,46 @@ law_50 c E s xs = CellLoops.held-looped (value_of c E.params unit) xs
 
 pub law_51 : (t : TypeTree) (g z : Expression) → AlikeNets (loop_pre z (arr (accumulated_next t g))) (accum_by g z)
 law_51 t g z E s xs = sym (CellLoops.accumulation-looped (value_of g E.params) (value_of z E.params unit) xs)
+
+pub law_52 : (f : Network Expression) → AlikeNets (seq f (arr copied)) (seq (arr copied) (seq (first f) (seq (arr swap) (seq (first f) (arr swap)))))
+law_52 f E s xs = ArrowLaws.sequence-doubled (meaning value_of f E) (signal f E s) xs
+
+pub law_53 : (g z : Expression) → AlikeNets (seq (accum_by g z) (hold z)) (loop_pre z (arr (held_accumulated g)))
+law_53 g z E s xs = CellLoops.accumulated-held_looped (value_of g E.params) (value_of z E.params unit) xs
+
+-- the values with another first one, whatever came before
+with_values-first : (c : Datum) (xs : TimedList) (ys : List Datum) → with_values (with_first c xs) ys ≡ with_values xs ys
+with_values-first c [] ys = refl
+with_values-first c (x ∷ xs) [] = refl
+with_values-first c (x ∷ xs) (y ∷ ys) = refl
+
+first-with_values : (c : Datum) (g : SignalFunction) (x : ℕ × Datum) (xs : TimedList) (ys : List Datum) → length ys ≡ suc (length xs)
+    → initial_out_function c g (with_values (x ∷ xs) ys) ≡ c ∷ drop 1 (g (with_values (x ∷ xs) ys))
+first-with_values c g x xs [] e = absurd (omega arith)
+first-with_values c g x xs (y ∷ ys) e = refl
+
+pub law_58 : (c : Expression) (f g : Network Expression) → AlikeNets (initial_out c (seq f g)) (seq f (initial_out c g))
+law_58 c f g E s [] = refl
+law_58 c f g E s (x ∷ xs) = sym (first-with_values (value_of c E.params unit) (meaning value_of g E) x xs (meaning value_of f E (x ∷ xs)) ((signal f E s).sized (x ∷ xs)))
+
+pub law_59 : (c : Expression) (f g : Network Expression) → AlikeNets (initial_in c (seq f g)) (seq (initial_in c f) g)
+law_59 c f g E s xs =
+    let v : Datum = value_of c E.params unit in
+    ap (meaning value_of g E) (with_values-first v xs (meaning value_of f E (with_first v xs)))
+
+with_first-values : (c : Datum) (x : ℕ × Datum) (xs : TimedList) (ys : List Datum) → length ys ≡ suc (length xs) → with_values (x ∷ xs) (c ∷ drop 1 ys) ≡ with_first c (with_values (x ∷ xs) ys)
+with_first-values c x xs [] e = absurd (omega arith)
+with_first-values c x xs (y ∷ ys) e = refl
+
+pub law_60 : (c : Expression) (f g : Network Expression) → AlikeNets (seq (initial_out c f) g) (seq f (initial_in c g))
+law_60 c f g E s [] = ap (meaning value_of g E) refl
+law_60 c f g E s (x ∷ xs) = ap (meaning value_of g E) (with_first-values (value_of c E.params unit) x xs (meaning value_of f E (x ∷ xs)) ((signal f E s).sized (x ∷ xs)))
+
+pub law_61 : (c d : Expression) → AlikeNets (initial_out c (i_pre d)) (i_pre c)
+law_61 c d E s xs = CellLaws.first-previous_of (value_of c E.params unit) (value_of d E.params unit) xs
+
+pub law_62 : (t : TypeTree) (c : Expression) → AlikeNets (initial_out (event_expr c) (arr (no_event_expr t))) (after 0 c)
+law_62 t c E s xs = CellLaws.reached-at_once (value_of c E.params unit) xs
+
+pub law_63 : AlikeNets (seq (arr (then_expr unit_expr (int_expr (pos 1)))) integral) time
+law_63 E s xs = CellLaws.integral-of_one xs

@@ -1,12 +1,15 @@
 -- The laws of switches, on signals: equations of functions.
-use Rattle.std.proofs.Common.{List, None, Option, Some, [], ap, append-nil, ap₂, arith, drop, take_all, ◌≤◌, length, map, refl, suc, sym, take, zero, ℕ, ◌++◌, ◌∙◌, ◌∷◌, ◌≡◌}
+use Rattle.std.proofs.Common.{List, None, Option, Some, [], ap, append-nil, ap₂, arith, drop, take_all, ◌≤◌, length, map, refl, suc, sym, take, take-append-drop, zero, ℕ, ◌++◌, ◌∙◌, ◌∷◌, ◌≡◌}
 use Rattle.std.proofs.lemmas.List.{drop-map, length-map, map-append, take-map}
 use Rattle.std.proofs.lemmas.Simd.{map-map}
 use mathlib.Core.Path.{fun_ext}
 use Rattle.net_meaning.specs.Examples.{n}
-use Rattle.net_meaning.specs.SignalFunction.{IsSignalFunction, SignalFunction, TimedList, all_of, by_members, collect, cut_at, each_piece, each_value, first_event, first_members, gather, member_outputs, new_members, par_function, rp_switch_function, first_function, freeze_all, k_switch_function, lap, later, lefts, p_switch_function, pair_samples, pairs, pieces, put_sample, r_switch_function, resume, rights, seq_function, switch_function, until, values, watch, with_values}
+use Rattle.net_meaning.specs.SignalFunction.{IsSignalFunction, Pieces, SignalFunction, TimedList, all_of, by_members, collect, cut_at, each_piece, each_value, first_event, first_members, gather, member_outputs, new_members, par_function, rp_switch_function, first_function, freeze_all, k_switch_function, lap, later, lefts, p_switch_function, pair_samples, pairs, pieces, put_sample, r_switch_function, resume, rights, seq_function, switch_function, until, values, watch, with_values}
 use Rattle.net_tree.specs.Network.{Timing, at_once, delayed}
-use Rattle.sample_core.specs.Datum.{Datum, left, no_event, pair, right}
+use Rattle.net_meaning.specs.Typing.{TypedSamples, and_sample, no_sample}
+use Rattle.sample_core.specs.Datum.{Datum, event, left, no_event, pair, right}
+use Rattle.sample_core.specs.HasType.{HasType, pair_has}
+use Rattle.sample_core.specs.TypeTree.{TypeTree, pair_ty}
 use Rattle.net_meaning.proofs.Plain.{IsSignal-on_left}
 use Rattle.net_meaning.proofs.Restarting.{IsSignal-restarting}
 use Rattle.net_meaning.proofs.RelatedMembers.{rows_of}
@@ -161,7 +164,7 @@ module _ (tm : Timing) (f : SignalFunction) (t : Datum → SignalFunction) (sf :
   on_left-switching = first-switching
       ∙ ap (λ g. switch_function tm g (λ c. first_function (t c))) (sym (pointwise-after crossed (first_function f) (IsSignal-on_left f sf)))
 
--- L35
+-- L35, L54
 pub pieces-quiet : (e : Datum → Datum) (xs : TimedList) → pieces (each_value (λ v. pair (e v) no_event) xs) ≡ (each_value e xs, [])
 pieces-quiet e [] = refl
 pieces-quiet e (x ∷ xs) = ap (put_sample x.0 (pair (e x.1) no_event)) (pieces-quiet e xs)
@@ -174,6 +177,46 @@ restarting-quiet tm e f t =
     ap (λ p. f (p.0 ++ lap tm p.1) ++ each_piece tm t p.1) (pieces-quiet e xs)
     ∙ append-nil (f (each_value e xs ++ [])) ∙ ap f (append-nil (each_value e xs)))
     ∙ sym (pointwise-before e f)
+
+-- L56, L57: pieces whose values are changed
+abbrev each_before : (Datum → Datum) → List (Datum × TimedList) → List (Datum × TimedList)
+each_before h qs = map (λ q. (q.0, each_value h q.1)) qs
+
+abbrev pieces_before : (Datum → Datum) → Pieces → Pieces
+pieces_before h p = (each_value h p.0, each_before h p.1)
+
+put_pair-before : (h : Datum → Datum) (d : ℕ) (a b : Datum) (p : Pieces) → put_sample d (pair (h a) b) (pieces_before h p) ≡ pieces_before h (put_sample d (pair a b) p)
+put_pair-before h d a (event c) p = refl
+put_pair-before h d a _ p = refl
+
+put_sample-before : {A B : TypeTree} (h : Datum → Datum) (d : ℕ) (v : Datum) (p : Pieces) → HasType v (pair_ty A B) → put_sample d (change_left h v) (pieces_before h p) ≡ pieces_before h (put_sample d v p)
+put_sample-before h d v p (pair_has {v = a} {w = b} i j) = put_pair-before h d a b p
+
+pieces-before : {A B : TypeTree} (h : Datum → Datum) (xs : TimedList) → TypedSamples (pair_ty A B) xs → pieces (each_value (change_left h) xs) ≡ pieces_before h (pieces xs)
+pieces-before h xs no_sample = refl
+pieces-before h xs (and_sample {x = x} {xs = xs'} i is) = ap (put_sample x.0 (change_left h x.1)) (pieces-before h xs' is) ∙ put_sample-before h x.0 x.1 (pieces xs') i
+
+lap-before : (tm : Timing) (h : Datum → Datum) (qs : List (Datum × TimedList)) → lap tm (each_before h qs) ≡ each_value h (lap tm qs)
+lap-before tm h [] = refl
+lap-before tm h (q ∷ qs) = take-map (λ x. (x.0, h x.1)) (until tm 0) q.1
+
+each_piece-before : (tm : Timing) (h : Datum → Datum) (t : Datum → SignalFunction) (qs : List (Datum × TimedList)) → each_piece tm t (each_before h qs) ≡ each_piece tm (λ c ys. t c (each_value h ys)) qs
+each_piece-before tm h t [] = refl
+each_piece-before tm h t (q ∷ qs) =
+    ap₂ (λ ys vs. drop (until tm 0) (t q.0 ys) ++ vs)
+    (ap (λ ys. each_value h q.1 ++ ys) (lap-before tm h qs) ∙ sym (map-append (λ x. (x.0, h x.1)) q.1 (lap tm qs)))
+    (each_piece-before tm h t qs)
+
+pub sequence-restarting : {A B : TypeTree} (tm : Timing) (h : Datum → Datum) (f : SignalFunction) (t : Datum → SignalFunction) (xs : TimedList) → TypedSamples (pair_ty A B) xs
+    → seq_function (pointwise (change_left h)) (r_switch_function tm f t) xs ≡ r_switch_function tm (seq_function (pointwise h) f) (λ c. seq_function (pointwise h) (t c)) xs
+sequence-restarting tm h f t xs j =
+    let p : Pieces = pieces xs in
+    ap (λ g. g xs) (pointwise-before (change_left h) (r_switch_function tm f t))
+    ∙ ap (λ qs. f (qs.0 ++ lap tm qs.1) ++ each_piece tm t qs.1) (pieces-before h xs j)
+    ∙ ap₂ (λ ys vs. f ys ++ vs)
+    (ap (λ ys. each_value h p.0 ++ ys) (lap-before tm h p.1) ∙ sym (map-append (λ x. (x.0, h x.1)) p.0 (lap tm p.1)))
+    (each_piece-before tm h t p.1)
+    ∙ ap (λ g. g xs) (sym (ap₂ (r_switch_function tm) (pointwise-before h f) (fun_ext λ c. pointwise-before h (t c))))
 
 -- L36, L45
 map-each_piece : (tm : Timing) (h : Datum → Datum) (t : Datum → SignalFunction) (qs : List (Datum × TimedList))
@@ -216,3 +259,25 @@ switching_on-quiet f t = fun_ext λ xs. switch_at-none f (watch f (pointwise (λ
 
 pub switching_all-quiet : (r : Datum → Datum) (fs : List SignalFunction) (t : Datum → List SignalFunction → SignalFunction) → p_switch_function r fs (pointwise (λ v. no_event)) t ≡ collect r fs
 switching_all-quiet r fs t = fun_ext λ xs. switch_at-none (collect r fs) (watch (collect r fs) (pointwise (λ v. no_event))) (λ c p d. t c (freeze_all r 0 fs p d)) xs (no_events (values (pair_samples xs (collect r fs xs))))
+
+-- L64, L65: a switch between the same
+cut_at-always : (o : Option (ℕ × Datum)) (ys : List Datum) (go : ℕ → Datum → List Datum) → ((n : ℕ) (c : Datum) → go n c ≡ ys) → cut_at o ys go ≡ ys
+cut_at-always None ys go e = refl
+cut_at-always (Some p) ys go e = e p.0 p.1
+
+module _ (tm : Timing) (e v : Datum → Datum) where
+  lefts-both : (xs : TimedList) → map left (map (λ x. pair (e x) (v x)) (values xs)) ≡ map e (values xs)
+  lefts-both xs = map-map left (λ x. pair (e x) (v x)) (values xs)
+
+  go-on : (n : ℕ) (xs : TimedList) → take (until tm n) (map e (values xs)) ++ drop (until tm 0) (map e (values (drop n xs))) ≡ map e (values xs)
+  go-on n xs =
+      ap (λ us. take (until tm n) (map e (values xs)) ++ drop (until tm 0) us) (sym (ap (map e) (drop-map (λ x. x.1) n xs)) ∙ sym (drop-map e n (values xs)))
+      ∙ ap (λ us. take (until tm n) (map e (values xs)) ++ us) (sym (drop-until tm n (map e (values xs))))
+      ∙ take-append-drop (until tm n) (map e (values xs))
+
+  pub switching-same : switch_function tm (pointwise (λ x. pair (e x) (v x))) (λ c. pointwise e) ≡ pointwise e
+  switching-same = fun_ext λ xs.
+      let ls : List Datum = map left (map (λ x. pair (e x) (v x)) (values xs)) in
+      cut_at-always (first_event (rights (pointwise (λ x. pair (e x) (v x))) xs)) ls _
+      (λ n c. ap (λ us. take (until tm n) us ++ drop (until tm 0) (map e (values (drop n xs)))) (lefts-both xs) ∙ go-on n xs ∙ sym (lefts-both xs))
+      ∙ lefts-both xs

@@ -3,7 +3,7 @@
 use Rattle.std.specs.Prelude.{◌≡◌, ℕ, suc, ◌≤◌, pos, Some}
 use Rattle.sample_core.specs.TypeTree.{TypeTree}
 use Rattle.leaf_core.specs.Expression.{Expression, Expressions, input, unit_expr, int_expr, pair_expr, fst, snd, then_expr, no_event_expr, event_expr, on, list_expr, nth, no_more, and_then}
-use Rattle.net_tree.specs.Network.{Network, Networks, arr, seq, first, par, loop_pre, initial_out, initial_in, i_pre, delay, hold, accum_by, after, repeatedly, time, at_once, delayed, switch, r_switch, rp_switch, k_switch, p_switch, old, no_members, and_member}
+use Rattle.net_tree.specs.Network.{Network, Networks, arr, seq, first, par, loop_pre, initial_out, initial_in, i_pre, delay, hold, accum_by, after, repeatedly, time, integral, at_once, delayed, switch, r_switch, rp_switch, k_switch, p_switch, old, no_members, and_member}
 use Rattle.net_meaning.specs.Typing.{members}
 use Rattle.net_tree.specs.Place.{member}
 
@@ -22,6 +22,10 @@ unassoc = pair_expr (pair_expr (fst input) (fst (snd input))) (snd (snd input))
 -- ((a, b), c) to ((a, c), b)
 abbrev pub cross : Expression
 cross = pair_expr (pair_expr (fst (fst input)) (snd input)) (snd (fst input))
+
+-- a to (a, a)
+abbrev pub copied : Expression
+copied = pair_expr input input
 
 -- g on the left part of a pair
 abbrev pub left_by : Expression → Expression
@@ -46,6 +50,11 @@ abbrev pub accumulated_next : TypeTree → Expression → Expression
 accumulated_next Z g = on (fst input) (pair_expr (no_event_expr Z) (snd input))
     (then_expr (pair_expr (snd (fst input)) (snd input))
     (then_expr g (pair_expr (event_expr input) input)))
+
+-- of an event and an accumulator, what an `accumBy` that is held outputs and keeps
+abbrev pub held_accumulated : Expression → Expression
+held_accumulated g = on (fst input) (pair_expr (snd input) (snd input))
+    (then_expr (pair_expr (snd (fst input)) (snd input)) (then_expr g copied))
 
 -- what the route r gives to member i
 abbrev pub route_to : Expression → ℕ → Expression
@@ -191,3 +200,35 @@ pub data NetworkLaw : ℕ → ℕ → Network Expression → Network Expression 
   law_l50 : {olds : ℕ} {c : Expression} → NetworkLaw 50 olds (hold c) (loop_pre c (arr held_next))
   law_l51 : {olds : ℕ} {Z : TypeTree} {g z : Expression}
       → NetworkLaw 51 olds (loop_pre z (arr (accumulated_next Z g))) (accum_by g z)
+  law_l52 : {olds : ℕ} {f : Network Expression}
+      → NetworkLaw 52 olds (seq f (arr copied))
+      (seq (arr copied) (seq (first f) (seq (arr swap) (seq (first f) (arr swap)))))
+  law_l53 : {olds : ℕ} {g z : Expression}
+      → NetworkLaw 53 olds (seq (accum_by g z) (hold z)) (loop_pre z (arr (held_accumulated g)))
+  law_l54 : {olds : ℕ} {C : TypeTree} {e : Expression} {f t : Network Expression}
+      → NetworkLaw 54 olds (seq (arr (pair_expr e (no_event_expr C))) (r_switch delayed f t))
+      (seq (arr e) f)
+  law_l55 : {olds q : ℕ} {c d : Expression}
+      → NetworkLaw 55 olds (delay q (pair_expr c d))
+      (seq (first (delay q c)) (seq (arr swap) (seq (first (delay q d)) (arr swap))))
+  law_l56 : {olds : ℕ} {h : Expression} {f t : Network Expression}
+      → NetworkLaw 56 olds (seq (arr (left_by h)) (r_switch at_once f t))
+      (r_switch at_once (seq (arr h) f) (seq (arr h) t))
+  law_l57 : {olds : ℕ} {h : Expression} {f t : Network Expression}
+      → NetworkLaw 57 olds (seq (arr (left_by h)) (r_switch delayed f t))
+      (r_switch delayed (seq (arr h) f) (seq (arr h) t))
+  law_l58 : {olds : ℕ} {c : Expression} {f g : Network Expression}
+      → NetworkLaw 58 olds (initial_out c (seq f g)) (seq f (initial_out c g))
+  law_l59 : {olds : ℕ} {c : Expression} {f g : Network Expression}
+      → NetworkLaw 59 olds (initial_in c (seq f g)) (seq (initial_in c f) g)
+  law_l60 : {olds : ℕ} {c : Expression} {f g : Network Expression}
+      → NetworkLaw 60 olds (seq (initial_out c f) g) (seq f (initial_in c g))
+  law_l61 : {olds : ℕ} {c d : Expression} → NetworkLaw 61 olds (initial_out c (i_pre d)) (i_pre c)
+  law_l62 : {olds : ℕ} {T : TypeTree} {c : Expression}
+      → NetworkLaw 62 olds (initial_out (event_expr c) (arr (no_event_expr T))) (after 0 c)
+  law_l63 : {olds : ℕ}
+      → NetworkLaw 63 olds (seq (arr (then_expr unit_expr (int_expr (pos 1)))) integral) time
+  law_l64 : {olds : ℕ} {e v : Expression}
+      → NetworkLaw 64 olds (switch at_once (arr (pair_expr e v)) (arr e)) (arr e)
+  law_l65 : {olds : ℕ} {e v : Expression}
+      → NetworkLaw 65 olds (switch delayed (arr (pair_expr e v)) (arr e)) (arr e)

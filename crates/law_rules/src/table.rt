@@ -5,7 +5,7 @@ ghost use Rattle.law_rules.specs.Table.{left_at, right_at, rule_at};
 
 use NetSym::{
     AccumBy, After, Arr, DSwitch, Delay, DrSwitch, First, Hold, IPre, InitialIn, InitialOut,
-    KSwitch, Leaf, LoopPre, RSwitch, Repeatedly, Seq, Switch,
+    Integral, KSwitch, Leaf, LoopPre, Now, RSwitch, Repeatedly, Seq, Switch, Time,
 };
 use Rule::{
     BeforeMembers, ElementsApart, MembersApart, Nothing, OneMember, Resumed, Sides, Unchanging,
@@ -53,6 +53,8 @@ const H: NetSym = Leaf(Sym::Letter(Letter::H));
 const X: NetSym = Leaf(Sym::Input);
 
 const UNIT: NetSym = Leaf(Sym::Unit);
+
+const ONE: NetSym = Leaf(Sym::Number(1));
 
 const NONE: NetSym = Leaf(Sym::NoEvent);
 
@@ -310,6 +312,70 @@ pub const LAWS: [LawLine<Rule, NetSym>; LAST_NETWORK_LAW as usize + 1] = [
         ],
         &[AccumBy, G, F],
     ),
+    (
+        Sides,
+        &[Seq, NET_F, Arr, PAIR, X, X],
+        &[
+            Seq, Arr, PAIR, X, X, Seq, First, NET_F, Seq, Arr, PAIR, SND, X, FST, X, Seq, First,
+            NET_F, Arr, PAIR, SND, X, FST, X,
+        ],
+    ),
+    (
+        Sides,
+        &[Seq, AccumBy, G, F, Hold, F],
+        &[
+            LoopPre, F, Arr, ON, FST, X, PAIR, SND, X, SND, X, THEN, PAIR, SND, FST, X, SND, X,
+            THEN, G, PAIR, X, X,
+        ],
+    ),
+    (
+        Sides,
+        &[Seq, Arr, PAIR, F, NONE, DrSwitch, NET_F, NET_G],
+        &[Seq, Arr, F, NET_F],
+    ),
+    (
+        Sides,
+        &[Delay, PAIR, F, G],
+        &[
+            Seq, First, Delay, F, Seq, Arr, PAIR, SND, X, FST, X, Seq, First, Delay, G, Arr, PAIR,
+            SND, X, FST, X,
+        ],
+    ),
+    (
+        Sides,
+        &[
+            Seq, Arr, PAIR, THEN, FST, X, H, SND, X, RSwitch, NET_F, NET_G,
+        ],
+        &[RSwitch, Seq, Arr, H, NET_F, Seq, Arr, H, NET_G],
+    ),
+    (
+        Sides,
+        &[
+            Seq, Arr, PAIR, THEN, FST, X, H, SND, X, DrSwitch, NET_F, NET_G,
+        ],
+        &[DrSwitch, Seq, Arr, H, NET_F, Seq, Arr, H, NET_G],
+    ),
+    (
+        Sides,
+        &[InitialOut, F, Seq, NET_F, NET_G],
+        &[Seq, NET_F, InitialOut, F, NET_G],
+    ),
+    (
+        Sides,
+        &[InitialIn, F, Seq, NET_F, NET_G],
+        &[Seq, InitialIn, F, NET_F, NET_G],
+    ),
+    // 60
+    (
+        Sides,
+        &[Seq, InitialOut, F, NET_F, NET_G],
+        &[Seq, NET_F, InitialIn, F, NET_G],
+    ),
+    (Sides, &[InitialOut, F, IPre, G], &[IPre, F]),
+    (Sides, &[InitialOut, EVENT, F, Arr, NONE], &[Now, F]),
+    (Sides, &[Seq, Arr, THEN, UNIT, ONE, Integral], &[Time]),
+    (Sides, &[Switch, Arr, PAIR, F, G, Arr, F], &[Arr, F]),
+    (Sides, &[DSwitch, Arr, PAIR, F, G, Arr, F], &[Arr, F]),
 ];
 
 /// The law of this number.

@@ -10,7 +10,7 @@ use Rattle.leaf_core.specs.Expression.{Expression}
 use Rattle.net_tree.specs.Place.{Tree}
 use Rattle.net_tree.specs.LawStep.{Step}
 use Rattle.net_tree.specs.declared.law_step.Law.{Law}
-use Rattle.net_text.specs.Grammar.{Version, version_1, version_2, version_3, networks}
+use Rattle.net_text.specs.Grammar.{Version, version_1, version_2, version_3, version_4, networks}
 use Rattle.net_text.specs.StepGrammar.{step_parts, law_sort, direction_sort, position_sort}
 use Rattle.net_text.specs.File.{behind_word, behind_version}
 use Rattle.net_text.specs.Printing.{version_word}
@@ -167,6 +167,7 @@ laws_name : (v : Version) (a b : ℕ) (ts : List PlacedToken) → behind_laws (l
 laws_name version_1 a b ts = refl
 laws_name version_2 a b ts = refl
 laws_name version_3 a b ts = refl
+laws_name version_4 a b ts = refl
 
 module _ (bs : List ℕ) where
   has_laws : (v : Version) (ts : List PlacedToken) → HasLaws bs v ts → behind_laws (tokens bs) ≡ Some (v, ts)

@@ -19,7 +19,7 @@ use Rattle.leaf_expr.proofs.LeafProper.{leaf_proper}
 use Rattle.net_tree.specs.Network.{Network}
 use Rattle.net_tree.specs.NetworkView.{tree_of}
 use Rattle.net_tree.specs.declared.net.Net.{Net}
-use Rattle.net_text.specs.Grammar.{Version, version_1, version_2, version_3, networks, network_sort}
+use Rattle.net_text.specs.Grammar.{Version, version_1, version_2, version_3, version_4, networks, network_sort}
 use Rattle.net_text.specs.File.{behind_word, version_named, behind_version, of_networks, network_version, then_word, behind_header, at_end, read_network, read_body, read_file}
 use Rattle.net_text.specs.Printing.{version_word}
 use Rattle.net_text.specs.FileLaws.{header_tokens, IsOfNetworks, HasHeader, IsFile, NoFile, no_type, no_network, follows, IsFileFault, ReadFileLaw, OneFileLaw, FileFaultLaw}
@@ -66,17 +66,23 @@ word_found u ((n, word w) ∷ ts) us e = go (bytes_eq w u) refl e
 word_is_version : (w : List ℕ) (v : Version) → version_named w ≡ Some v → w ≡ version_word v
 word_is_version w v e = first (bytes_eq w (codes "1")) refl e
   where
-    third : (b : Bool) → bytes_eq w (codes "3") ≡ b → (if b then Some version_3 else None) ≡ Some v → w ≡ version_word v
-    third true p q = (bytes_eq-Decides w (codes "3")).0 p ∙ ap version_word (some_is q)
-    third false p q = absurd (cc)
+    fourth : (b : Bool) → bytes_eq w (codes "4") ≡ b → (if b then Some version_4 else None) ≡ Some v → w ≡ version_word v
+    fourth true p q = (bytes_eq-Decides w (codes "4")).0 p ∙ ap version_word (some_is q)
+    fourth false p q = absurd (cc)
 
-    second : (b : Bool) → bytes_eq w (codes "2") ≡ b → (if b then Some version_2 else if bytes_eq w (codes "3") then Some version_3 else None) ≡ Some v
+    third : (b : Bool) → bytes_eq w (codes "3") ≡ b → (if b then Some version_3 else if bytes_eq w (codes "4") then Some version_4 else None) ≡ Some v
+        → w ≡ version_word v
+    third true p q = (bytes_eq-Decides w (codes "3")).0 p ∙ ap version_word (some_is q)
+    third false p q = fourth (bytes_eq w (codes "4")) refl q
+
+    second : (b : Bool) → bytes_eq w (codes "2") ≡ b
+        → (if b then Some version_2 else if bytes_eq w (codes "3") then Some version_3 else if bytes_eq w (codes "4") then Some version_4 else None) ≡ Some v
         → w ≡ version_word v
     second true p q = (bytes_eq-Decides w (codes "2")).0 p ∙ ap version_word (some_is q)
     second false p q = third (bytes_eq w (codes "3")) refl q
 
     first : (b : Bool) → bytes_eq w (codes "1") ≡ b
-        → (if b then Some version_1 else if bytes_eq w (codes "2") then Some version_2 else if bytes_eq w (codes "3") then Some version_3 else None) ≡ Some v
+        → (if b then Some version_1 else if bytes_eq w (codes "2") then Some version_2 else if bytes_eq w (codes "3") then Some version_3 else if bytes_eq w (codes "4") then Some version_4 else None) ≡ Some v
         → w ≡ version_word v
     first true p q = (bytes_eq-Decides w (codes "1")).0 p ∙ ap version_word (some_is q)
     first false p q = second (bytes_eq w (codes "2")) refl q
@@ -101,6 +107,7 @@ kept : (h x : Version × List PlacedToken) → of_networks h ≡ Some x → (h �
 kept (version_1, ts) x e = let i : (version_1, ts) ≡ x = some_is e in (i, subst (λ z. IsOfNetworks z.0) i tt)
 kept (version_2, ts) x e = let i : (version_2, ts) ≡ x = some_is e in (i, subst (λ z. IsOfNetworks z.0) i tt)
 kept (version_3, ts) x e = absurd (cc)
+kept (version_4, ts) x e = absurd (cc)
 
 network_version_found : (ts : List PlacedToken) (x : Version × List PlacedToken) → network_version ts ≡ Some x → (behind_version ts ≡ Some x) × IsOfNetworks x.0
 network_version_found ts x e =
@@ -144,6 +151,7 @@ header_names : (v : Version) → IsOfNetworks v → (a b c : ℕ) (ts : List Pla
 header_names version_1 o a b c ts = refl
 header_names version_2 o a b c ts = refl
 header_names version_3 o a b c ts = absurd o
+header_names version_4 o a b c ts = absurd o
 
 header_behind : (bs : List ℕ) (v : Version) (ts : List PlacedToken) → HasHeader bs v ts → behind_header (tokens bs) ≡ Some (v, ts)
 header_behind bs v ts h = ap behind_header h.starts ∙ header_names v h.of_networks h.yampa h.number h.input ts

@@ -1,8 +1,8 @@
 -- A printed certificate is read back.
-use Rattle.std.proofs.Common.{◌≡◌, ℕ, suc, ◌+◌, ◌≤◌, Bool, true, false, nat_lt, ◌||◌, List, [], ◌∷◌, ◌++◌, length, refl, ap, ◌∙◌, arith, Option, Some, None}
+use Rattle.std.proofs.Common.{◌≡◌, ℕ, suc, ◌+◌, ◌≤◌, Bool, true, false, ◌||◌, List, [], ◌∷◌, ◌++◌, length, refl, ap, ◌∙◌, arith, Option, Some, None}
 use Rattle.std.specs.Prelude.{codes, option_map}
 use Rattle.std.specs.Fmt.{decimal}
-use Rattle.std.proofs.lemmas.Bool.{ltb-false}
+use Rattle.std.proofs.lemmas.Bool.{le-ltb, ltb-false}
 use Rattle.leaf_core.specs.Expression.{Expression}
 use Rattle.leaf_expr.specs.Token.{closing, PlacedToken, tokens, tokens_in}
 use Rattle.leaf_expr.specs.Sexpr.{atom, form, Spells, SpellAll, form_spells, last_spells, more_spells, plain_sexpr, all_plain, is_word, all_word_bytes, depth, depths, sexpr_spelling}
@@ -20,13 +20,13 @@ use Rattle.net_tree.specs.Place.{Tree, a_network, a_leaf}
 use Rattle.net_tree.specs.LawStep.{Step}
 use Rattle.net_tree.specs.declared.law_step.Law.{Law}
 use Rattle.net_tree.specs.declared.law_step.Direction.{Direction}
-use Rattle.net_text.specs.Grammar.{Version, version_1, version_2, version_3}
+use Rattle.net_text.specs.Grammar.{Version, version_1, version_2, version_3, version_4}
 use Rattle.net_text.specs.Printing.{is_new, version_word}
 use Rattle.net_text.specs.StepGrammar.{last_leaf_law, last_law, step_parts, law_sort, direction_sort, position_sort, child_sort, step_word_at, step_production_at, directions, position_productions}
 use Rattle.net_text.specs.CertificateLaws.{laws_tokens, IsGiven, no_tree, one_tree, IsStep, AreSteps, no_step, a_step}
-use Rattle.net_text.specs.CertificatePrinting.{law_spelling, direction_spelling, child_sexprs, tree_sexpr, given_sexprs, step_sexpr, step_lines, is_new_law, is_new_given, are_new_steps, is_third_law, are_third_steps, version_for, steps_version, IsLaw, ChildrenFit, GivenFits, StepFits, StepsFit, PrintedCertificateLaw}
+use Rattle.net_text.specs.CertificatePrinting.{law_spelling, direction_spelling, child_sexprs, tree_sexpr, given_sexprs, step_sexpr, step_lines, lacks_law, lacks_laws, is_new_given, are_new_given, version_for, steps_version, IsLaw, ChildrenFit, GivenFits, StepFits, StepsFit, PrintedCertificateLaw}
 use Rattle.net_text.proofs.Carried.{meaning_same}
-use Rattle.net_text.proofs.PrintedFile.{printed, Allows, left_allowed, right_allowed, version_allows, second_allows, third_allows}
+use Rattle.net_text.proofs.PrintedFile.{printed, Allows, left_allowed, right_allowed, version_allows, second_allows, third_allows, fourth_allows}
 use Rattle.net_text.specs.declared.certificate_reader.TheConstants.{STEP_ROOM}
 
 -- a word's bytes may all stand in words
@@ -41,45 +41,24 @@ law_number most n m l h = ap read_word (natural_spelled 1 most n l h (omega arit
 number_plain : (n : ℕ) → n ≤ MOST_INDEX → all_word_bytes (decimal n) ≡ true
 number_plain n h = word_bytes (decimal n) (decimal_is_word n (omega arith))
 
--- the version has laws of the third, if there are any
-abbrev AllowsThird : Version → Bool → Type 0
-AllowsThird v third = third ≡ true → v ≡ version_3
+-- neither of two
+left_false : (a b : Bool) → (a || b) ≡ false → a ≡ false
+left_false true b e = e
+left_false false b e = refl
 
--- and so of two parts
-left_third : (v : Version) (a b : Bool) → AllowsThird v (a || b) → AllowsThird v a
-left_third v true b h e = h refl
-left_third v false b h e = absurd (cc)
+right_false : (a b : Bool) → (a || b) ≡ false → b ≡ false
+right_false true b e = absurd (cc)
+right_false false b e = e
 
-right_third : (v : Version) (a b : Bool) → AllowsThird v (a || b) → AllowsThird v b
-right_third v true b h e = h refl
-right_third v false b h e = h e
+both_false : (a b : Bool) → a ≡ false → b ≡ false → (a || b) ≡ false
+both_false true b p q = absurd (cc)
+both_false false b p q = q
 
 -- a printed law is that law, in a version that has it
-up_to : (v : Version) (most n : ℕ) → (v ≡ version_3 → ⊥) → AllowsThird v (nat_lt most n) → n ≤ most
-up_to v most n d a = go (nat_lt most n) refl a
-  where
-    go : (third : Bool) → nat_lt most n ≡ third → AllowsThird v third → n ≤ most
-    go true p a = absurd (d (a refl))
-    go false p a = ltb-false most n p
-
-law_within : (v : Version) (n : ℕ) → n ≤ last_law version_3 → Allows v (nat_lt (last_law version_1) n) → AllowsThird v (nat_lt (last_law version_2) n) → n ≤ last_law v
-law_within version_3 n h a b = h
-law_within version_2 n h a b = up_to version_2 (last_law version_2) n (λ e. cc) b
-law_within version_1 n h a b = go (nat_lt (last_law version_1) n) refl a
-  where
-    go : (new : Bool) → nat_lt (last_law version_1) n ≡ new → Allows version_1 new → n ≤ last_law version_1
-    go true p a = absurd (a refl refl)
-    go false p a = ltb-false (last_law version_1) n p
-
-leaf_within : (v : Version) (n : ℕ) → n ≤ last_leaf_law version_3 → AllowsThird v (nat_lt (last_leaf_law version_2) n) → n ≤ last_leaf_law v
-leaf_within version_3 n h b = h
-leaf_within version_2 n h b = up_to version_2 (last_leaf_law version_2) n (λ e. cc) b
-leaf_within version_1 n h b = up_to version_1 (last_leaf_law version_1) n (λ e. cc) b
-
-law_means : (v : Version) (law : Law) → IsLaw law → Allows v (is_new_law law) → AllowsThird v (is_third_law law) → meant (step_parts v) law_sort (atom (law_spelling law)) ≡ Some law
+law_means : (v : Version) (law : Law) → IsLaw law → lacks_law v law ≡ false → meant (step_parts v) law_sort (atom (law_spelling law)) ≡ Some law
 unfolding step_word_at
-law_means v (Law.E n) h a b = ap (λ o. read_word (fit (option_map Law.E o))) (law_number (last_leaf_law v) n (omega (arith, h.1)) h.0 (leaf_within v n h.1 b))
-law_means v (Law.L n) h a b = ap (λ o. read_word (fit (option_map Law.L o))) (law_number (last_law v) n (omega (arith, h.1)) h.0 (law_within v n h.1 a b))
+law_means v (Law.E n) h b = ap (λ o. read_word (fit (option_map Law.E o))) (law_number (last_leaf_law v) n (omega (arith, h.1)) h.0 (ltb-false (last_leaf_law v) n b))
+law_means v (Law.L n) h b = ap (λ o. read_word (fit (option_map Law.L o))) (law_number (last_law v) n (omega (arith, h.1)) h.0 (ltb-false (last_law v) n b))
 
 law_plain : (law : Law) → IsLaw law → is_word (law_spelling law) ≡ true
 law_plain (Law.E n) h = number_plain n (omega (arith, h.1))
@@ -137,7 +116,7 @@ given_stands v (Law.L n) (Some (a_leaf e)) ts k rest h w d a = absurd h
 
 -- the tokens of a printed step are the step
 step_stands : (v : Version) (s : Step) (ts : List PlacedToken) (end : ℕ) (rest : List PlacedToken) → StepFits s
-    → Allows v (is_new_law s.law || is_new_given s.given) → AllowsThird v (is_third_law s.law) → Spells (step_sexpr s) ts end rest → IsStep v s ts rest
+    → Allows v (is_new_given s.given) → lacks_law v s.law ≡ false → Spells (step_sexpr s) ts end rest → IsStep v s ts rest
 step_stands v s ts end rest h w b (form_spells {n = opened} {m = named} {k = close} {ts = us}
     (more_spells {n = law_end} {mid = vs} a (more_spells {n = direction_end} {mid = ws} p (more_spells {n = position_end} {mid = xs} c d)))) =
     let deep : depth (step_sexpr s) ≤ MOST_OPEN = h.within in
@@ -158,7 +137,7 @@ step_stands v s ts end rest h w b (form_spells {n = opened} {m = named} {k = clo
                 record {
                   part = atom (law_spelling s.law);
                   spells = a;
-                  means = law_means v s.law h.law (left_allowed v (is_new_law s.law) (is_new_given s.given) w) b;
+                  means = law_means v s.law h.law b;
                   within = omega arith;
                 };
             is_direction = record { part = atom (direction_spelling s.direction); spells = p; means = direction_means v s.direction; within = omega arith };
@@ -171,34 +150,54 @@ step_stands v s ts end rest h w b (form_spells {n = opened} {m = named} {k = clo
                 };
           };
       ends =
-          given_stands v s.law s.given xs close rest h.given (right_allowed v (is_new_law s.law) (is_new_given s.given) w) (omega arith) d;
+          given_stands v s.law s.given xs close rest h.given w (omega arith) d;
     }
 
-steps_stand : (v : Version) (ss : List Step) (n : ℕ) → StepsFit ss → Allows v (are_new_steps ss) → AllowsThird v (are_third_steps ss) → AreSteps v ss (tokens_in false n (step_lines ss)) []
+steps_stand : (v : Version) (ss : List Step) (n : ℕ) → StepsFit ss → Allows v (are_new_given ss) → lacks_laws v ss ≡ false → AreSteps v ss (tokens_in false n (step_lines ss)) []
 steps_stand v [] n h w b = no_step []
 steps_stand v (s ∷ ss) n h w b =
-    let new : Bool = is_new_law s.law || is_new_given s.given in
+    let new : Bool = is_new_given s.given in
+    let lacks : Bool = lacks_law v s.law in
     let end : ℕ = n + length (sexpr_spelling (step_sexpr s)) in
     let spelt : Spells (step_sexpr s) (tokens_in false n (step_lines (s ∷ ss))) end (tokens_in false (suc end) (step_lines ss)) =
     spells_printed (step_sexpr s) n (10 ∷ step_lines ss) (step_plain s h.0) refl in
     a_step s ss (tokens_in false n (step_lines (s ∷ ss))) (tokens_in false (suc end) (step_lines ss)) []
     (step_stands v s (tokens_in false n (step_lines (s ∷ ss))) end (tokens_in false (suc end) (step_lines ss)) h.0
-    (left_allowed v new (are_new_steps ss) w) (left_third v (is_third_law s.law) (are_third_steps ss) b) spelt)
-    (steps_stand v ss (suc end) h.1 (right_allowed v new (are_new_steps ss) w) (right_third v (is_third_law s.law) (are_third_steps ss) b))
+    (left_allowed v new (are_new_given ss) w) (left_false lacks (lacks_laws v ss) b) spelt)
+    (steps_stand v ss (suc end) h.1 (right_allowed v new (are_new_given ss) w) (right_false lacks (lacks_laws v ss) b))
 
 laws_stand : (v : Version) (bs : List ℕ) → tokens (codes "laws " ++ (version_word v ++ (10 ∷ bs))) ≡ laws_tokens v 0 5 (tokens_in false 7 bs)
 laws_stand version_1 bs = refl
 laws_stand version_2 bs = refl
 laws_stand version_3 bs = refl
+laws_stand version_4 bs = refl
 
--- the version that is printed has what is in the steps
-for_allows : (third new : Bool) → Allows (version_for third new) new
-for_allows true new = third_allows new
-for_allows false new = version_allows new
+-- the fourth version has each law
+fourth_has : (law : Law) → IsLaw law → lacks_law version_4 law ≡ false
+fourth_has (Law.E n) h = le-ltb (last_leaf_law version_4) n h.1
+fourth_has (Law.L n) h = le-ltb (last_law version_4) n h.1
 
-for_third : (third new : Bool) → AllowsThird (version_for third new) third
-for_third true new e = refl
-for_third false new e = absurd (cc)
+fourth_has_all : (ss : List Step) → StepsFit ss → lacks_laws version_4 ss ≡ false
+fourth_has_all [] h = refl
+fourth_has_all (s ∷ ss) h = both_false (lacks_law version_4 s.law) (lacks_laws version_4 ss) (fourth_has s.law h.0.law) (fourth_has_all ss h.1)
+
+-- the version that is printed has the laws of the steps
+has_laws : (ss : List Step) → StepsFit ss → lacks_laws (steps_version ss) ss ≡ false
+has_laws ss h = go (lacks_laws version_3 ss) (lacks_laws version_2 ss) (lacks_laws version_1 ss || are_new_given ss) refl refl refl
+  where
+    go : (a b c : Bool) → lacks_laws version_3 ss ≡ a → lacks_laws version_2 ss ≡ b → (lacks_laws version_1 ss || are_new_given ss) ≡ c
+        → lacks_laws (version_for a b c) ss ≡ false
+    go true b c p q r = fourth_has_all ss h
+    go false true c p q r = p
+    go false false true p q r = q
+    go false false false p q r = left_false (lacks_laws version_1 ss) (are_new_given ss) r
+
+-- and allows its forms
+has_forms : (third second lacks new : Bool) → Allows (version_for third second (lacks || new)) new
+has_forms true second lacks new = fourth_allows new
+has_forms false true lacks new = third_allows new
+has_forms false false true new = second_allows new
+has_forms false false false new = version_allows new
 
 pub printed_certificate : PrintedCertificateLaw
 printed_certificate ss h l =
@@ -208,5 +207,5 @@ printed_certificate ss h l =
       version = v;
       behind = tokens_in false 7 (step_lines ss);
       headed = record { laws = 0; number = 5; starts = laws_stand v (step_lines ss) };
-      steps = steps_stand v ss 7 h (for_allows (are_third_steps ss) (are_new_steps ss)) (for_third (are_third_steps ss) (are_new_steps ss));
+      steps = steps_stand v ss 7 h (has_forms (lacks_laws version_3 ss) (lacks_laws version_2 ss) (lacks_laws version_1 ss) (are_new_given ss)) (has_laws ss h);
     }

@@ -16,7 +16,7 @@ use Rattle.leaf_expr.proofs.TokenLaws.{spells_printed}
 use Rattle.leaf_expr.specs.declared.type_reader.TheConstants.{MOST_OPEN}
 use Rattle.leaf_expr.specs.declared.number_reader.TheConstants.{MOST_INDEX}
 use Rattle.net_tree.specs.Network.{Network, Networks, networks_of, arr, seq, first, par, loop_pre, initial_out, initial_in, i_pre, delay, hold, accum_by, after, repeatedly, time, integral, switch, r_switch, rp_switch, k_switch, p_switch, old, no_members, and_member, at_once, delayed}
-use Rattle.net_text.specs.Grammar.{Version, version_1, version_2, version_3, networks, network_sort, members_sort, leaf_sort, time_sort, Timer, delay_timer, after_timer, repeatedly_timer, least, greatest_time, net_word_at, net_words, net_production_at, net_productions, new_productions, second_productions, col_productions}
+use Rattle.net_text.specs.Grammar.{Version, version_1, version_2, version_3, version_4, networks, network_sort, members_sort, leaf_sort, time_sort, Timer, delay_timer, after_timer, repeatedly_timer, least, greatest_time, net_word_at, net_words, net_production_at, net_productions, new_productions, second_productions, col_productions}
 use Rattle.net_text.specs.Printing.{network_sexpr, network_sexprs, is_new, are_new, version_by, version_word, Writable, AllWritable, TimeFits}
 use Rattle.net_text.specs.FileLaws.{PrintedFileLaw, IsOfNetworks, header_tokens}
 use Rattle.net_text.proofs.Carried.{meaning_same}
@@ -67,18 +67,22 @@ pub version_allows : (new : Bool) → Allows (version_by new) new
 version_allows true e q = cc
 version_allows false e q = cc
 
--- the second and the third version allow all
+-- the versions behind the first allow all
 pub second_allows : (new : Bool) → Allows version_2 new
 second_allows new e q = cc
 
 pub third_allows : (new : Bool) → Allows version_3 new
 third_allows new e q = cc
 
+pub fourth_allows : (new : Bool) → Allows version_4 new
+fourth_allows new e q = cc
+
 -- the forms that such a version has more
 newer : (v : Version) → (v ≡ version_1 → ⊥) → new_productions v ≡ second_productions
 newer version_1 h = absurd (h refl)
 newer version_2 h = refl
 newer version_3 h = refl
+newer version_4 h = refl
 
 -- a printed network means the network, and its words are words
 mutual
@@ -177,6 +181,7 @@ header_stands : (v : Version) (bs : List ℕ)
 header_stands version_1 bs = refl
 header_stands version_2 bs = refl
 header_stands version_3 bs = refl
+header_stands version_4 bs = refl
 
 by_of_networks : (new : Bool) → IsOfNetworks (version_by new)
 by_of_networks true = tt

@@ -8,7 +8,7 @@ use Rattle.leaf_expr.specs.ReadText.{fit}
 use Rattle.leaf_expr.specs.ReadLaws.{Completes}
 use Rattle.leaf_expr.proofs.Proper.{Proper}
 use Rattle.leaf_expr.proofs.LeafProper.{among_unread, chosen_misspelt, chosen_unfit}
-use Rattle.net_text.specs.Grammar.{Version, version_1, version_2, version_3}
+use Rattle.net_text.specs.Grammar.{Version, version_1, version_2, version_3, version_4}
 use Rattle.net_text.specs.StepGrammar.{step_parts, StepSort, law_sort, direction_sort, position_sort, child_sort, law_named, directions, position_productions, step_word_at, step_production_at, step_has_form, step_takes_number}
 use Rattle.net_text.proofs.Completed.{by_word, by_form, with_opening}
 
@@ -49,6 +49,7 @@ unfolding step_word_at directions
 filler version_1 law_sort = by_word (step_parts version_1) law_sort (codes "E1") refl
 filler version_2 law_sort = by_word (step_parts version_2) law_sort (codes "E1") refl
 filler version_3 law_sort = by_word (step_parts version_3) law_sort (codes "E1") refl
+filler version_4 law_sort = by_word (step_parts version_4) law_sort (codes "E1") refl
 filler v direction_sort = by_word (step_parts v) direction_sort (codes "forward") refl
 filler v position_sort = with_opening (step_parts v) position_sort (opener v position_sort 0 refl)
 filler v child_sort = by_word (step_parts v) child_sort (codes "0") refl

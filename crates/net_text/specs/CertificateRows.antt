@@ -40,9 +40,12 @@ CertificateRows =
     (backward (Law.L 1) (0 ∷ 12 ∷ []) (a_network (seq (arr input) time)) ∷ [])
     × IsRead (codes "laws 2") []
     × IsRead (codes "laws 3") []
+    × IsRead (codes "laws 4") []
     × IsRead (codes "laws 2 (step L1 backward (at) (--> 1 time))")
     (backward (Law.L 1) [] (a_network (initial_out (int_expr (pos 1)) time)) ∷ [])
     × IsRead (codes "laws 3 (step L1 backward (at) (--> 1 time))")
+    (backward (Law.L 1) [] (a_network (initial_out (int_expr (pos 1)) time)) ∷ [])
+    × IsRead (codes "laws 4 (step L1 backward (at) (--> 1 time))")
     (backward (Law.L 1) [] (a_network (initial_out (int_expr (pos 1)) time)) ∷ [])
 
 -- the first and the last law of each kind
@@ -59,12 +62,17 @@ LawRows =
     × IsRead (codes "laws 3 (step L51 forward (at))") (forward (Law.L 51) [] ∷ [])
     × IsRead (codes "laws 3 (step E19 forward (at))") (forward (Law.E 19) [] ∷ [])
     × IsRead (codes "laws 3 (step E26 forward (at))") (forward (Law.E 26) [] ∷ [])
+    × IsRead (codes "laws 4 (step L52 forward (at))") (forward (Law.L 52) [] ∷ [])
+    × IsRead (codes "laws 4 (step L65 forward (at))") (forward (Law.L 65) [] ∷ [])
+    × IsRead (codes "laws 4 (step E27 forward (at))") (forward (Law.E 27) [] ∷ [])
+    × IsRead (codes "laws 4 (step E55 forward (at))") (forward (Law.E 55) [] ∷ [])
     × AreRefused
     (codes "laws 1 (step E0 forward (at))" ∷ codes "laws 1 (step E19 forward (at))"
     ∷ codes "laws 1 (step L0 forward (at))" ∷ codes "laws 1 (step L43 forward (at))"
     ∷ codes "laws 2 (step L0 forward (at))" ∷ codes "laws 2 (step L47 forward (at))"
     ∷ codes "laws 2 (step E19 forward (at))"
     ∷ codes "laws 3 (step L52 forward (at))" ∷ codes "laws 3 (step E27 forward (at))"
+    ∷ codes "laws 4 (step L66 forward (at))" ∷ codes "laws 4 (step E56 forward (at))"
     ∷ codes "laws 1 (step L01 forward (at))" ∷ codes "laws 1 (step 4 forward (at))"
     ∷ codes "laws 1 (step E forward (at))" ∷ codes "laws 1 (step (E1) forward (at))" ∷ [])
     (V.Syntax 13)
@@ -73,7 +81,7 @@ LawRows =
 abbrev pub CertificateFaultRows : Type 0
 CertificateFaultRows =
     AreRefused
-    (codes "" ∷ codes "laws" ∷ codes "laws 4" ∷ codes "laws 4 (step L43 forward (at))"
+    (codes "" ∷ codes "laws" ∷ codes "laws 5" ∷ codes "laws 5 (step L43 forward (at))"
     ∷ codes "laws 02"
     ∷ codes "yampa 1 input Int time" ∷ codes "((((" ∷ [])
     V.Header

@@ -125,7 +125,8 @@ pub(crate) fn last_leaf_law(version: Version) -> u8
 {
     match version {
         Version::One | Version::Two => 18,
-        Version::Three => LAST_EXPRESSION_LAW,
+        Version::Three => 26,
+        Version::Four => LAST_EXPRESSION_LAW,
     }
 }
 
@@ -136,7 +137,8 @@ pub(crate) fn last_law(version: Version) -> u8
     match version {
         Version::One => 42,
         Version::Two => 46,
-        Version::Three => LAST_NETWORK_LAW,
+        Version::Three => 51,
+        Version::Four => LAST_NETWORK_LAW,
     }
 }
 

@@ -312,7 +312,7 @@ fn added_named(word: &[u8], version: Version) -> Option<NetForm>
 {
     match version {
         Version::One => None,
-        Version::Two | Version::Three => new_named(word),
+        Version::Two | Version::Three | Version::Four => new_named(word),
     }
 }
 

@@ -5,7 +5,8 @@ ghost use Rattle.std.specs.Fmt.{decimal};
 ghost use Rattle.sample_core.specs.Adding.{Adds};
 ghost use Rattle.leaf_expr.specs.Sexpr.{sexpr_spelling, sexprs_spelling};
 ghost use Rattle.net_tree.specs.LawStep.{step_of, part_of};
-ghost use Rattle.net_text.specs.CertificatePrinting.{law_spelling, direction_spelling, given_sexprs, step_sexpr, tree_sexpr, certificate_spelling, are_new_steps, are_third_steps, steps_version};
+ghost use Rattle.net_text.specs.CertificatePrinting.{law_spelling, direction_spelling, given_sexprs, step_sexpr, tree_sexpr, certificate_spelling, are_new_given, lacks_laws, steps_version};
+ghost use Rattle.net_text.specs.Form.{version_of};
 ghost use Rattle.net_text.specs.Printing.{version_word};
 ghost use Rattle.net_text.specs.CertificatePrinting as printing;
 
@@ -21,9 +22,10 @@ use std::alloc::Global;
 
 /// The certificate file of those steps, as a new text: a line `laws 1`, or `laws 2` where a law
 /// above L42 is among them or a form of the second version in a given tree, or `laws 3` where a law
-/// above E18 or L46 is, and a line for each step, with given trees in core forms. Where each law is
-/// one, each given tree is of its law's kind, and their numbers, their depth and the text's length
-/// are within the limits of files, it is read back to the same. `Memory` if allocation fails.
+/// above E18 or L46 is, or `laws 4` where one above E26 or L51 is, and a line for each step, with
+/// given trees in core forms. Where each law is one, each given tree is of its law's kind, and their
+/// numbers, their depth and the text's length are within the limits of files, it is read back to the
+/// same. `Memory` if allocation fails.
 pub fn print_cert(alloc: Global, steps: &[LawStep]) -> Result<String, Memory>
     ensures { IfOk result
         (λ text. string_bytes text ≡ certificate_spelling (map step_of steps.now)) }
@@ -54,55 +56,47 @@ pub fn push_tree(text: &mut String, tree: &Tree) -> Result<(), Memory>
 fn steps_word(steps: &[LawStep]) -> &'static str
     ensures { result.now ≡ version_word (steps_version (map step_of steps.now)) }
 {
-    if are_third(steps) {
+    if lacks_laws(Version::Three, steps) {
+        "4"
+    } else if lacks_laws(Version::Two, steps) {
         "3"
     } else {
-        version_word(are_new(steps))
+        version_word(lacks_laws(Version::One, steps) || are_new_given(steps))
     }
 }
 
-/// Whether a law of the third version is in the steps.
-fn are_third(steps: &[LawStep]) -> bool
-    ensures { result ≡ are_third_steps (map step_of steps.now) }
+/// Whether the version lacks a law of the steps.
+fn lacks_laws(version: Version, steps: &[LawStep]) -> bool
+    ensures { result ≡ lacks_laws (version_of version) (map step_of steps.now) }
 {
     for step in steps {
-        if is_third_law(step.law) {
+        if lacks_law(version, step.law) {
             return true;
         }
     }
     false
 }
 
-/// Whether the law is one of the third version.
-fn is_third_law(law: Law) -> bool
-    ensures { result ≡ printing.is_third_law law }
+/// Whether the version lacks the law.
+fn lacks_law(version: Version, law: Law) -> bool
+    ensures { result ≡ printing.lacks_law (version_of version) law }
 {
     match law {
-        Law::E(number) => number > last_leaf_law(Version::Two),
-        Law::L(number) => number > last_law(Version::Two),
+        Law::E(number) => number > last_leaf_law(version),
+        Law::L(number) => number > last_law(version),
     }
 }
 
-/// Whether there is something of the second version in the steps.
-fn are_new(steps: &[LawStep]) -> bool
-    ensures { result ≡ are_new_steps (map step_of steps.now) }
+/// Whether a form of the second version is in a given tree of the steps.
+fn are_new_given(steps: &[LawStep]) -> bool
+    ensures { result ≡ are_new_given (map step_of steps.now) }
 {
     for step in steps {
-        if is_new_law(step.law) || is_new_given(&step.given) {
+        if is_new_given(&step.given) {
             return true;
         }
     }
     false
-}
-
-/// Whether the law is one that the first version lacks, of networks.
-fn is_new_law(law: Law) -> bool
-    ensures { result ≡ printing.is_new_law law }
-{
-    match law {
-        Law::E(_) => false,
-        Law::L(number) => number > last_law(Version::One),
-    }
 }
 
 /// Whether a form of the second version is in the given tree.

@@ -117,7 +117,7 @@ fn network_version_end(text: &[u8], at: usize) -> Option<(Version, usize)>
     let (version, end) = version_end(text, at)?;
     match version {
         Version::One | Version::Two => Some((version, end)),
-        Version::Three => None,
+        Version::Three | Version::Four => None,
     }
 }
 
@@ -147,6 +147,8 @@ fn version_named(word: &[u8]) -> Option<Version>
         Some(Version::Two)
     } else if word_is(word, "3") {
         Some(Version::Three)
+    } else if word_is(word, "4") {
+        Some(Version::Four)
     } else {
         None
     }

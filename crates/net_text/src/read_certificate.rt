@@ -16,12 +16,12 @@ use leaf_expr::MOST_LENGTH;
 use net_tree::LawStep;
 use std::alloc::Global;
 
-/// Reads a certificate file: `laws 1`, `laws 2` or `laws 3` and then any number of steps,
+/// Reads a certificate file: `laws 1` to `laws 4` and then any number of steps,
 /// `(step LAW DIRECTION POSITION)` or `(step LAW DIRECTION POSITION TREE)`. LAW is `E1` to `E18` or
-/// `L1` to `L42`, behind `laws 2` to `L46`, behind `laws 3` to `LAST_EXPRESSION_LAW` or
-/// `LAST_NETWORK_LAW`. DIRECTION is `forward` or `backward`, POSITION is `(at N1 .. Nk)` with child
+/// `L1` to `L42`, behind `laws 2` to `L46`, behind `laws 3` to `E26` or `L51`, behind `laws 4` to
+/// `LAST_EXPRESSION_LAW` or `LAST_NETWORK_LAW`. DIRECTION is `forward` or `backward`, POSITION is `(at N1 .. Nk)` with child
 /// numbers, and TREE is an expression for an E law and a network for an L law, with sugar expanded;
-/// behind `laws 2` and `laws 3` it may have the forms `-->`, `>--`, `drSwitch` and `rpSwitchB` too.
+/// behind `laws 2` to `laws 4` it may have the forms `-->`, `>--`, `drSwitch` and `rpSwitchB` too.
 ///
 /// `TooLong`: the text has more than 1,048,576 bytes, whatever they are. Else a refusal is the
 /// first token that doesn't fit, by its first byte, counted from 0. `Header`: it is one of the

@@ -11,10 +11,10 @@ use sample_core::Memory;
 use std::alloc::Global;
 
 /// The greatest number of a law of expressions.
-pub const LAST_EXPRESSION_LAW: u8 = 26;
+pub const LAST_EXPRESSION_LAW: u8 = 55;
 
 /// The greatest number of a law of networks.
-pub const LAST_NETWORK_LAW: u8 = 51;
+pub const LAST_NETWORK_LAW: u8 = 65;
 
 /// A law by its number, from 1 to `LAST_EXPRESSION_LAW` or to `LAST_NETWORK_LAW`. Any other number
 /// is that of no law.

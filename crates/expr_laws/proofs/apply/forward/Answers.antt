@@ -1,6 +1,6 @@
 use Rattle.std.proofs.Common.{sym, ◌∙◌}
 use Rattle.leaf_core.specs.ExpressionView.{expression_of}
-use Rattle.expr_laws.specs.declared.table.Rule.TheVariants.{Spread, Constant, Compute, Pick, Turn, Compare}
+use Rattle.expr_laws.specs.declared.table.Rule.TheVariants.{Spread, Constant, Compute, Pick, Turn, Compare, Lift}
 use Rattle.expr_laws.proofs.Answered.{no-law, by-name, by-patterns}
 use Rattle.expr_laws.proofs.apply.forward.Goals as goal
 
@@ -29,3 +29,6 @@ returns-in-Turn c = by-name c.args.number (expression_of c.args.expr.now) Turn c
 
 pub returns-in-Compare : goal.returns-in-Compare
 returns-in-Compare c = by-name c.args.number (expression_of c.args.expr.now) Compare c.compared.result (sym c.in-Compare.is ∙ c.law_rule-rule.ensures.rule) (λ h. h.1) c.compared.ensures
+
+pub returns-in-Lift : goal.returns-in-Lift
+returns-in-Lift c = by-name c.args.number (expression_of c.args.expr.now) Lift c.lifted.result (sym c.in-Lift.is ∙ c.law_rule-rule.ensures.rule) (λ h. h.1) c.lifted.ensures

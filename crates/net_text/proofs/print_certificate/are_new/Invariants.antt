@@ -1,8 +1,0 @@
-use Rattle.std.proofs.Common.{◌≡◌, drop, map}
-use Rattle.net_tree.specs.LawStep.{step_of}
-use Rattle.net_text.specs.CertificatePrinting.{are_new_steps}
-use Rattle.net_text.proofs.print_certificate.are_new.Given as goal
-
--- nothing is new in the steps so far
-abbrev pub invariant-loop-step : goal.invariant-loop-step
-invariant-loop-step l = are_new_steps (map step_of (drop l.step-index l.steps)) ≡ are_new_steps (map step_of l.steps)
