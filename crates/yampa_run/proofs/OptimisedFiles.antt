@@ -15,7 +15,7 @@ use Rattle.net_tree.specs.declared.law_step.Law.TheVariants as L
 use Rattle.net_text.specs.CertificateLaws.{IsCertificate}
 use Rattle.net_text.specs.CertificatePrinting.{ChildrenFit, GivenFits, IsLaw, PrintedCertificateLaw, StepFits, StepsFit, certificate_spelling}
 use Rattle.net_text.specs.FileLaws.{IsFile, PrintedFileLaw}
-use Rattle.net_text.specs.Grammar.{version_3}
+use Rattle.net_text.specs.Grammar.{version_4}
 use Rattle.net_text.specs.StepGrammar.{last_law, last_leaf_law}
 use Rattle.net_text.specs.Printing.{file_spelling}
 use Rattle.cert_check.proofs.Taken.{led}
@@ -42,8 +42,8 @@ passes test ns n all c = go (test n) refl
 
 -- a law that is tried has a number that files may have
 is_law : (law : Law) → IsTried law → IsLaw law
-is_law (L.L n) tried = (leb-true 1 n (passes (leb 1) network_laws n refl tried), leb-true n (last_law version_3) (passes (λ k. leb k (last_law version_3)) network_laws n refl tried))
-is_law (L.E n) tried = (leb-true 1 n (passes (leb 1) expression_laws n refl tried), leb-true n (last_leaf_law version_3) (passes (λ k. leb k (last_leaf_law version_3)) expression_laws n refl tried))
+is_law (L.L n) tried = (leb-true 1 n (passes (leb 1) network_laws n refl tried), leb-true n (last_law version_4) (passes (λ k. leb k (last_law version_4)) network_laws n refl tried))
+is_law (L.E n) tried = (leb-true 1 n (passes (leb 1) expression_laws n refl tried), leb-true n (last_leaf_law version_4) (passes (λ k. leb k (last_leaf_law version_4)) expression_laws n refl tried))
 
 -- a step that may be taken is within the limits of files where its position is
 step_fits : (s : Step) → MayTake s → ChildrenFit s.position → StepFits s
