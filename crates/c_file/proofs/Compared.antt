@@ -1,9 +1,7 @@
 -- Types that code compares have functions that compare them.
-use Rattle.std.proofs.Common.{◌≡◌, ◌≤◌, ◌<◌, ℕ, zero, suc, Bool, true, false, ◌||◌, List, [], ◌∷◌, ◌++◌, map, length, get_or, refl, sym, ap, ◌∙◌, arith, subst, append-nil, append_assoc}
-use Rattle.std.specs.Prelude.{nat_lt, if◌then◌else◌}
+use Rattle.std.proofs.Common.{◌≡◌, ◌≤◌, ◌<◌, ℕ, zero, suc, Bool, true, false, List, [], ◌∷◌, ◌++◌, map, length, get_or, refl, sym, ap, ◌∙◌, arith, subst, append_assoc}
+use Rattle.std.specs.Prelude.{nat_lt}
 use Rattle.sample_core.specs.TypeTree.{TypeTree, unit_ty, bool_ty, int_ty, pair_ty, event_ty, list_ty}
-use Rattle.leaf_core.specs.TypeLimits.{same_tree}
-use Rattle.leaf_core.proofs.Exactness.{same_tree-refl, same_tree-true}
 use Rattle.leaf_code.specs.Fitting.{Bounds}
 use Rattle.leaf_code.specs.Operation.{Operation}
 use Rattle.leaf_code.specs.Operation as O
@@ -14,88 +12,12 @@ use Rattle.net_code.specs.declared.statement.Function.{Function}
 use Rattle.code_fits.specs.Layouts.{Layout}
 use Rattle.c_meaning.specs.Syntax.{File}
 use Rattle.c_meaning.specs.Meaning.{Linked}
-use Rattle.c_leaf.specs.LeafC.{has_no_list, same_function}
+use Rattle.c_leaf.specs.LeafC.{same_function}
 use Rattle.c_leaf.specs.LeafCLaw.{FewElements, Compares, IsCompared, PartsCompared, StepCompared, StepsCompared}
 use Rattle.c_leaf.proofs.Same.{same_law}
-use Rattle.c_file.specs.Compared.{Leaf, input_of, code_of_leaf, leaves_of, is_among, number_among, and_type, with_type, with_operation, with_steps, with_leaves, with_functions}
-use Rattle.c_file.proofs.Links.{function_of, same, next}
-
--- a type with lists is one of these
-abbrev pub Among : TypeTree → List TypeTree → Type 0
-Among A Ts = has_no_list A ≡ false → is_among A Ts ≡ true
-
--- each of these is one of those
-abbrev pub More : List TypeTree → List TypeTree → Type 0
-More Ts Us = (A : TypeTree) → is_among A Ts ≡ true → is_among A Us ≡ true
-
-more-trans : (Ts Us Vs : List TypeTree) → More Ts Us → More Us Vs → More Ts Vs
-more-trans Ts Us Vs h k A e = k A (h A e)
-
-no-yes : {P : Type 0} → true ≡ false → P
-no-yes e = absurd (grind arith)
-
-either-first : (a b : Bool) → a ≡ true → (a || b) ≡ true
-either-first true b e = refl
-either-first false b e = no-yes (sym e)
-
-either-second : (a b : Bool) → b ≡ true → (a || b) ≡ true
-either-second true b e = refl
-either-second false b e = e
-
-among-front : (A : TypeTree) (Ts Us : List TypeTree) → is_among A Ts ≡ true → is_among A (Ts ++ Us) ≡ true
-among-front A [] Us e = no-yes (sym e)
-among-front A (T ∷ Ts) Us e = by_first (same_tree T A) (among-front A Ts Us) e
-  where
-    by_first : (b : Bool) → (is_among A Ts ≡ true → is_among A (Ts ++ Us) ≡ true) → (b || is_among A Ts) ≡ true → (b || is_among A (Ts ++ Us)) ≡ true
-    by_first true h e = refl
-    by_first false h e = h e
-
-among-last : (A : TypeTree) (Ts : List TypeTree) → is_among A (Ts ++ A ∷ []) ≡ true
-among-last A [] = either-first (same_tree A A) false (same_tree-refl A)
-among-last A (T ∷ Ts) = either-second (same_tree T A) (is_among A (Ts ++ A ∷ [])) (among-last A Ts)
-
--- each stands behind its parts
-abbrev pub PartsAmong : TypeTree → List TypeTree → Type 0
-PartsAmong (pair_ty A B) Ts = Among A Ts × Among B Ts
-PartsAmong (event_ty A) Ts = Among A Ts
-PartsAmong (list_ty A) Ts = Among A Ts
-PartsAmong _ Ts = Unit {0}
-
-pub data Closed : List TypeTree → Type 0 where
-  closed_none : Closed []
-  closed_one : (Ts : List TypeTree) (A : TypeTree) → Closed Ts → PartsAmong A Ts → Closed (Ts ++ A ∷ [])
-
--- what holds of types with more
-record With (A : TypeTree) (Ts Us : List TypeTree) : Type 0 where
-  more : More Ts Us
-  among : Among A Us
-  closed : Closed Us
-
-and-one : (A : TypeTree) (Ts : List TypeTree) → Closed Ts → PartsAmong A Ts → With A Ts (and_type A Ts)
-and-one A Ts c p = by_test (has_no_list A) (is_among A Ts) refl refl
-  where
-    by_test : (a b : Bool) → has_no_list A ≡ a → is_among A Ts ≡ b → With A Ts (if a || b then Ts else Ts ++ A ∷ [])
-    by_test true b e h = record { more = λ B k. k; among = λ k. no-yes (sym e ∙ k); closed = c }
-    by_test false true e h = record { more = λ B k. k; among = λ k. h; closed = c }
-    by_test false false e h = record { more = λ B k. among-front B Ts (A ∷ []) k; among = λ k. among-last A Ts; closed = closed_one Ts A c p }
-
-with-one : (A : TypeTree) (Ts : List TypeTree) → Closed Ts → With A Ts (with_type A Ts)
-with-one unit_ty Ts c = record { more = λ B k. k; among = λ k. no-yes k; closed = c }
-with-one bool_ty Ts c = record { more = λ B k. k; among = λ k. no-yes k; closed = c }
-with-one int_ty Ts c = record { more = λ B k. k; among = λ k. no-yes k; closed = c }
-with-one (pair_ty A B) Ts c =
-    let a = with-one A Ts c in
-    let b = with-one B (with_type A Ts) a.closed in
-    let w = and-one (pair_ty A B) (with_type B (with_type A Ts)) b.closed (λ k. b.more A (a.among k), b.among) in
-    record { more = λ T k. w.more T (b.more T (a.more T k)); among = w.among; closed = w.closed }
-with-one (event_ty A) Ts c =
-    let a = with-one A Ts c in
-    let w = and-one (event_ty A) (with_type A Ts) a.closed a.among in
-    record { more = λ T k. w.more T (a.more T k); among = w.among; closed = w.closed }
-with-one (list_ty A) Ts c =
-    let a = with-one A Ts c in
-    let w = and-one (list_ty A) (with_type A Ts) a.closed a.among in
-    record { more = λ T k. w.more T (a.more T k); among = w.among; closed = w.closed }
+use Rattle.c_file.specs.Compared.{Leaf, input_of, code_of_leaf, leaves_of, number_among, with_operation, with_steps, with_leaves, with_functions}
+use Rattle.c_file.proofs.Links.{function_of}
+use Rattle.c_file.proofs.TypeFunctions.{Among, More, Closed, with-one, no-yes, PartsDone, all-done}
 
 -- types with those that something compares
 pub record Grows (Ts Us : List TypeTree) : Type 0 where
@@ -208,97 +130,20 @@ module _ (n : Bounds) (W : List TypeTree) (F : ℕ → Linked) (all : AllCompare
         steps-compared ss (Ts ++ s.ty ∷ []) (λ k. e k ∙ ap (λ Us. get_or Us k unit_ty) (sym g)) a.1,
       )
 
--- the number of a type is that of its first place
-number-front : (A : TypeTree) (Ts Us : List TypeTree) → is_among A Ts ≡ true → (number_among (Ts ++ Us) A ≡ number_among Ts A) × (number_among Ts A < length Ts)
-number-front A [] Us e = no-yes (sym e)
-number-front A (T ∷ Ts) Us e = by_first (same_tree T A) (number-front A Ts Us) e
-  where
-    by_first : (b : Bool) → (is_among A Ts ≡ true → (number_among (Ts ++ Us) A ≡ number_among Ts A) × (number_among Ts A < length Ts)) → (b || is_among A Ts) ≡ true
-        → ((if b then 0 else suc (number_among (Ts ++ Us) A)) ≡ (if b then 0 else suc (number_among Ts A))) × ((if b then 0 else suc (number_among Ts A)) < suc (length Ts))
-    by_first true h e = (refl, omega arith)
-    by_first false h e = let r = h e in let l : number_among Ts A < length Ts = r.1 in (ap suc r.0, omega arith)
-
-number-new : (A : TypeTree) (Ts Us : List TypeTree) → is_among A Ts ≡ false → number_among (Ts ++ A ∷ Us) A ≡ length Ts
-number-new A [] Us e = ap (λ b. if b then 0 else suc (number_among Us A)) (same_tree-refl A)
-number-new A (T ∷ Ts) Us e = by_first (same_tree T A) (number-new A Ts Us) e
-  where
-    by_first : (b : Bool) → (is_among A Ts ≡ false → number_among (Ts ++ A ∷ Us) A ≡ length Ts) → (b || is_among A Ts) ≡ false → (if b then 0 else suc (number_among (Ts ++ A ∷ Us) A)) ≡ suc (length Ts)
-    by_first true h e = no-yes e
-    by_first false h e = ap suc (h e)
-
-among-split : (A T : TypeTree) (Ts : List TypeTree) → is_among A (Ts ++ T ∷ []) ≡ true → is_among A Ts ≡ false → same_tree T A ≡ true
-among-split A T [] e f = by_value (same_tree T A) e
-  where
-    by_value : (b : Bool) → (b || false) ≡ true → b ≡ true
-    by_value true e = refl
-    by_value false e = e
-among-split A T (U ∷ Ts) e f = by_first (same_tree U A) (among-split A T Ts) e f
-  where
-    by_first : (b : Bool) → (is_among A (Ts ++ T ∷ []) ≡ true → is_among A Ts ≡ false → same_tree T A ≡ true) → (b || is_among A (Ts ++ T ∷ [])) ≡ true → (b || is_among A Ts) ≡ false → same_tree T A ≡ true
-    by_first true h e f = no-yes f
-    by_first false h e f = h e f
-
 -- the functions of types compare them, each over those of the earlier ones
 module _ (n : Bounds) (few : FewElements n) (W : List TypeTree) where
-  abbrev comparing_file : List TypeTree → File
-  comparing_file Ts = map (same_function n (number_among W)) Ts
+  abbrev comparing_file : File
+  comparing_file = map (same_function n (number_among W)) W
 
-  length-file : (Ts : List TypeTree) → length (comparing_file Ts) ≡ length Ts
-  length-file [] = refl
-  length-file (T ∷ Ts) = ap suc (length-file Ts)
-
-  file-append : (Ts Us : List TypeTree) → comparing_file (Ts ++ Us) ≡ comparing_file Ts ++ comparing_file Us
-  file-append [] Us = refl
-  file-append (T ∷ Ts) Us = ap (λ (hs : File). same_function n (number_among W) T ∷ hs) (file-append Ts Us)
-
-  -- of types that W begins with
-  record Start (Ts : List TypeTree) : Type 0 where
-    compared : (A : TypeTree) → is_among A Ts ≡ true → Compares n A (function_of (comparing_file Ts) (number_among W A))
-
-  parts-compared : (F : ℕ → Linked) (A : TypeTree) (Ts : List TypeTree) → ((B : TypeTree) → is_among B Ts ≡ true → Compares n B (F (number_among W B))) → PartsAmong A Ts
-      → PartsCompared n F (number_among W) A
-  parts-compared F unit_ty Ts h p = tt
-  parts-compared F bool_ty Ts h p = tt
-  parts-compared F int_ty Ts h p = tt
-  parts-compared F (pair_ty A B) Ts h p = (λ k. h A (p.0 k), λ k. h B (p.1 k))
-  parts-compared F (event_ty A) Ts h p = λ k. h A (p k)
-  parts-compared F (list_ty A) Ts h p = λ k. h A (p k)
-
-  starts : {Ts : List TypeTree} → Closed Ts → (Us : List TypeTree) → W ≡ Ts ++ Us → Start Ts
-  starts closed_none Us e = record { compared = λ A k. no-yes (sym k) }
-  starts (closed_one Ts T c p) Us e =
-      let w : W ≡ Ts ++ (T ∷ Us) = e ∙ append_assoc Ts (T ∷ []) Us in
-      let r = starts c (T ∷ Us) w in
-      let l : length (comparing_file Ts) ≡ length Ts = length-file Ts in
-      let g : comparing_file (Ts ++ T ∷ []) ≡ comparing_file Ts ++ same_function n (number_among W) T ∷ [] = file-append Ts (T ∷ []) in
-      record { compared = λ A k. by_place Ts T r w l g p A k (is_among A Ts) refl }
-    where
-      by_place : (Ts : List TypeTree) (T : TypeTree) → Start Ts → W ≡ Ts ++ (T ∷ Us) → length (comparing_file Ts) ≡ length Ts
-          → comparing_file (Ts ++ T ∷ []) ≡ comparing_file Ts ++ same_function n (number_among W) T ∷ [] → PartsAmong T Ts
-          → (A : TypeTree) → is_among A (Ts ++ T ∷ []) ≡ true → (b : Bool) → is_among A Ts ≡ b
-          → Compares n A (function_of (comparing_file (Ts ++ T ∷ [])) (number_among W A))
-      by_place Ts T r w l g p A k true i =
-          let q = number-front A Ts (T ∷ Us) i in
-          let u : number_among W A ≡ number_among Ts A = ap (λ Vs. number_among Vs A) w ∙ q.0 in
-          let v : number_among Ts A < length Ts = q.1 in
-          subst (Compares n A)
-          (sym (ap (λ (a : File). function_of a (number_among W A)) g ∙ same (comparing_file Ts) (same_function n (number_among W) T ∷ []) (number_among W A) (omega arith)))
-          (r.compared A i)
-      by_place Ts T r w l g p A k false i =
-          let t : T ≡ A = same_tree-true T A (among-split A T Ts k i) in
-          let u : number_among W T ≡ length (comparing_file Ts) =
-          ap (λ Vs. number_among Vs T) w ∙ number-new T Ts Us (subst (λ B. is_among B Ts ≡ false) (sym t) i) ∙ sym l in
-          subst (λ B. Compares n B (function_of (comparing_file (Ts ++ T ∷ [])) (number_among W B))) t
-          (subst (Compares n T)
-          (sym (ap (λ (a : File). function_of a (number_among W T)) g ∙ ap (function_of (comparing_file Ts ++ same_function n (number_among W) T ∷ [])) u
-          ∙ next (comparing_file Ts) (same_function n (number_among W) T) []))
-          (same_law n (function_of (comparing_file Ts)) (number_among W) T few (parts-compared (function_of (comparing_file Ts)) T Ts r.compared p)))
+  parts : (F : ℕ → Linked) (A : TypeTree) → PartsDone (Compares n) (number_among W) F A → PartsCompared n F (number_among W) A
+  parts F unit_ty h = h
+  parts F bool_ty h = h
+  parts F int_ty h = h
+  parts F (pair_ty A B) h = h
+  parts F (event_ty A) h = h
+  parts F (list_ty A) h = h
 
   -- in a file that begins with those of all
-  pub file-compares : Closed W → (b : File) → AllCompared n W (function_of (comparing_file W ++ b))
+  pub file-compares : Closed W → (b : File) → AllCompared n W (function_of (comparing_file ++ b))
   file-compares c b A a k =
-      let r = starts c [] (sym (append-nil W)) in
-      let q = number-front A W [] (a k) in
-      let v : number_among W A < length W = q.1 in
-      let l : length (comparing_file W) ≡ length W = length-file W in
-      subst (Compares n A) (sym (same (comparing_file W) b (number_among W A) (omega arith))) (r.compared A (a k))
+      all-done (same_function n) (Compares n) [] W (number_among W) (λ T. omega arith) (λ F T h. same_law n F (number_among W) T few (parts F T h)) c b A (a k)

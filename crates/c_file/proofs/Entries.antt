@@ -38,7 +38,7 @@ init-runs n S F s h =
     (assigns F (local 0) (zeroed T) (s ∷ []) (z ∷ []) z refl refl (ap (λ b. if b then Some (z ∷ []) else None) (alike T s z h (zeros-have T))))
     (gives-back F none (z ∷ []) end refl refl)) refl refl
 
-small-fits : (d : ℕ) → d < 2 ^ 63 → FitsSigned w64 (pos d)
+pub small-fits : (d : ℕ) → d < 2 ^ 63 → FitsSigned w64 (pos d)
 small-fits d l = grind arith
 
 module _ (n : Bounds) (c : Callee) (F : ℕ → Linked) where
@@ -102,7 +102,7 @@ module _ (n : Bounds) (c : Callee) (F : ℕ → Linked) where
         q.represents (goes-on (h nothing_given s (start, v)).0 q.state xs hs q.keeps rest)
 
     -- the same where each call is checked
-    checked : (b : Bool) (z : ℤ) (s : Store) (v : Datum) (p i o : Object) → FitsSigned w64 z → KeptFrom n b c.shape s p → Represents n c.input v i → has_type (c_type n c.output) o ≡ true
+    pub checked : (b : Bool) (z : ℤ) (s : Store) (v : Datum) (p i o : Object) → FitsSigned w64 z → KeptFrom n b c.shape s p → Represents n c.input v i → has_type (c_type n c.output) o ≡ true
         → (b ≡ true → int_lt z (pos 1) ≡ true
         → function_run F (checked_step n c) (two (truth b) p ∷ number i64 z ∷ i ∷ o ∷ []) ≡ Some (two (truth b) p ∷ number i64 z ∷ i ∷ o ∷ [], truth false))
         × ((m : Moment) → Comes b z m → Accepts n c.shape c.output (h nothing_given s (m, v)) (number i64 z) i (function_run F (checked_step n c) (two (truth b) p ∷ number i64 z ∷ i ∷ o ∷ [])))

@@ -1,7 +1,7 @@
 -- The C of a program outputs its network's stream.
 use Rattle.std.proofs.Common.{◌≡◌, ◌≤◌, ◌<◌, ◌+◌, ◌-◌, ◌^◌, ℕ, zero, suc, Bool, true, false, List, [], ◌∷◌, ◌++◌, map, length, Some, refl, sym, ap, ap₂, ◌∙◌, arith, subst, append-nil, append_assoc, length-append}
 use Rattle.std.specs.Prelude.{slice_get, if◌then◌else◌}
-use Rattle.sample_core.specs.TypeTree.{TypeTree, unit_ty, list_ty}
+use Rattle.sample_core.specs.TypeTree.{TypeTree, unit_ty, bool_ty, int_ty, pair_ty, event_ty, list_ty}
 use Rattle.leaf_core.specs.TypeLimits.{same_tree}
 use Rattle.leaf_core.specs.ExpressionView.{expression_of}
 use Rattle.leaf_code.specs.Fitting.{Bounds}
@@ -21,7 +21,7 @@ use Rattle.net_code.proofs.Streams.{code_law}
 use Rattle.code_fits.specs.declared.layout.Program.{Program}
 use Rattle.code_fits.specs.Layouts.{Layout}
 use Rattle.code_fits.specs.Rules.{FunctionFits, CodeFits}
-use Rattle.code_fits.specs.Tables.{trees_at, layout_of, beside, bound_of}
+use Rattle.code_fits.specs.Tables.{trees_at, layout_of, beside}
 use Rattle.code_fits.specs.Programs.{IsWhole, IsProgramOf}
 use Rattle.code_fits.proofs.Room.{samples-fit}
 use Rattle.code_fits.proofs.RuleTests.{callee-goes}
@@ -30,7 +30,7 @@ use Rattle.c_meaning.specs.Syntax.{File}
 use Rattle.c_meaning.specs.Syntax as C
 use Rattle.c_meaning.specs.Meaning.{Linked, function_run}
 use Rattle.c_leaf.specs.Representing.{two}
-use Rattle.c_leaf.specs.LeafC.{same_function}
+use Rattle.c_leaf.specs.LeafC.{has_no_list, same_function}
 use Rattle.c_leaf.specs.LeafCLaw.{FewElements}
 use Rattle.c_leaf.proofs.LeafC.{leaf_c_law, constant_law}
 use Rattle.c_forms.specs.Keeping.{Shape, shape_type}
@@ -38,10 +38,15 @@ use Rattle.c_forms.specs.Standing.{Right}
 use Rattle.c_file.specs.Compared.{Leaf, constant, at_input, leaves_of, input_of, code_of_leaf, number_among}
 use Rattle.c_file.specs.FunctionC.{Callee, callee_at, number_at, shape_at, olds, shape_of, helpers_c, step_c, leaf_c, before_step}
 use Rattle.c_file.specs.ProgramC.{Printed, callee_of, and_function, and_functions, state_type, init_function, step_function, checked_step, compared, comparing, printed, whole, c_with, c_of_code, checked_code, layouts_of, whole_of, c_of_program, checked_program, step_number}
-use Rattle.c_file.specs.Samples.{Handed, Hands, Outputs, Calls, Answers}
+use Rattle.c_file.specs.Samples.{Handed, Hands, Outputs, Calls, calls_none, calls_first, calls_next, calls_early, Answers}
 use Rattle.c_file.specs.FileLaw.{bounds, c_function, FileLaw, CheckedFileLaw, HandsLaw}
+use Rattle.c_file.specs.Guarded.{guarded_step, tested, testing_number, testing, guarded_program, guarded_number, Offers, offers_none, offers_first, offers_next, offers_early, offers_long, GuardedFileLaw}
 use Rattle.c_file.proofs.Links.{function_of, same, next}
-use Rattle.c_file.proofs.Compared.{Closed, closed_none, AllAmong, LeavesAmong, FunctionsAmong, functions-grow, functions-among, AllCompared, steps-compared, file-compares}
+use Rattle.c_file.proofs.Guarded.{guarded-starts}
+use Rattle.c_file.proofs.TypeFunctions.{no-yes, Closed, closed_none, with-one, PartsDone, all-done}
+use Rattle.c_leaf.specs.Within.{Tests, PartsTested, within_function}
+use Rattle.c_leaf.proofs.Within.{no-list, within_law}
+use Rattle.c_file.proofs.Compared.{AllAmong, LeavesAmong, FunctionsAmong, functions-grow, functions-among, AllCompared, steps-compared, file-compares}
 use Rattle.c_file.proofs.Functions.{LeafDone, LeavesDone, Done, At, at-more, helpers-done, right}
 use Rattle.c_file.proofs.Handing.{zeros-have, hands-for}
 use Rattle.c_file.proofs.Entries.{init-runs, starts, checked-starts}
@@ -341,6 +346,94 @@ module _ (n : Bounds) (few : FewElements n) (fs : List Function) (Ls : List Layo
       subst (λ f. Answers n B f fresh hs (run_code value_in (code_in fs) nothing xs)) (sym (step-is A B d u))
       (subst (λ T. Answers n T (function_run F u) fresh hs (run_code value_in (code_in fs) nothing xs)) d.output o)
 
+  -- without lists no call has one that is too long
+  as-calls : (A B : TypeTree) → has_no_list A ≡ true → (b : Bool) (xs : TimedList) (hs : List Handed) → Offers n A B b xs hs → Calls n A B b xs hs
+  as-calls A B l b xs hs offers_none = calls_none
+  as-calls A B l b xs hs (offers_first {xs = ys} {hs = gs} f x y rest) = calls_first f x y (as-calls A B l true ys gs rest)
+  as-calls A B l b xs hs (offers_next {xs = ys} {hs = gs} a e x y rest) = calls_next a e x y (as-calls A B l true ys gs rest)
+  as-calls A B l b xs hs (offers_early {hs = gs} f e x y rest) = calls_early f e x y (as-calls A B l true xs gs rest)
+  as-calls A B l b xs hs (offers_long f x y rest) = absurd (no-yes (sym (no-list n A l x)))
+
+  -- a file with the guarded step, where its input has lists
+  module _ (A B : TypeTree) (d : Last A B) where
+    abbrev main : Callee
+    main = whole n fs Ls
+
+    abbrev code : File
+    code = checked_code n fs Ls
+
+    abbrev last_of_code : ℕ
+    last_of_code = suc (length P.file)
+
+    abbrev number : TypeTree → ℕ
+    number = testing_number main.input (length code)
+
+    abbrev tests : File
+    tests = testing n main.input (length code)
+
+    abbrev guarded : C.Function
+    guarded = guarded_step n main (number main.input) last_of_code
+
+    abbrev with-guarded : Bool → File
+    with-guarded b = if b then code else code ++ (tests ++ guarded ∷ [])
+
+    code-length : length code ≡ suc last_of_code
+    code-length = let l : length code ≡ length P.file + 2 = length-append P.file (init_function n main.shape ∷ checked_step n main ∷ []) in omega (arith, l)
+
+    parts : (F : ℕ → Linked) (T : TypeTree) → PartsDone (Tests n) number F T → PartsTested n F number T
+    parts F unit_ty h = h
+    parts F bool_ty h = h
+    parts F int_ty h = h
+    parts F (pair_ty C D) h = h
+    parts F (event_ty C) h = h
+    parts F (list_ty C) h = h
+
+    input-tested : has_no_list main.input ≡ false → Tests n main.input (function_of (code ++ tests) (number main.input))
+    input-tested l =
+        let w = with-one main.input [] closed_none in
+        subst (λ (a : File). Tests n main.input (function_of (code ++ a) (number main.input))) (append-nil tests)
+        (all-done (within_function n) (Tests n) code (tested main.input) number (λ T. refl) (λ F T h. within_law n F number T few (parts F T h)) w.closed [] main.input (w.among l))
+
+    -- what stands in the checked file stands there too
+    stands : (b : Bool) (k : ℕ) → k < length code → function_of (with-guarded b) k ≡ function_of code k
+    stands true k l = refl
+    stands false k l = same code (tests ++ guarded ∷ []) k l
+
+    last-place : (a b : File) (g : C.Function) → length (a ++ (b ++ g ∷ [])) - 1 ≡ length (a ++ b)
+    last-place a b g =
+        let l : length (a ++ (b ++ g ∷ [])) ≡ length a + length (b ++ g ∷ []) = length-append a (b ++ g ∷ []) in
+        let m : length (b ++ g ∷ []) ≡ length b + 1 = length-append b (g ∷ []) in
+        let k : length (a ++ b) ≡ length a + length b = length-append a b in
+        omega (arith, l, m, k)
+
+    guarded-is : function_of (code ++ (tests ++ guarded ∷ [])) (length (code ++ (tests ++ guarded ∷ [])) - 1) ≡ function_run (function_of (code ++ tests)) guarded
+    guarded-is = ap₂ function_of (sym (append_assoc code tests (guarded ∷ []))) (last-place code tests guarded) ∙ next (code ++ tests) guarded []
+
+    guards : (xs : TimedList) (hs : List Handed) → Offers n A B false xs hs → (b : Bool) → has_no_list main.input ≡ b
+        → Answers n B (function_of (with-guarded b) (length (with-guarded b) - 1)) fresh hs (run_code value_in (code_in fs) nothing xs)
+    guards xs hs offers true e =
+        let l : length code ≡ suc last_of_code = code-length in
+        let k : length code - 1 ≡ last_of_code = omega (arith, l) in
+        subst (λ j. Answers n B (function_of code j) fresh hs (run_code value_in (code_in fs) nothing xs)) (sym k)
+        (answered A B d xs hs (as-calls A B (subst (λ T. has_no_list T ≡ true) d.input e) false xs hs offers))
+    guards xs hs offers false e =
+        let u : C.Function = checked_step n main in
+        let F : ℕ → Linked = function_of (P.file ++ init_function n main.shape ∷ []) in
+        let l : length code ≡ suc last_of_code = code-length in
+        let is : function_of (code ++ tests) last_of_code ≡ function_run F u = same code tests last_of_code (omega (arith, l)) ∙ step-is A B d u in
+        let k1 : Offers n main.input B false xs hs = subst (λ T. Offers n T B false xs hs) (sym d.input) offers in
+        let k2 : Offers n main.input main.output false xs hs = subst (λ T. Offers n main.input T false xs hs) (sym d.output) k1 in
+        let o : Answers n main.output (function_run (function_of (code ++ tests)) guarded) fresh hs (run_code value_in (code_in fs) nothing xs) =
+        guarded-starts n main F (function_of (code ++ tests)) (number main.input) last_of_code (input-tested e) is stepper (whole-does A B d u) nothing (zeros (shape_type n main.shape)) xs hs
+        (zeros-have (shape_type n main.shape)) k2 in
+        subst (λ f. Answers n B f fresh hs (run_code value_in (code_in fs) nothing xs)) (sym guarded-is)
+        (subst (λ T. Answers n T (function_run (function_of (code ++ tests)) guarded) fresh hs (run_code value_in (code_in fs) nothing xs)) d.output o)
+
+    guarded-init : (b : Bool) (s : Object) → has_type (state_type n main.shape) s ≡ true → function_of (with-guarded b) (length P.file) (s ∷ []) ≡ Some (fresh ∷ [], end)
+    guarded-init b s k =
+        let l : length code ≡ suc last_of_code = code-length in
+        ap (λ (f : Linked). f (s ∷ [])) (stands b (length P.file) (omega (arith, l))) ∙ init-is A B d (checked_step n main) s k
+
 few-elements : (t : TypedNetwork) (most : ℕ) (p : Program) → IsProgramOf t most p → FewElements (bounds p)
 few-elements t most p h = λ T. beside-small (list_ty T) _ p.bounds.items h.small
 
@@ -382,4 +475,16 @@ checked_file_law t most p typed h s k xs hs calls =
       starts = init-is (bounds p) few p.functions.items (layouts_of p) h.layouts t.input t.output d (checked_step (bounds p) (whole_of p)) s k;
       answers = subst (Answers (bounds p) t.output (c_function (checked_program p) (step_number p)) (fresh (bounds p) few p.functions.items (layouts_of p) h.layouts) hs) (stream-is t most p typed h xs)
           (answered (bounds p) few p.functions.items (layouts_of p) h.layouts t.input t.output d xs hs calls);
+    }
+
+pub guarded_file_law : GuardedFileLaw
+guarded_file_law t most p typed h s k xs hs offers =
+    let few = few-elements t most p h in
+    let d = last-of t most p h in
+    let b : Bool = has_no_list (whole_of p).input in
+    record {
+      state = fresh (bounds p) few p.functions.items (layouts_of p) h.layouts;
+      starts = guarded-init (bounds p) few p.functions.items (layouts_of p) h.layouts t.input t.output d b s k;
+      answers = subst (Answers (bounds p) t.output (c_function (guarded_program p) (guarded_number p)) (fresh (bounds p) few p.functions.items (layouts_of p) h.layouts) hs) (stream-is t most p typed h xs)
+          (guards (bounds p) few p.functions.items (layouts_of p) h.layouts t.input t.output d xs hs offers b refl);
     }

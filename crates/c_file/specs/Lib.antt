@@ -4,3 +4,4 @@ pub mod FunctionC
 pub mod ProgramC
 pub mod Samples
 pub mod FileLaw
+pub mod Guarded

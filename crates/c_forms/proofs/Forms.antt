@@ -138,19 +138,18 @@ module _ (n : Bounds) (Ps : List TypeTree) (Os : List Shape) (F : ℕ → Linked
       let to = at-type n kept in
       let tu = keeps-type n u.keeps in
       let y : Represents n (pair_ty B D) (pair (f g s (m, left x)).1 (right x)) (two u.answer b.object) = c_pair u.represents b.represents in
-      let one-line = define-line n Ps Os F g qs h A (dot (local 2) 0) o d i [] a.at a.represents in
-      let two-line = part-line n Ps Os F g qs h B j (local 0) (behind n Ps Os 0) (dt_of m) o i (a.object ∷ []) o a.object u.state u.state u.answer whole (beside-whole 0) refl
-      (register-is n Ps Os F g qs h o d i (a.object ∷ []) 0 a.object refl) u.result (write-state n Ps Os F g qs h (shape_type n S) o u.state d i (a.object ∷ []) to tu) u.represents in
-      let rs : List Object = a.object ∷ u.answer ∷ [] in
-      let three-line = define-line n Ps Os F g qs h (pair_ty B D) (pair_of (behind n Ps Os 1) (dot (local 2) 1)) u.state d i rs
-      (ap₂ pair-result (register-is n Ps Os F g qs h u.state d i rs 1 u.answer refl) b.at) y in
-      let all : List Object = a.object ∷ u.answer ∷ two u.answer b.object ∷ [] in
-      let four-line = answer-line n Ps Os F g qs h (behind n Ps Os 2) u.state d i all (register-is n Ps Os F g qs h u.state d i all 2 (two u.answer b.object) refl) y in
+      let one-line = part-line n Ps Os F g qs h B j (local 0) (dot (local 2) 0) (dt_of m) o i [] o a.object u.state u.state u.answer whole refl refl
+      a.at u.result (write-state n Ps Os F g qs h (shape_type n S) o u.state d i [] to tu) u.represents in
+      let rs : List Object = u.answer ∷ [] in
+      let two-line = define-line n Ps Os F g qs h (pair_ty B D) (pair_of (behind n Ps Os 0) (dot (local 2) 1)) u.state d i rs
+      (ap₂ pair-result (register-is n Ps Os F g qs h u.state d i rs 0 u.answer refl) b.at) y in
+      let all : List Object = u.answer ∷ two u.answer b.object ∷ [] in
+      let three-line = answer-line n Ps Os F g qs h (behind n Ps Os 1) u.state d i all (register-is n Ps Os F g qs h u.state d i all 1 (two u.answer b.object) refl) y in
       record {
         state = u.state;
         answer = two u.answer b.object;
         result = whole-function n Ps Os F g qs h S (pair_ty A D) (pair_ty B D) _ m o i u.state (two u.answer b.object) all refl w to r
-            (then-run F one-line (then-run F two-line (then-run F three-line four-line))) y;
+            (then-run F one-line (then-run F two-line three-line)) y;
         keeps = u.keeps;
         represents = y;
       }

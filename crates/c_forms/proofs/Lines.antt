@@ -9,17 +9,18 @@ use Rattle.net_machine.specs.Store.{Moment, start, step, Origin, Store, Entry}
 use Rattle.net_machine.specs.Stepper.{Turn, turns}
 use Rattle.net_code.specs.Running.{Kept, Given, first_or}
 use Rattle.c_meaning.specs.Object.{CType, no_member, member, array, i64, u32, u64, Object, truth, number, end, more, in_range, has_type, each_has}
-use Rattle.c_meaning.specs.Syntax.{Term, local, choice, Command, define, branch, answer}
+use Rattle.c_meaning.specs.Syntax.{Term, local, choice, Command, define, refer, branch, answer}
 use Rattle.c_meaning.specs.Meaning.{Frame, Linked, eval, basic_in, basic_of, choice_of, replaced, write, path, apart, all_have, steady, function_run}
 use Rattle.c_meaning.proofs.Wrapping.{small-signed}
 use Rattle.c_meaning.proofs.Alike.{no, yes-and, left-yes, right-yes, alike}
 use Rattle.c_meaning.proofs.Choices.{choice-like}
 use Rattle.c_meaning.proofs.Runs.{Runs, defines, gives-back, chooses-first, chooses-second, function-runs, take-front}
 use Rattle.c_leaf.specs.Representing.{two, two_types, c_type, Represents}
-use Rattle.c_leaf.specs.LeafC.{const_params}
+use Rattle.c_leaf.specs.LeafC.{is_struct, part_command, const_params}
 use Rattle.c_leaf.specs.LeafCLaw.{Computes, IsConstant}
 use Rattle.c_leaf.proofs.Values.{has}
 use Rattle.c_leaf.proofs.Same.{set-object}
+use Rattle.c_leaf.proofs.Operations.{refers}
 use Rattle.c_leaf.proofs.LeafC.{params-have}
 use Rattle.c_forms.specs.Keeping.{Shape, shape_type, entry_type, written_count, most_members, side_number, two_sides, KeepsTurns, no_turn, one_turn, KeepsEntry, written_kept, made_kept, KeepsMember, this_member, later_member, collection_kept, cell_type, HoldsCell, holds_previous, holds_latest, holds_accumulator, holds_waiting, holds_over, holds_recurring, holds_time, holds_sum, holds_queue, HoldsRing, delay_type, Keeps, nothing_kept, cell_kept, both_kept, member_kept, fed_kept, front_kept, taker_kept, frozen_kept, KeepsAt, at_start, at_step, dt_of, dt_object, MomentFits}
 use Rattle.c_forms.specs.Ring.{Ring}
@@ -171,6 +172,15 @@ module _ (n : Bounds) (Ps : List TypeTree) (Os : List Shape) (F : ℕ → Linked
       → Runs F (define (c_type n T) e) (at o d i rs) (at o d i (rs ++ z ∷ []), None)
   define-line T e o d i rs {v} {z} k r =
       subst (λ f. Runs F (define (c_type n T) e) (at o d i rs) (f, None)) (again o d i rs z) (defines F (c_type n T) e (at o d i rs) z k (set-object n r) (has n r))
+
+  -- the same of a part
+  pub refer-line : (T : TypeTree) (e : Term) (o d i : Object) (rs : List Object) {v : Datum} {z : Object} → eval (at o d i rs) e ≡ Some z → Represents n T v z
+      → Runs F (part_command n T e) (at o d i rs) (at o d i (rs ++ z ∷ []), None)
+  refer-line T e o d i rs {v} {z} k r = by-struct (is_struct T)
+    where
+      by-struct : (b : Bool) → Runs F (if b then refer (c_type n T) e else define (c_type n T) e) (at o d i rs) (at o d i (rs ++ z ∷ []), None)
+      by-struct true = subst (λ f. Runs F (refer (c_type n T) e) (at o d i rs) (f, None)) (again o d i rs z) (refers F (c_type n T) e (at o d i rs) z k (has n r))
+      by-struct false = define-line T e o d i rs k r
 
   pub answer-line : (e : Term) (o d i : Object) (rs : List Object) {T : TypeTree} {v : Datum} {z : Object} → eval (at o d i rs) e ≡ Some z → Represents n T v z
       → Runs F (answer e) (at o d i rs) (at o d i rs, Some z)

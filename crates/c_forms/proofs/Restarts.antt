@@ -1,5 +1,6 @@
 -- The C functions of `rSwitch` and `drSwitch` do their steps.
-use Rattle.std.proofs.Common.{◌≡◌, ℕ, pos, Bool, true, false, List, [], ◌∷◌, ◌++◌, Option, Some, None, refl, subst, sym, ap, ◌∙◌}
+use Rattle.std.proofs.Common.{◌≡◌, ◌+◌, ℕ, zero, suc, pos, Bool, true, false, List, [], ◌∷◌, ◌++◌, length, Option, Some, None, refl, subst, sym, ap, ◌∙◌}
+use Rattle.std.specs.Prelude.{if◌then◌else◌, nat_eq, not}
 use Rattle.sample_core.specs.Datum.{Datum, pair, event}
 use Rattle.sample_core.specs.TypeTree.{TypeTree, pair_ty, event_ty}
 use Rattle.leaf_code.specs.Fitting.{Bounds}
@@ -9,18 +10,19 @@ use Rattle.net_machine.specs.Store.{Moment, start, step, Store, mode, front_part
 use Rattle.net_machine.specs.Stepper.{Stepper, event_beside, put, going_on, restarted_late, r_switch_in}
 use Rattle.net_code.specs.Running.{Given, given_value}
 use Rattle.c_meaning.specs.Object.{truth_type, member, i64, Object, truth, number, more, has_type}
-use Rattle.c_meaning.specs.Syntax.{Term, local, dot, boolean, Command, skip, sequence, define, assign, answer}
-use Rattle.c_meaning.specs.Meaning.{Frame, Linked, steady, eval, function_run}
-use Rattle.c_meaning.proofs.Alike.{yes-and}
+use Rattle.c_meaning.specs.Syntax.{Term, local, dot, boolean, Command, skip, Argument, by_const, sequence, define, refer, assign, branch, answer}
+use Rattle.c_meaning.specs.Meaning.{Frame, Linked, passed_roots, written, referred, is_none_of, none_shared, steady, eval, function_run}
+use Rattle.c_meaning.proofs.Alike.{yes-and, left-yes, right-yes}
 use Rattle.c_meaning.proofs.Runs.{Runs, then-run, ends, skips}
 use Rattle.c_leaf.specs.Representing.{two, two_types, c_type, Represents, c_pair, c_event, c_no_event}
+use Rattle.c_leaf.specs.LeafC.{is_struct, part_command}
 use Rattle.c_leaf.proofs.Values.{has}
 use Rattle.c_leaf.proofs.Same.{set-object}
 use Rattle.c_forms.specs.Keeping.{Shape, keeps_mode, shape_type, Keeps, front_kept, taker_kept, KeepsAt, at_start, at_step, dt_of, dt_object, MomentFits}
-use Rattle.c_forms.specs.Standing.{InScope, Right, is_first, behind, part_call}
+use Rattle.c_forms.specs.Standing.{InScope, Right, is_first, behind, param_args, old_args, part_call}
 use Rattle.c_forms.specs.Cells.{number_term, at_first}
-use Rattle.c_forms.specs.Switches.{taken_of, front_of, taker_call, event_beside_of, value_beside, restart_lines, late_lines, r_switch_lines, r_switch_function, RSwitchLaw}
-use Rattle.c_forms.proofs.Lines.{keeps-type, at-type, halves, front-of, at, register-is, define-line, answer-line, write-state, part-line, yes-line, no-line, whole-function}
+use Rattle.c_forms.specs.Switches.{taken_of, by_of, front_of, taker_call, event_beside_of, value_beside, restart_lines, late_lines, r_switch_lines, r_switch_function, RSwitchLaw}
+use Rattle.c_forms.proofs.Lines.{keeps-type, at-type, halves, front-of, at, register-is, refer-line, answer-line, write-state, part-line, yes-line, no-line, whole-function}
 use Rattle.c_forms.proofs.Forms.{part-within, beside-member}
 use Rattle.c_forms.proofs.Switches.{mode-object, mode-type, mode-has, mode-line, taker-line, Comes, goes-past}
 
@@ -264,9 +266,73 @@ module _ (n : Bounds) (Ps : List TypeTree) (Os : List Shape) (F : ℕ → Linked
     later delayed d m a b u (Some c) = refl
 
 module _ (n : Bounds) (Ps : List TypeTree) (Os : List Shape) (F : ℕ → Linked) where
-  steady-lines : (tm : Timing) (A B : TypeTree) (j k : ℕ) → steady (sequence (at_first (assign taken_of (boolean false))) (sequence (define (c_type n A) (dot (local 2) 0)) (r_switch_lines n Ps Os tm B j k))) ≡ true
-  steady-lines at_once A B j k = refl
-  steady-lines delayed A B j k = refl
+  -- a call writes its state alone
+  param-roots : (k m : ℕ) (zs : List Argument) → passed_roots (param_args k m ++ zs) ≡ passed_roots zs
+  param-roots k zero zs = refl
+  param-roots k (suc m) zs = param-roots (suc k) m zs
+
+  old-roots : (k m : ℕ) → passed_roots (old_args k m) ≡ []
+  old-roots k zero = refl
+  old-roots k (suc m) = old-roots (suc (suc k)) m
+
+  -- the input isn't written
+  abbrev Reads : Command → Type 0
+  Reads c = is_none_of 2 (written c) ≡ true
+
+  none-append : (xs ys : List ℕ) → is_none_of 2 xs ≡ true → is_none_of 2 ys ≡ true → is_none_of 2 (xs ++ ys) ≡ true
+  none-append [] ys a b = b
+  none-append (x ∷ xs) ys a b = yes-and (left-yes (not (nat_eq 2 x)) (is_none_of 2 xs) a) (none-append xs ys (right-yes (not (nat_eq 2 x)) (is_none_of 2 xs) a) b)
+
+  then-reads : (a b : Command) → Reads a → Reads b → Reads (sequence a b)
+  then-reads a b p q = none-append (written a) (written b) p q
+
+  chosen-reads : (e : Term) (a b : Command) → Reads a → Reads b → Reads (branch e a b)
+  chosen-reads e a b p q = none-append (written a) (written b) p q
+
+  taker-reads : (B : TypeTree) (k : ℕ) (e x : Term) → Reads (taker_call n Ps Os B k e x)
+  taker-reads B k e x = ap (λ ks. is_none_of 2 (0 ∷ ks)) (param-roots 3 (length Ps) (by_const by_of ∷ old_args (3 + length Ps) (length Os)) ∙ old-roots (3 + length Ps) (length Os))
+
+  front-reads : (B : TypeTree) (j : ℕ) (x : Term) → Reads (part_call n Ps Os B j front_of x)
+  front-reads B j x = ap (λ ks. is_none_of 2 (0 ∷ ks)) (param-roots 3 (length Ps) (old_args (3 + length Ps) (length Os)) ∙ old-roots (3 + length Ps) (length Os))
+
+  restart-reads : (B : TypeTree) (k : ℕ) (c : Command) → Reads c → Reads (restart_lines n Ps Os B k c)
+  restart-reads B k c p =
+      then-reads (taker_call n Ps Os B k (number_term 0) (behind n Ps Os 0)) c (taker-reads B k (number_term 0) (behind n Ps Os 0)) p
+
+  leave-reads : (B : TypeTree) (k : ℕ) → Reads (sequence (taker_call n Ps Os B k (local 1) (behind n Ps Os 0)) (answer (behind n Ps Os 1)))
+  leave-reads B k = then-reads (taker_call n Ps Os B k (local 1) (behind n Ps Os 0)) (answer (behind n Ps Os 1)) (taker-reads B k (local 1) (behind n Ps Os 0)) refl
+
+  late-reads : (B : TypeTree) (k : ℕ) → Reads (late_lines n Ps Os B k)
+  late-reads B k =
+      then-reads (branch (event_beside_of n Ps Os (local 2)) (restart_lines n Ps Os B k skip) skip) (answer (behind n Ps Os 1))
+      (chosen-reads (event_beside_of n Ps Os (local 2)) (restart_lines n Ps Os B k skip) skip (restart-reads B k skip refl) refl) refl
+
+  lines-read : (tm : Timing) (B : TypeTree) (j k : ℕ) → Reads (r_switch_lines n Ps Os tm B j k)
+  lines-read at_once B j k =
+      let once : Command = branch (event_beside_of n Ps Os (local 2)) (restart_lines n Ps Os B k (answer (behind n Ps Os 1))) skip in
+      let gone : Command = sequence (taker_call n Ps Os B k (local 1) (behind n Ps Os 0)) (answer (behind n Ps Os 1)) in
+      let ran : Command = part_call n Ps Os B j front_of (behind n Ps Os 0) in
+      then-reads once (sequence (branch taken_of gone skip) (sequence ran (answer (behind n Ps Os 1))))
+      (chosen-reads (event_beside_of n Ps Os (local 2)) (restart_lines n Ps Os B k (answer (behind n Ps Os 1))) skip (restart-reads B k (answer (behind n Ps Os 1)) refl) refl)
+      (then-reads (branch taken_of gone skip) (sequence ran (answer (behind n Ps Os 1))) (chosen-reads taken_of gone skip (leave-reads B k) refl)
+      (then-reads ran (answer (behind n Ps Os 1)) (front-reads B j (behind n Ps Os 0)) refl))
+  lines-read delayed B j k =
+      let gone : Command = sequence (taker_call n Ps Os B k (local 1) (behind n Ps Os 0)) (late_lines n Ps Os B k) in
+      let ran : Command = part_call n Ps Os B j front_of (behind n Ps Os 0) in
+      then-reads (branch taken_of gone skip) (sequence ran (late_lines n Ps Os B k))
+      (chosen-reads taken_of gone skip (then-reads (taker_call n Ps Os B k (local 1) (behind n Ps Os 0)) (late_lines n Ps Os B k) (taker-reads B k (local 1) (behind n Ps Os 0)) (late-reads B k)) refl)
+      (then-reads ran (late_lines n Ps Os B k) (front-reads B j (behind n Ps Os 0)) (late-reads B k))
+
+  lines-refer-none : (tm : Timing) (B : TypeTree) (j k : ℕ) → referred (r_switch_lines n Ps Os tm B j k) ≡ []
+  lines-refer-none at_once B j k = refl
+  lines-refer-none delayed B j k = refl
+
+  steady-lines : (tm : Timing) (A B : TypeTree) (j k : ℕ) → steady (sequence (at_first (assign taken_of (boolean false))) (sequence (part_command n A (dot (local 2) 0)) (r_switch_lines n Ps Os tm B j k))) ≡ true
+  steady-lines tm A B j k = by-struct (is_struct A)
+    where
+      by-struct : (b : Bool) → steady (sequence (at_first (assign taken_of (boolean false))) (sequence (if b then refer (c_type n A) (dot (local 2) 0) else define (c_type n A) (dot (local 2) 0)) (r_switch_lines n Ps Os tm B j k))) ≡ true
+      by-struct true = ap (λ ks. none_shared (2 ∷ ks) (0 ∷ written (r_switch_lines n Ps Os tm B j k))) (lines-refer-none tm B j k) ∙ yes-and (lines-read tm B j k) refl
+      by-struct false = ap (λ ks. none_shared ks (0 ∷ written (r_switch_lines n Ps Os tm B j k))) (lines-refer-none tm B j k)
 
   pub r_switch_law : RSwitchLaw n Ps Os F
   r_switch_law tm S T A B V j k f t hf ht g qs h start s x o i w (at_start e) (c_pair {v = u} {w = ev} {o = y0} {p = z} ru re) =
@@ -282,7 +348,7 @@ module _ (n : Bounds) (Ps : List TypeTree) (Os : List Shape) (F : ℕ → Linked
       let t1 = mode-has n Ps Os F S T A B V k t ht g qs h false q2.a q3.a q3.b q2.has_a q3.has_a q3.has_b in
       let set = mode-line n Ps Os F S T A B V k t ht g qs h 0 (boolean false) o0 o1 d inp [] (truth false) refl refl refl t0 t1 in
       let clear = yes-line n Ps Os F g qs h (assign taken_of (boolean false)) skip is_first o0 d inp [] [] o1 None refl set in
-      let def = define-line n Ps Os F g qs h A (dot (local 2) 0) o1 d inp [] refl ru in
+      let def = refer-line n Ps Os F g qs h A (dot (local 2) 0) o1 d inp [] refl ru in
       let b = front n Ps Os F S T A B V k t ht g qs h j f hf tm start (front_part s) (taker_part s) q2.a q3.a q3.b w q2.has_a (at_start q3.has_a) q3.has_b ru re in
       let same = starting n Ps Os F S T A B V k t ht g qs h j f hf tm s u (event_in ev) ∙ ap (r_switch_in tm (f g) (λ c. t (given_value g c)) s (start, u)) (sym (is-beside n Ps Os F S T A B V k t ht g qs h j f hf u ev)) in
       record {
@@ -297,7 +363,7 @@ module _ (n : Bounds) (Ps : List TypeTree) (Os : List Shape) (F : ℕ → Linked
       let o0 : Object = mode-object false v a p in
       let d : Object = number i64 (pos e) in
       let inp : Object = two y0 z in
-      let def = define-line n Ps Os F g qs h A (dot (local 2) 0) o0 d inp [] refl ru in
+      let def = refer-line n Ps Os F g qs h A (dot (local 2) 0) o0 d inp [] refl ru in
       let b = front n Ps Os F S T A B V k t ht g qs h j f hf tm (step e) a0 b0 v a p w hv (at_step ka) hp ru re in
       let same = later n Ps Os F S T A B V k t ht g qs h j f hf tm e None a0 b0 u (event_in ev) ∙ ap (r_switch_in tm (f g) (λ c. t (given_value g c)) (mode None a0 b0) (step e, u)) (sym (is-beside n Ps Os F S T A B V k t ht g qs h j f hf u ev)) in
       record {
@@ -312,7 +378,7 @@ module _ (n : Bounds) (Ps : List TypeTree) (Os : List Shape) (F : ℕ → Linked
       let o0 : Object = mode-object true v a p in
       let d : Object = number i64 (pos e) in
       let inp : Object = two y0 z in
-      let def = define-line n Ps Os F g qs h A (dot (local 2) 0) o0 d inp [] refl ru in
+      let def = refer-line n Ps Os F g qs h A (dot (local 2) 0) o0 d inp [] refl ru in
       let b = over n Ps Os F S T A B V k t ht g qs h j f hf tm e a0 b0 v a p w rv ha kp ru re in
       let same = later n Ps Os F S T A B V k t ht g qs h j f hf tm e (Some c) a0 b0 u (event_in ev) ∙ ap (r_switch_in tm (f g) (λ c. t (given_value g c)) (mode (Some c) a0 b0) (step e, u)) (sym (is-beside n Ps Os F S T A B V k t ht g qs h j f hf u ev)) in
       record {

@@ -9,7 +9,7 @@ use Rattle.net_machine.specs.Store.{Moment, step, Origin, Store, Entry}
 use Rattle.net_machine.specs.Stepper.{Stepper, Turn, turns, turns_step, step_at, member_step}
 use Rattle.net_code.specs.Running.{Given, given_value}
 use Rattle.c_meaning.specs.Object.{array, number_type, u32, i64, Object, truth, number, more, has_type, each_has, part_of, with_part, in_front}
-use Rattle.c_meaning.specs.Syntax.{equals, less, Term, local, dot, binary, choice, Argument, by_value, by_const, by_pointer, Command, sequence, define, call, branch}
+use Rattle.c_meaning.specs.Syntax.{equals, less, Term, local, dot, binary, choice, Argument, by_value, by_const, by_pointer, Command, define, call, branch}
 use Rattle.c_meaning.specs.Meaning.{Linked, bind, is_set, eval, write, path, apart, operate, choice_of}
 use Rattle.c_meaning.proofs.Wrapping.{check-yes}
 use Rattle.c_meaning.proofs.Alike.{yes-and, alike}

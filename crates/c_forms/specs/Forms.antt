@@ -44,10 +44,9 @@ module _ (n : Bounds) (Ps : List TypeTree) (Os : List Shape) where
   first_function S A B D j =
       stepping n Ps Os S (pair_ty A D) (pair_ty B D)
       (lines
-      (define (c_type n A) (dot (local 2) 0)
-      ∷ part_call n Ps Os B j (local 0) (register 0)
-      ∷ define (c_type n (pair_ty B D)) (pair_of (register 1) (dot (local 2) 1))
-      ∷ []) (answer (register 2)))
+      (part_call n Ps Os B j (local 0) (dot (local 2) 0)
+      ∷ define (c_type n (pair_ty B D)) (pair_of (register 0) (dot (local 2) 1))
+      ∷ []) (answer (register 1)))
 
   abbrev pub loop_function : Shape → TypeTree → TypeTree → TypeTree → ℕ → ℕ → Function
   loop_function S A B V c j =

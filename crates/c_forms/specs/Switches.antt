@@ -5,9 +5,10 @@ use Rattle.leaf_code.specs.Fitting.{Bounds}
 use Rattle.net_tree.specs.Network.{Timing, at_once, delayed}
 use Rattle.net_machine.specs.Stepper.{Stepper, switch_step, r_switch_step}
 use Rattle.net_code.specs.Running.{Given, given_value}
-use Rattle.c_meaning.specs.Syntax.{Term, local, dot, boolean, Argument, by_value, by_const, by_pointer, Command, skip, sequence, define, assign, call, branch, answer, Function}
+use Rattle.c_meaning.specs.Syntax.{Term, local, dot, boolean, Argument, by_value, by_const, by_pointer, Command, skip, sequence, assign, call, branch, answer, Function}
 use Rattle.c_meaning.specs.Meaning.{Linked, function_run}
 use Rattle.c_leaf.specs.Representing.{c_type}
+use Rattle.c_leaf.specs.LeafC.{part_command}
 use Rattle.c_forms.specs.Keeping.{Shape, keeps_mode}
 use Rattle.c_forms.specs.Standing.{Right, behind, param_args, old_args, part_call, stepping}
 use Rattle.c_forms.specs.Forms.{lines}
@@ -101,7 +102,7 @@ module _ (n : Bounds) (Ps : List TypeTree) (Os : List Shape) where
   abbrev pub r_switch_function : Timing → Shape → Shape → TypeTree → TypeTree → TypeTree → ℕ → ℕ → Function
   r_switch_function tm S T A B V j k =
       stepping n Ps Os (keeps_mode V S T) (pair_ty A (event_ty V)) B
-      (lines (at_first (assign taken_of (boolean false)) ∷ define (c_type n A) (dot (local 2) 0) ∷ [])
+      (lines (at_first (assign taken_of (boolean false)) ∷ part_command n A (dot (local 2) 0) ∷ [])
       (r_switch_lines tm B j k))
 
   abbrev pub SwitchLaw : (ℕ → Linked) → Type 0

@@ -19,7 +19,7 @@ use Rattle.c_leaf.specs.LeafC.{const_params, leaf_lines, leaf_function, constant
 use Rattle.c_leaf.specs.LeafCLaw.{FewElements, StepsCompared, LeafCLaw, ConstantLaw}
 use Rattle.c_leaf.proofs.Values.{has, find}
 use Rattle.c_leaf.proofs.Same.{set-object}
-use Rattle.c_leaf.proofs.Steps.{steps, steps-refer-none}
+use Rattle.c_leaf.proofs.Steps.{steps, steps-write-none}
 use Rattle.c_leaf.proofs.Emitted.{Sound, sound, ty-of}
 
 -- objects that represent parameters are of their types
@@ -31,6 +31,11 @@ params-have n (and_register h hs) Qs os e = ap₂ ◌&&◌ (has n h) (params-hav
 pub registers-length : (n : Bounds) {Ps : List TypeTree} {ps : List Datum} {qs : List Object} → Registers n Ps ps qs → length Ps ≡ length qs
 registers-length n no_register = refl
 registers-length n (and_register h hs) = ap ℕ.suc (registers-length n hs)
+
+-- nothing is shared with nothing
+nothing-shared : (ks : List ℕ) → none_shared ks [] ≡ true
+nothing-shared [] = refl
+nothing-shared (k ∷ ks) = nothing-shared ks
 
 module _ (n : Bounds) (F : ℕ → Linked) (h : TypeTree → ℕ) (e : Expression) (Ps : List TypeTree) (A B : TypeTree) (few : FewElements n) (typed : ExpressionTyped e Ps A B)
     (lists : ListsWithin n (leaf_code Ps A e).0) (compared : StepsCompared n F h (A ∷ []) (leaf_code Ps A e).0) where
@@ -65,8 +70,9 @@ module _ (n : Bounds) (F : ℕ → Linked) (h : TypeTree → ℕ) (e : Expressio
   result-type : type_at A code.0 code.1 ≡ B
   result-type = ty-of n few F h Ps A is-sound.1
 
-  lines-steady : referred (leaf_lines n h Ps A code) ≡ []
-  lines-steady = ap (λ (ks : List ℕ). ks ++ []) (steps-refer-none n h (length Ps) (type_at A code.0) code.0)
+  lines-steady : (ks : List ℕ) → none_shared ks (written (leaf_lines n h Ps A code)) ≡ true
+  lines-steady ks =
+      ap (λ (ws : List ℕ). none_shared ks (ws ++ [])) (steps-write-none n h (length Ps) (type_at A code.0) code.0) ∙ nothing-shared ks
 
 pub leaf_c_law : LeafCLaw
 leaf_c_law n F h e Ps A B few typed lists compared ps x qs i hp hx =
@@ -75,7 +81,7 @@ leaf_c_law n F h e Ps A B few typed lists compared ps x qs i hp hx =
       object = r.object;
       result = function-runs F (leaf_function n h Ps A (leaf_code Ps A e)) (qs ++ i ∷ []) (qs ++ i ∷ r.more) (qs ++ i ∷ []) r.object
           (params-have n hp (const_param (c_type n A) ∷ []) (i ∷ []) (ap₂ ◌&&◌ (has n hx) refl))
-          (ap (λ ks. none_shared ks (written (leaf_lines n h Ps A (leaf_code Ps A e)))) (lines-steady n F h e Ps A B few typed lists compared))
+          (lines-steady n F h e Ps A B few typed lists compared (referred (leaf_lines n h Ps A (leaf_code Ps A e))))
           r.runs
           (ap (λ T. has_type (c_type n T) r.object) (result-type n F h e Ps A B few typed lists compared) ∙ has n r.represents)
           (ap (take (length (qs ++ i ∷ []))) (sym (append_assoc qs (i ∷ []) r.more)) ∙ take-front (qs ++ i ∷ []) r.more);
@@ -90,7 +96,7 @@ constant_law n F h e Ps B few typed lists compared ps qs hp =
       object = r.object;
       result = function-runs F (constant_function n h Ps (leaf_code Ps unit_ty e)) qs (qs ++ z ∷ r.more) qs r.object
           (subst (λ Qs. all_have Qs qs ≡ true) (plain (const_params n Ps)) (subst (λ os. all_have (const_params n Ps ++ []) os ≡ true) (plain qs) (params-have n hp [] [] refl)))
-          (ap (λ ks. none_shared ks (written (leaf_lines n h Ps unit_ty (leaf_code Ps unit_ty e)))) (lines-steady n F h e Ps unit_ty B few typed lists compared))
+          (lines-steady n F h e Ps unit_ty B few typed lists compared (referred (leaf_lines n h Ps unit_ty (leaf_code Ps unit_ty e))))
           (then-run F (defines F (number_type u8) (literal u8 (pos 0)) qs z refl refl refl) r.runs)
           (ap (λ T. has_type (c_type n T) r.object) (result-type n F h e Ps unit_ty B few typed lists compared) ∙ has n r.represents)
           (take-front qs (z ∷ r.more));

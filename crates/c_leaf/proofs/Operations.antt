@@ -1,6 +1,6 @@
 -- The terms of operations have results, which represent what the operations give.
-use Rattle.std.proofs.Common.{◌≡◌, ◌≤◌, ◌<◌, ◌+◌, ◌-◌, ◌^◌, ℕ, zero, suc, ℤ, pos, negsuc, neg_ℤ, ◌+ℤ◌, ◌-ℤ◌, ◌*ℤ◌, Bool, true, false, not, ◌&&◌, ◌||◌, List, ◌++◌, map, length, Option, Some, refl, subst, sym, ap, ap₂, ◌∙◌, arith, w64}
-use Rattle.std.specs.Prelude.{FitsSigned, slice_get, int_lt}
+use Rattle.std.proofs.Common.{◌≡◌, ◌≤◌, ◌<◌, ◌+◌, ◌-◌, ◌^◌, ℕ, zero, suc, ℤ, pos, negsuc, neg_ℤ, ◌+ℤ◌, ◌-ℤ◌, ◌*ℤ◌, Bool, true, false, not, ◌&&◌, ◌||◌, List, [], ◌∷◌, ◌++◌, map, length, Option, Some, None, refl, subst, sym, ap, ap₂, ◌∙◌, arith, w64}
+use Rattle.std.specs.Prelude.{FitsSigned, slice_get, int_lt, if◌then◌else◌}
 use Rattle.std.specs.Int.{int_wrap}
 use Rattle.std.proofs.Math.Dec.{ltb, leb-zero}
 use Rattle.std.proofs.lemmas.Bool.{ltb-true, ltb-false}
@@ -15,20 +15,24 @@ use Rattle.leaf_code.specs.Running.{zero_of, is_event, carried_or, register, ope
 use Rattle.leaf_code.specs.Fitting.{Bounds}
 use Rattle.c_meaning.specs.Object.{CType, u8, i64, u64, u32, Object, truth, number, has_type, each_has, zeros, repeated, part_of, part_at, array}
 use Rattle.c_meaning.specs.Object as C
-use Rattle.c_meaning.specs.Syntax.{plus, minus, times, less, at_most, Term, local, dot, literal, zeroed, binary, inverse, both, either, cast, define}
+use Rattle.c_meaning.specs.Syntax.{plus, minus, times, less, at_most, Term, local, dot, literal, zeroed, binary, inverse, both, either, cast, define, refer}
 use Rattle.c_meaning.specs.Syntax as S
-use Rattle.c_meaning.specs.Meaning.{Linked, eval, bind, operate, converted, inverted, both_of, choice_of, basic_in, one_type}
+use Rattle.c_meaning.specs.Meaning.{Linked, Frame, eval, bind, pushed, operate, converted, inverted, both_of, choice_of, basic_in, one_type}
 use Rattle.c_meaning.specs.Wrapping.{modular, negated, Gives}
 use Rattle.c_meaning.proofs.Wrapping.{wrapping_law, fits-range, check-yes, small-signed}
 use Rattle.c_meaning.proofs.Alike.{alike}
 use Rattle.c_meaning.proofs.Choices.{choice-typed, choice-like, first-like}
 use Rattle.c_leaf.specs.Representing.{two, c_type, Represents, c_unit, c_bool, c_int, c_pair, c_no_event, c_event, c_list, AllRepresent, c_end, c_more, Registers}
-use Rattle.c_leaf.specs.LeafC.{same_command, elements_term, step_command}
+use Rattle.c_leaf.specs.LeafC.{is_struct, same_command, elements_term, part_command, step_command}
 use Rattle.c_leaf.specs.LeafCLaw.{IsCompared}
 use Rattle.c_leaf.proofs.Typed.{AllOf, none_of, one_of, OperationTyped, param_op, unit_op, bool_op, int_op, pair_op, left_op, right_op, neg_op, add_op, sub_op, mul_op, less_op, equal_op, not_op, and_op, or_op, choose_op, no_event_op, event_op, is_event_op, carried_op, list_op, nth_op, len_op}
 use Rattle.c_leaf.proofs.Same.{Computed, Line, set-object, both-truths, either-truths, both-results, either-results, first-of, second-of, same-line}
 use Rattle.c_leaf.proofs.Values.{has, all-have, zeros-represent, find, repeated-has}
-use Rattle.c_meaning.proofs.Runs.{defines, get-behind, get-before}
+use Rattle.c_meaning.proofs.Runs.{Runs, defines, get-behind, get-before}
+
+-- a pointer to an object stands for it
+pub refers : (F : ℕ → Linked) (T : CType) (e : Term) (f : Frame) (z : Object) → eval f e ≡ Some z → has_type T z ≡ true → Runs F (refer T e) f (f ++ z ∷ [], None)
+refers F T e f z h t = record { is = ap (λ E. bind E (pushed T f)) h ∙ ap (λ b. if b then Some (f ++ z ∷ [], None) else None) t }
 
 -- what a part of an object represents
 pub record Part (n : TypeTree → ℕ) (A : TypeTree) (v : Datum) (o : Object) (k : ℕ) : Type 0 where
@@ -227,6 +231,14 @@ module _ (n : TypeTree → ℕ) (F : ℕ → Linked) (h : TypeTree → ℕ) (t :
   line : (T : TypeTree) {v : Datum} {e : Term} → Computed n T v frame e → Line n F T v frame (define (c_type n T) e)
   line T {e = e} r = record { object = r.object; runs = defines F (c_type n T) e frame r.object r.at (set-object n r.represents) (has n r.represents); represents = r.represents }
 
+  -- the same of a part
+  part-line : (T : TypeTree) {v : Datum} {e : Term} → Computed n T v frame e → Line n F T v frame (part_command n T e)
+  part-line T {v} {e} r = by-struct (is_struct T)
+    where
+      by-struct : (b : Bool) → Line n F T v frame (if b then refer (c_type n T) e else define (c_type n T) e)
+      by-struct true = record { object = r.object; runs = refers F (c_type n T) e frame r.object r.at (has n r.represents); represents = r.represents }
+      by-struct false = line T r
+
   pub operation : (o : Operation) (T : TypeTree) → OperationTyped n (IsCompared n F h) Ps Ts o T → Line n F T (operation_value T ps (register rs) o) frame (step_command n h (length qs) t T o)
   operation o T (param_op {k = k} e) =
       line T (
@@ -241,12 +253,12 @@ module _ (n : TypeTree → ℕ) (F : ℕ → Linked) (h : TypeTree → ℕ) (t :
       let b = operand k e in
       record { object = two a.object b.object; at = ap₂ two-results a.at b.at; represents = c_pair a.represents b.represents })
   operation o T (left_op {j = j} d) =
-      line T (
+      part-line T (
       let a = operand j d in
       let r = left-part n a.represents in
       record { object = r.object; at = ap first-of a.at ∙ r.at; represents = r.represents })
   operation o T (right_op {j = j} d) =
-      line T (
+      part-line T (
       let a = operand j d in
       let r = right-part n a.represents in
       record { object = r.object; at = ap second-of a.at ∙ r.at; represents = r.represents })

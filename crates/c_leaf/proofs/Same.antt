@@ -45,11 +45,11 @@ pub either-truths : (a b : Bool) → either_of (truth a) (Some (truth b)) ≡ So
 either-truths true b = refl
 either-truths false b = refl
 
-and-left : (a b : Bool) → (a && b) ≡ true → a ≡ true
+pub and-left : (a b : Bool) → (a && b) ≡ true → a ≡ true
 and-left true b e = refl
 and-left false b e = e
 
-and-right : (a b : Bool) → (a && b) ≡ true → b ≡ true
+pub and-right : (a b : Bool) → (a && b) ≡ true → b ≡ true
 and-right true b e = e
 and-right false b e = absurd (grind arith)
 
@@ -318,7 +318,15 @@ refers-none : (h : TypeTree → ℕ) (A : TypeTree) (a b : Term) (l : Bool)
 refers-none h A a b true = refl
 refers-none h A a b false = refl
 
-pub none-referred : (h : TypeTree → ℕ) (A : TypeTree) (a b : Term) → referred (same_command h A a b) ≡ []
+-- and no local is written
+pub none-written : (h : TypeTree → ℕ) (A : TypeTree) (a b : Term) → written (same_command h A a b) ≡ []
+none-written h A a b = by-list (has_no_list A)
+  where
+    by-list : (l : Bool) → written (if l then define truth_type (same_term A a b) else call truth_type (h A) (by_const a ∷ by_const b ∷ [])) ≡ []
+    by-list true = refl
+    by-list false = refl
+
+none-referred : (h : TypeTree → ℕ) (A : TypeTree) (a b : Term) → referred (same_command h A a b) ≡ []
 none-referred h A a b = refers-none h A a b (has_no_list A)
 
 refers-body : (n : Bounds) (h : TypeTree → ℕ) (A : TypeTree) → referred (same_body n h A) ≡ []

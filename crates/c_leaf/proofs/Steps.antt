@@ -1,21 +1,21 @@
 -- The lines of steps have a result.
-use Rattle.std.proofs.Common.{◌≡◌, ◌+◌, ℕ, List, [], ◌∷◌, ◌++◌, map, length, Some, None, refl, subst, sym, ap₂, append_assoc, append-nil}
-use Rattle.std.specs.Prelude.{slice_get}
+use Rattle.std.proofs.Common.{◌≡◌, ◌+◌, ℕ, Bool, true, false, List, [], ◌∷◌, ◌++◌, map, length, Some, None, refl, subst, sym, ap₂, append_assoc, append-nil}
+use Rattle.std.specs.Prelude.{slice_get, if◌then◌else◌}
 use Rattle.sample_core.specs.Datum.{Datum}
 use Rattle.sample_core.specs.TypeTree.{TypeTree}
 use Rattle.leaf_code.specs.Operation.{Operation}
 use Rattle.leaf_code.specs.Operation as O
 use Rattle.leaf_code.specs.Running.{Step, step_value, run_steps}
 use Rattle.c_meaning.specs.Object.{Object}
-use Rattle.c_meaning.specs.Syntax.{local, Command, skip}
-use Rattle.c_meaning.specs.Meaning.{Linked, referred}
+use Rattle.c_meaning.specs.Syntax.{Term, local, dot, define, refer, Command, skip}
+use Rattle.c_meaning.specs.Meaning.{Linked, written}
 use Rattle.c_meaning.proofs.Runs.{Runs, then-run, skips, get-before}
-use Rattle.c_leaf.specs.Representing.{Registers}
-use Rattle.c_leaf.specs.LeafC.{step_command, steps_command}
+use Rattle.c_leaf.specs.Representing.{c_type, Registers}
+use Rattle.c_leaf.specs.LeafC.{is_struct, step_command, steps_command}
 use Rattle.c_leaf.specs.LeafCLaw.{IsCompared}
 use Rattle.c_leaf.proofs.Typed.{StepsTyped}
 use Rattle.c_leaf.proofs.Values.{append-register}
-use Rattle.c_leaf.proofs.Same.{Line, none-referred}
+use Rattle.c_leaf.proofs.Same.{Line, none-written}
 use Rattle.c_leaf.proofs.Operations.{operation}
 
 -- the lines' result: more registers behind these
@@ -50,12 +50,18 @@ module _ (n : TypeTree → ℕ) (F : ℕ → Linked) (h : TypeTree → ℕ) (t :
             (subst (λ Us. Registers n Us (run_steps ps (rs ++ step_value ps rs s ∷ []) ss) ((os ++ a.object ∷ []) ++ b.more)) e b.registers);
       }
 
--- no pointer is kept
+-- no local is written
 module _ (n : TypeTree → ℕ) (h : TypeTree → ℕ) (m : ℕ) (t : ℕ → TypeTree) where
-  pub steps-refer-none : (ss : List Step) → referred (steps_command n h m t ss) ≡ []
-  steps-refer-none [] = refl
-  steps-refer-none (s ∷ ss) = ap₂ (λ (xs ys : List ℕ). xs ++ ys) (step-refers s.ty s.operation) (steps-refer-none ss)
+  pub steps-write-none : (ss : List Step) → written (steps_command n h m t ss) ≡ []
+  steps-write-none [] = refl
+  steps-write-none (s ∷ ss) = ap₂ (λ (xs ys : List ℕ). xs ++ ys) (step-writes s.ty s.operation) (steps-write-none ss)
     where
-      step-refers : (T : TypeTree) (o : Operation) → referred (step_command n h m t T o) ≡ []
-      step-refers T (O.equal j k) = none-referred h (t j) (local (m + j)) (local (m + k))
-      step-refers T o = refl
+      part-writes : (T : TypeTree) (e : Term) (b : Bool) → written (if b then refer (c_type n T) e else define (c_type n T) e) ≡ []
+      part-writes T e true = refl
+      part-writes T e false = refl
+
+      step-writes : (T : TypeTree) (o : Operation) → written (step_command n h m t T o) ≡ []
+      step-writes T (O.equal j k) = none-written h (t j) (local (m + j)) (local (m + k))
+      step-writes T (O.left j) = part-writes T (dot (local (m + j)) 0) (is_struct T)
+      step-writes T (O.right j) = part-writes T (dot (local (m + j)) 1) (is_struct T)
+      step-writes T o = refl

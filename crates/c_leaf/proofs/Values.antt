@@ -9,11 +9,11 @@ use Rattle.c_meaning.specs.Object.{u32, Object, has_type, each_has, in_range, ze
 use Rattle.c_meaning.proofs.Wrapping.{fits-range}
 use Rattle.c_leaf.specs.Representing.{c_type, Represents, c_unit, c_bool, c_int, c_pair, c_no_event, c_event, c_list, AllRepresent, c_end, c_more, Registers, no_register, and_register}
 
-and-yes : {a b : Bool} → a ≡ true → b ≡ true → (a && b) ≡ true
+pub and-yes : {a b : Bool} → a ≡ true → b ≡ true → (a && b) ≡ true
 and-yes e f = ap₂ ◌&&◌ e f
 
 -- two types' members
-count-range : (k : ℕ) → k < 2 ^ 32 → in_range u32 (pos k) ≡ true
+pub count-range : (k : ℕ) → k < 2 ^ 32 → in_range u32 (pos k) ≡ true
 count-range k h = small k h
   where
     small : (k : ℕ) → k < 2 ^ 32 → in_range u32 (pos k) ≡ true

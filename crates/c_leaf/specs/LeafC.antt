@@ -7,7 +7,7 @@ use Rattle.leaf_code.specs.Operation as O
 use Rattle.leaf_code.specs.Running.{Step, LeafSteps}
 use Rattle.leaf_code.specs.CodeOf.{type_at}
 use Rattle.c_meaning.specs.Object.{u8, i64, u32, CType, truth_type, number_type, array}
-use Rattle.c_meaning.specs.Syntax.{plus, minus, times, less, at_most, equals, Term, local, dot, at, boolean, literal, zeroed, none, braced, binary, inverse, both, either, choice, cast, Parameter, const_param, by_const, Command, skip, sequence, define, call, branch, loop, answer, Function}
+use Rattle.c_meaning.specs.Syntax.{plus, minus, times, less, at_most, equals, Term, local, dot, at, boolean, literal, zeroed, none, braced, binary, inverse, both, either, choice, cast, Parameter, const_param, by_const, Command, skip, sequence, define, refer, call, branch, loop, answer, Function}
 use Rattle.c_meaning.specs.Wrapping.{negated, modular}
 use Rattle.c_leaf.specs.Representing.{c_type}
 
@@ -21,6 +21,17 @@ has_no_list (list_ty A) = false
 has_no_list (pair_ty A B) = has_no_list A && has_no_list B
 has_no_list (event_ty A) = has_no_list A
 has_no_list _ = true
+
+-- a type whose values are structs
+abbrev pub is_struct : TypeTree → Bool
+is_struct (pair_ty A B) = true
+is_struct (event_ty A) = true
+is_struct (list_ty A) = true
+is_struct _ = false
+
+-- a part as the next local: of a struct a pointer to it
+abbrev pub part_command : Bounds → TypeTree → Term → Command
+part_command n T e = if is_struct T then refer (c_type n T) e else define (c_type n T) e
 
 -- whether two values of a type without lists are the same
 abbrev pub same_term : TypeTree → Term → Term → Term
@@ -125,6 +136,8 @@ module _ (n : TypeTree → ℕ) (h : TypeTree → ℕ) (m : ℕ) (t : ℕ → Ty
   -- the line of a step
   abbrev pub step_command : TypeTree → Operation → Command
   step_command T (O.equal j k) = same_command h (t j) (register_term j) (register_term k)
+  step_command T (O.left j) = part_command n T (operation_term T (O.left j))
+  step_command T (O.right j) = part_command n T (operation_term T (O.right j))
   step_command T o = define (c_type n T) (operation_term T o)
 
   -- steps, a line each

@@ -2,3 +2,4 @@
 pub mod Representing
 pub mod LeafC
 pub mod LeafCLaw
+pub mod Within
