@@ -2,3 +2,5 @@
 pub mod Names
 pub mod Rows
 pub mod Joined
+pub mod TypeRows
+pub mod UsedRows

@@ -1,6 +1,6 @@
 -- The text of commands. The locals are numbered as they are declared; what is of a type without members
 -- is left out.
-use Rattle.std.specs.Prelude.{ℕ, zero, suc, Bool, true, false, if◌then◌else◌, List, [], ◌∷◌, ◌++◌, codes, length, slice_get, Option, Some, None}
+use Rattle.std.specs.Prelude.{ℕ, Bool, true, false, if◌then◌else◌, List, [], ◌∷◌, ◌++◌, codes, length}
 use Rattle.std.specs.Fmt.{decimal}
 use Rattle.c_text.specs.declared.name.Name.TheVariants as N
 use Rattle.c_text.specs.declared.tree.Base.TheVariants as B
@@ -10,7 +10,6 @@ use Rattle.c_text.specs.declared.tree.CType.TheVariants as T
 use Rattle.c_text.specs.declared.tree.Struct.{Struct}
 use Rattle.c_text.specs.declared.tree.Local.{Local}
 use Rattle.c_text.specs.declared.tree.Term.{Term}
-use Rattle.c_text.specs.declared.tree.Term as E
 use Rattle.c_text.specs.declared.tree.Argument.{Argument}
 use Rattle.c_text.specs.declared.tree.Argument.TheVariants as A
 use Rattle.c_text.specs.declared.tree.Command.{Command, Row_of-Command, end_of-Command, more_of-Command}
@@ -18,7 +17,9 @@ use Rattle.c_text.specs.declared.tree.Command as C
 use Rattle.c_text.specs.declared.command.Context.{Context}
 use Rattle.c_text.specs.NameText.{name_text}
 use Rattle.c_text.specs.TypeText.{type_text, declared_text, is_empty, left_out}
+use Rattle.c_text.specs.PlaceType.{place_type}
 use Rattle.c_text.specs.TermText.{operand_text, valued_text, term_text, address_text}
+use Rattle.c_text.specs.Used.{is_used}
 
 -- a local by value, and by pointer
 abbrev pub by_value : CType → Local
@@ -54,41 +55,14 @@ abbrev pub is_skip : Command → Bool
 is_skip C.Skip = true
 is_skip _ = false
 
--- a type that is not there
-abbrev pub no_type : CType
-no_type = T.One B.Bool
-
-abbrev pub type_or : Option CType → CType
-type_or None = no_type
-type_or (Some T) = T
-
-abbrev pub local_type : List Local → ℕ → CType
-local_type L k = elim (slice_get L k) [ None ↦ no_type | Some l ↦ l.ty ]
-
-abbrev pub element_type : CType → CType
-element_type (T.Array n b) = T.One b
-element_type (T.One b) = T.One b
-
--- Ss: the structs
-abbrev pub member_type : List Struct → CType → ℕ → CType
-member_type Ss (T.One (B.Struct j)) k =
-    elim (slice_get Ss j) [ None ↦ no_type | Some s ↦ type_or (slice_get s.members.items k) ]
-member_type Ss T k = no_type
-
--- the type of what a term designates
-abbrev pub place_type : List Struct → List Local → Term → CType
-place_type Ss L (E.Local k) = local_type L k
-place_type Ss L (E.Dot' p e k) = member_type Ss (place_type Ss L e) k
-place_type Ss L (E.At' p e q i) = element_type (place_type Ss L e)
-place_type Ss L _ = no_type
-
 abbrev pub separator_text : Bool → List ℕ
 separator_text true = []
 separator_text false = codes ", "
 
 -- P: the prefix of names; E: which structs have no member; Ss: the structs; R: the function's result;
--- m: what each line begins with
-module _ (P : List ℕ) (E : List Bool) (Ss : List Struct) (R : CType) (m : List ℕ) (L : List Local) where
+-- U: which locals the function uses; m: what each line begins with
+module _ (P : List ℕ) (E : List Bool) (Ss : List Struct) (R : CType) (U : List Bool) (m : List ℕ)
+    (L : List Local) where
   -- whether a pointer is passed to what has no member
   abbrev pub passes_nothing : Argument → Bool
   passes_nothing (A.Value e) = false
@@ -96,9 +70,9 @@ module _ (P : List ℕ) (E : List Bool) (Ss : List Struct) (R : CType) (m : List
   passes_nothing (A.Pointer e) = is_empty E (place_type Ss L e)
 
   abbrev pub argument_text : Argument → List ℕ
-  argument_text (A.Value e) = term_text P L e
-  argument_text (A.Const e) = address_text P L e
-  argument_text (A.Pointer e) = address_text P L e
+  argument_text (A.Value e) = term_text P Ss L e
+  argument_text (A.Const e) = address_text P Ss L e
+  argument_text (A.Pointer e) = address_text P Ss L e
 
   -- whether none was printed before
   abbrev pub arguments_text : Bool → List Argument → List ℕ
@@ -107,22 +81,31 @@ module _ (P : List ℕ) (E : List Bool) (Ss : List Struct) (R : CType) (m : List
       if passes_nothing a then arguments_text first as1
       else separator_text first ++ (argument_text a ++ arguments_text false as1)
 
-  -- the next local, and the end of the line that declares it, which may stay unused
+  -- the next local, and the end of the line that declares it: where it isn't used, so that no compiler
+  -- warns of it
   abbrev pub next_text : List ℕ
   next_text = name_text P (N.Local (length L))
 
-  abbrev pub unused_text : List ℕ
-  unused_text = codes "; (void)" ++ (next_text ++ codes ";\n")
+  abbrev pub ending_text : Bool → List ℕ
+  ending_text true = codes ";\n"
+  ending_text false = codes "; (void)" ++ (next_text ++ codes ";\n")
+
+  abbrev pub end_text : List ℕ
+  end_text = ending_text (is_used U (length L))
 
   abbrev pub declaration_text : CType → List ℕ
-  declaration_text T = m ++ (declared_text P T (N.Local (length L)) ++ unused_text)
+  declaration_text T = m ++ (declared_text P T (N.Local (length L)) ++ end_text)
 
   -- `const T r = s;`
   abbrev pub constant_head : CType → List ℕ
   constant_head T = m ++ (codes "const " ++ (declared_text P T (N.Local (length L)) ++ codes " = "))
 
   abbrev pub constant_text : CType → List ℕ → List ℕ
-  constant_text T s = constant_head T ++ (s ++ unused_text)
+  constant_text T s = constant_head T ++ (s ++ end_text)
+
+  -- a call, whose text is s: its result is a local, if it has a member
+  abbrev pub called_text : CType → List ℕ → List ℕ
+  called_text T s = if is_empty E T then m ++ (s ++ codes ";\n") else constant_text T s
 
   -- `const T *const r = &e;`
   abbrev pub reference_head : CType → List ℕ
@@ -130,20 +113,24 @@ module _ (P : List ℕ) (E : List Bool) (Ss : List Struct) (R : CType) (m : List
       m ++ (codes "const " ++ (type_text P T ++ (codes " *const " ++ (next_text ++ codes " = "))))
 
   abbrev pub reference_text : CType → Term → List ℕ
-  reference_text T e = reference_head T ++ (address_text P L e ++ unused_text)
+  reference_text T e = reference_head T ++ (address_text P Ss L e ++ end_text)
 
   abbrev pub assignment_text : Term → Term → List ℕ
   assignment_text e v =
       m
-      ++ (term_text P L e
-      ++ (codes " = " ++ (valued_text P (place_type Ss L e) v (term_text P L v) ++ codes ";\n")))
+      ++ (term_text P Ss L e
+      ++ (codes " = " ++ (valued_text P (place_type Ss L e) v (term_text P Ss L v) ++ codes ";\n")))
 
   abbrev pub call_text : ℕ → List Argument → List ℕ
   call_text k as1 =
       name_text P (N.Function k) ++ (codes "(" ++ (arguments_text true as1 ++ codes ")"))
 
+  -- what is returned, if it has a member
+  abbrev pub answered_text : Term → List ℕ
+  answered_text e = left_out E R (codes " " ++ valued_text P R e (term_text P Ss L e))
+
   abbrev pub answer_text : Term → List ℕ
-  answer_text e = m ++ (codes "return " ++ (valued_text P R e (term_text P L e) ++ codes ";\n"))
+  answer_text e = m ++ (codes "return" ++ (answered_text e ++ codes ";\n"))
 
   -- s, t: the lines of both sides, of which none is printed where there is nothing to do
   abbrev pub otherwise_text : Bool → List ℕ → List ℕ
@@ -151,8 +138,8 @@ module _ (P : List ℕ) (E : List Bool) (Ss : List Struct) (R : CType) (m : List
   otherwise_text false t = m ++ (codes "} else {\n" ++ t)
 
   abbrev pub sides_text : Term → Bool → List ℕ → Bool → List ℕ → List ℕ
-  sides_text c true s b t = codes "!" ++ (operand_text c (term_text P L c) ++ (codes ") {\n" ++ t))
-  sides_text c false s b t = term_text P L c ++ (codes ") {\n" ++ (s ++ otherwise_text b t))
+  sides_text c true s b t = codes "!" ++ (operand_text c (term_text P Ss L c) ++ (codes ") {\n" ++ t))
+  sides_text c false s b t = term_text P Ss L c ++ (codes ") {\n" ++ (s ++ otherwise_text b t))
 
   abbrev pub branch_text : Term → Bool → List ℕ → Bool → List ℕ → List ℕ
   branch_text c a s b t = m ++ (codes "if (" ++ (sides_text c a s b t ++ (m ++ codes "}\n")))
@@ -178,26 +165,26 @@ inner m = m ++ codes "    "
 abbrev pub counted : List Local → List Local
 counted L = L ++ by_value (T.One (B.Number S.Uint32)) ∷ []
 
-module _ (P : List ℕ) (E : List Bool) (Ss : List Struct) (R : CType) where
+module _ (P : List ℕ) (E : List Bool) (Ss : List Struct) (R : CType) (U : List Bool) where
   abbrev mutual
     pub command_text : List ℕ → List Local → Command → List ℕ
     command_text m L C.Skip = []
     command_text m L (C.Block' shape all) = row_text m L all
-    command_text m L (C.Declare T) = left_out E T (declaration_text P E Ss R m L T)
+    command_text m L (C.Declare T) = left_out E T (declaration_text P E Ss R U m L T)
     command_text m L (C.Define T e) =
-        left_out E T (constant_text P E Ss R m L T (term_text P L e))
-    command_text m L (C.Refer T e) = left_out E T (reference_text P E Ss R m L T e)
+        left_out E T (constant_text P E Ss R U m L T (term_text P Ss L e))
+    command_text m L (C.Refer T e) = left_out E T (reference_text P E Ss R U m L T e)
     command_text m L (C.Assign e v) =
-        left_out E (place_type Ss L e) (assignment_text P E Ss R m L e v)
+        left_out E (place_type Ss L e) (assignment_text P E Ss R U m L e v)
     command_text m L (C.Call T k as1) =
-        constant_text P E Ss R m L T (call_text P E Ss R m L k as1.items)
+        called_text P E Ss R U m L T (call_text P E Ss R U m L k as1.items)
     command_text m L (C.Branch' c p a q b) =
-        branch_text P E Ss R m L c (is_skip a) (command_text (inner m) L a) (is_skip b)
+        branch_text P E Ss R U m L c (is_skip a) (command_text (inner m) L a) (is_skip b)
         (command_text (inner m) L b)
     command_text m L (C.Loop' n c p a) =
-        loop_text P E Ss R m L n (operand_text c (term_text P (counted L) c))
+        loop_text P E Ss R U m L n (operand_text c (term_text P Ss (counted L) c))
         (command_text (inner m) (counted L) a)
-    command_text m L (C.Answer e) = answer_text P E Ss R m L e
+    command_text m L (C.Answer e) = answer_text P E Ss R U m L e
 
     pub row_text : List ℕ → List Local → {n : _} → Row_of-Command n → List ℕ
     row_text m L end_of-Command = []
@@ -208,7 +195,9 @@ module _ (P : List ℕ) (E : List Bool) (Ss : List Struct) (R : CType) where
   lines_text m L [] = []
   lines_text m L (c ∷ cs) = command_text m L c ++ lines_text m (after L c) cs
 
--- what is printed in a context, where these are the locals
-abbrev pub printed : {A : Type 0} → (List ℕ → List Bool → List Struct → CType → List ℕ → List Local → A)
-    → Context → List Local → A
-printed f x L = f x.prefix.now x.empty.now x.structs.now x.result x.margin.now L
+-- what is printed in a context
+abbrev pub printed : {A : Type 0}
+    → (List ℕ → List Bool → List Struct → CType → List Bool → List ℕ → List Local → A)
+    → Context → A
+printed f x =
+    f x.prefix.now x.empty.now x.structs.now x.result x.used.now x.margin.now x.locals.now

@@ -1,7 +1,9 @@
 -- The text of structs, functions and files.
-use Rattle.std.specs.Prelude.{ℕ, zero, suc, Bool, true, false, if◌then◌else◌, List, [], ◌∷◌, ◌++◌, codes, map, get_or}
+use Rattle.std.specs.Prelude.{ℕ, suc, Bool, true, false, if◌then◌else◌, List, [], ◌∷◌, ◌++◌, codes, map, get_or}
+use Rattle.c_text.specs.declared.name.Name.{Name}
 use Rattle.c_text.specs.declared.name.Name.TheVariants as N
 use Rattle.c_text.specs.declared.tree.CType.{CType}
+use Rattle.c_text.specs.declared.tree.Kind.{Kind}
 use Rattle.c_text.specs.declared.tree.Struct.{Struct}
 use Rattle.c_text.specs.declared.tree.Local.{Local}
 use Rattle.c_text.specs.declared.tree.Param.{Param}
@@ -10,6 +12,7 @@ use Rattle.c_text.specs.declared.tree.Function.{Function}
 use Rattle.c_text.specs.declared.tree.File.{File}
 use Rattle.c_text.specs.NameText.{name_text}
 use Rattle.c_text.specs.TypeText.{type_text, declared_text, is_empty, left_out, empties}
+use Rattle.c_text.specs.Used.{is_used, command_used}
 use Rattle.c_text.specs.CommandText.{by_value, by_pointer, separator_text, command_text}
 
 abbrev pub param_type : Param → CType
@@ -30,6 +33,11 @@ param_text P k (Q.Const T) =
     codes "const " ++ (type_text P T ++ (codes " *" ++ name_text P (N.Local k)))
 param_text P k (Q.Pointer T) = type_text P T ++ (codes " *" ++ name_text P (N.Local k))
 
+-- a line for parameter k where it isn't used, so that no compiler warns of it; U: which locals are
+abbrev pub unused_param : List ℕ → List Bool → ℕ → List ℕ
+unused_param P U k =
+    if is_used U k then [] else codes "    (void)" ++ (name_text P (N.Local k) ++ codes ";\n")
+
 -- P: the prefix of names; E: which structs have no member
 module _ (P : List ℕ) (E : List Bool) where
   -- the parameters from number k on; whether none was printed before; `void`, if there is none
@@ -40,58 +48,80 @@ module _ (P : List ℕ) (E : List Bool) where
       if is_empty E (param_type p) then params_text first (suc k) ps
       else separator_text first ++ (param_text P k p ++ params_text false (suc k) ps)
 
-  -- they may stay unused
-  abbrev pub unused_params : ℕ → List Param → List ℕ
-  unused_params k [] = []
-  unused_params k (p ∷ ps) =
-      left_out E (param_type p) (codes "    (void)" ++ (name_text P (N.Local k) ++ codes ";\n"))
-      ++ unused_params (suc k) ps
+  -- a line for each that isn't used
+  abbrev pub unused_params : List Bool → ℕ → List Param → List ℕ
+  unused_params U k [] = []
+  unused_params U k (p ∷ ps) =
+      left_out E (param_type p) (unused_param P U k) ++ unused_params U (suc k) ps
 
-  -- `static T P_fk(`, and the parameters
-  abbrev pub head_text : ℕ → Function → List ℕ
-  head_text k f =
-      codes "\nstatic "
-      ++ (type_text P f.result
+  -- the type of a result; `void`, if it has no member
+  abbrev pub result_text : CType → List ℕ
+  result_text T = if is_empty E T then codes "void" else type_text P T
+
+  -- `T P_fk(`, the parameters, and `)`
+  abbrev pub prototype_text : ℕ → Function → List ℕ
+  prototype_text k f =
+      result_text f.result
       ++ (codes " "
       ++ (name_text P (N.Function k)
-      ++ (codes "(" ++ (params_text true 0 f.params.items ++ codes ")\n")))))
+      ++ (codes "(" ++ (params_text true 0 f.params.items ++ codes ")"))))
+
+  -- what stands before a body
+  abbrev pub head_text : ℕ → Function → List ℕ
+  head_text k f = codes "static " ++ (prototype_text k f ++ codes "\n")
 
   abbrev pub body_text : List Struct → Function → List ℕ
   body_text Ss f =
       codes "{\n"
-      ++ (unused_params 0 f.params.items
-      ++ (command_text P E Ss f.result (codes "    ") (map local_of f.params.items) f.body ++ codes "}\n"))
+      ++ (unused_params (command_used [] f.body) 0 f.params.items
+      ++ (command_text P E Ss f.result (command_used [] f.body) (codes "    ")
+      (map local_of f.params.items) f.body
+      ++ codes "}\n"))
 
   abbrev pub function_text : List Struct → ℕ → Function → List ℕ
   function_text Ss k f = head_text k f ++ body_text Ss f
 
-  -- functions, from number k on
+  -- functions, from number k on, each behind an empty line
   abbrev pub functions_text : List Struct → ℕ → List Function → List ℕ
   functions_text Ss k [] = []
-  functions_text Ss k (f ∷ fs) = function_text Ss k f ++ functions_text Ss (suc k) fs
+  functions_text Ss k (f ∷ fs) =
+      (codes "\n" ++ function_text Ss k f) ++ functions_text Ss (suc k) fs
 
-  -- the members of a struct, from number k on
-  abbrev pub members_text : ℕ → List CType → List ℕ
-  members_text k [] = []
-  members_text k (T ∷ Ts) =
-      left_out E T (codes "    " ++ (declared_text P T (N.Member k) ++ codes ";\n"))
-      ++ members_text (suc k) Ts
+  -- the members of a struct of a kind, from number k on
+  abbrev pub members_text : Kind → ℕ → List CType → List ℕ
+  members_text K k [] = []
+  members_text K k (T ∷ Ts) =
+      left_out E T (codes "    " ++ (declared_text P T (N.Member K k) ++ codes ";\n"))
+      ++ members_text K (suc k) Ts
 
   abbrev pub struct_text : ℕ → Struct → List ℕ
   struct_text k s =
-      codes "\nstruct "
+      codes "struct "
       ++ (name_text P (N.Struct k)
-      ++ (codes " {\n" ++ (members_text 0 s.members.items ++ codes "};\n")))
+      ++ (codes " {\n" ++ (members_text s.kind 0 s.members.items ++ codes "};\n")))
 
-  -- structs, from number k on, but for those without members
+  -- structs, from number k on, each behind an empty line, but for those without members
   abbrev pub structs_text : ℕ → List Struct → List ℕ
   structs_text k [] = []
   structs_text k (s ∷ ss) =
-      (if get_or E k false then [] else struct_text k s) ++ structs_text (suc k) ss
+      (if get_or E k false then [] else codes "\n" ++ struct_text k s) ++ structs_text (suc k) ss
 
--- a file: what it includes, its structs and its functions
+-- a macro of T
+abbrev pub macro_text : List ℕ → Name → List ℕ → List ℕ
+macro_text P x s = codes "#define " ++ (name_text P x ++ (codes "(T) " ++ s))
+
+-- the macros: C++ has no compound literals
+abbrev pub macros_text : List ℕ → List ℕ
+macros_text P =
+    codes "#ifdef __cplusplus\n"
+    ++ (macro_text P N.Of (codes "T\n")
+    ++ (macro_text P N.Zeros (codes "T()\n#else\n")
+    ++ (macro_text P N.Of (codes "(struct T)\n") ++ macro_text P N.Zeros (codes "(struct T){0}\n#endif\n"))))
+
+-- a file: what it includes, its macros, its structs and its functions
 abbrev pub file_text : List ℕ → File → List ℕ
 file_text P f =
-    codes "#include <stdbool.h>\n#include <stdint.h>\n"
+    codes "#include <stdbool.h>\n#include <stdint.h>\n\n"
+    ++ (macros_text P
     ++ (structs_text P (empties f.structs.items) 0 f.structs.items
-    ++ functions_text P (empties f.structs.items) f.structs.items 0 f.functions.items)
+    ++ functions_text P (empties f.structs.items) f.structs.items 0 f.functions.items))

@@ -1,5 +1,5 @@
 -- What trees mean: those of `c_meaning`, with each struct in the place of its number.
-use Rattle.std.specs.Prelude.{ℕ, List, [], ◌∷◌, ◌++◌, map, get_or, pos, Option, Some, None}
+use Rattle.std.specs.Prelude.{List, [], ◌∷◌, ◌++◌, map, get_or, pos, Option, Some, None}
 use Rattle.c_text.specs.declared.tree.Scalar.TheVariants as DS
 use Rattle.c_text.specs.declared.tree.Scalar as D
 use Rattle.c_text.specs.declared.tree.Operator.TheVariants as DO
@@ -57,6 +57,7 @@ base_meant Ts (B.Struct k) = get_or Ts k no_member
 abbrev pub type_meant : List CType → Y.CType → CType
 type_meant Ts (T.One b) = base_meant Ts b
 type_meant Ts (T.Array n b) = array n (base_meant Ts b)
+type_meant Ts (T.Grid m n b) = array m (array n (base_meant Ts b))
 
 abbrev pub members_meant : List CType → List Y.CType → CType
 members_meant Ts [] = no_member

@@ -5,11 +5,13 @@ use Rattle.c_text.specs.declared.name.Name.TheVariants as N
 use Rattle.c_text.specs.declared.tree.CType.{CType}
 use Rattle.c_text.specs.declared.tree.Operator.{Operator}
 use Rattle.c_text.specs.declared.tree.Operator.TheVariants as O
+use Rattle.c_text.specs.declared.tree.Struct.{Struct}
 use Rattle.c_text.specs.declared.tree.Local.{Local}
 use Rattle.c_text.specs.declared.tree.Term.{Term, Row_of-Term, end_of-Term, more_of-Term}
 use Rattle.c_text.specs.declared.tree.Term as E
 use Rattle.c_text.specs.NameText.{name_text}
-use Rattle.c_text.specs.TypeText.{type_text, scalar_text, literal_text, zeroed_text}
+use Rattle.c_text.specs.PlaceType.{kind_of, place_type}
+use Rattle.c_text.specs.TypeText.{base_of, of_base, scalar_text, literal_text, zeroed_text}
 
 abbrev pub operator_text : Operator → List ℕ
 operator_text O.Plus = codes " + "
@@ -35,8 +37,24 @@ operand_text e s = if has_operator e then codes "(" ++ (s ++ codes ")") else s
 
 -- an expression, whose text is s, as what is assigned or returned, of type T: braces say their type
 abbrev pub valued_text : List ℕ → CType → Term → List ℕ → List ℕ
-valued_text P T (E.Braced' shape all tail) s = codes "(" ++ (type_text P T ++ (codes ")" ++ s))
+valued_text P T (E.Braced' shape all tail) s = of_base P (base_of T) ++ s
 valued_text P T e s = s
+
+-- braces, whose elements are s, with zeros behind; none alone, since C99 has no empty braces
+abbrev pub braces_text : List ℕ → Bool → Option CType → List ℕ → List ℕ
+braces_text P true (Some T) s = zeroed_text P T
+braces_text P true None s = codes "{" ++ (s ++ codes "}")
+braces_text P false tail s = codes "{" ++ (s ++ codes "}")
+
+-- whether there are no elements
+abbrev pub is_end : {m : _} → Row_of-Term m → Bool
+is_end end_of-Term = true
+is_end (more_of-Term t ts) = false
+
+-- the same of a list
+abbrev pub has_none : List Term → Bool
+has_none [] = true
+has_none (t ∷ ts) = false
 
 -- before an element of braces
 abbrev pub comma_text : ℕ → List ℕ
@@ -47,8 +65,8 @@ comma_text (suc i) = codes ", "
 abbrev pub is_pointer : List Local → ℕ → Bool
 is_pointer L k = elim (slice_get L k) [ None ↦ false | Some l ↦ l.pointer ]
 
--- P: the prefix of names; L: the locals
-module _ (P : List ℕ) (L : List Local) where
+-- P: the prefix of names; Ss: the structs; L: the locals
+module _ (P : List ℕ) (Ss : List Struct) (L : List Local) where
   -- what a pointer leads to is what the tree calls a local
   abbrev pub local_text : ℕ → List ℕ
   local_text k =
@@ -66,12 +84,12 @@ module _ (P : List ℕ) (L : List Local) where
   abbrev mutual
     pub term_text : Term → List ℕ
     term_text (E.Local k) = local_text k
-    term_text (E.Dot' p e k) = owner_text e (term_text e) ++ name_text P (N.Member k)
+    term_text (E.Dot' p e k) = owner_text e (term_text e) ++ name_text P (N.Member (kind_of Ss (place_type Ss L e)) k)
     term_text (E.At' p e q i) =
         operand_text e (term_text e) ++ (codes "[" ++ (term_text i ++ codes "]"))
     term_text (E.Literal l) = literal_text l
     term_text (E.Zeroed T) = zeroed_text P T
-    term_text (E.Braced' shape all tail) = codes "{" ++ (row_text 0 all ++ codes "}")
+    term_text (E.Braced' shape all tail) = braces_text P (is_end all) tail (row_text 0 all)
     term_text (E.Binary' o S p a q b) =
         operand_text a (term_text a) ++ (operator_text o ++ operand_text b (term_text b))
     term_text (E.Inverse' p a) = codes "!" ++ operand_text a (term_text a)

@@ -26,10 +26,11 @@ base_text P B.Bool = codes "bool"
 base_text P (B.Number S) = scalar_text S
 base_text P (B.Struct k) = codes "struct " ++ name_text P (N.Struct k)
 
--- of an array, that of its elements
+-- of arrays, that of their elements
 abbrev pub base_of : CType → Base
 base_of (T.One b) = b
 base_of (T.Array n b) = b
+base_of (T.Grid m n b) = b
 
 abbrev pub type_text : List ℕ → CType → List ℕ
 type_text P T = base_text P (base_of T)
@@ -38,8 +39,9 @@ type_text P T = base_text P (base_of T)
 abbrev pub count_text : CType → List ℕ
 count_text (T.One b) = []
 count_text (T.Array n b) = codes "[" ++ (decimal n ++ codes "]")
+count_text (T.Grid m n b) = codes "[" ++ (decimal m ++ (codes "][" ++ (decimal n ++ codes "]")))
 
--- `T name`, `T name[n]`
+-- `T name`, `T name[n]`, `T name[m][n]`
 abbrev pub declared_text : List ℕ → CType → Name → List ℕ
 declared_text P T x = type_text P T ++ (codes " " ++ (name_text P x ++ count_text T))
 
@@ -67,16 +69,23 @@ zero_text S.Int64 = codes "INT64_C(0)"
 zero_text S.Uint64 = codes "UINT64_C(0)"
 zero_text S.Uint32 = codes "UINT32_C(0)"
 
--- `{0}` of a type, as an expression
+-- before braces that are no initialiser: their type, of a struct by a macro
+abbrev pub of_base : List ℕ → Base → List ℕ
+of_base P B.Bool = codes "(bool)"
+of_base P (B.Number S) = codes "(" ++ (scalar_text S ++ codes ")")
+of_base P (B.Struct k) = name_text P N.Of ++ (codes "(" ++ (name_text P (N.Struct k) ++ codes ")"))
+
+-- `{0}` of a type, as an expression, of a struct by a macro
 abbrev pub zeroed_base : List ℕ → Base → List ℕ
 zeroed_base P B.Bool = codes "false"
 zeroed_base P (B.Number S) = zero_text S
-zeroed_base P (B.Struct k) = codes "(struct " ++ (name_text P (N.Struct k) ++ codes "){0}")
+zeroed_base P (B.Struct k) = name_text P N.Zeros ++ (codes "(" ++ (name_text P (N.Struct k) ++ codes ")"))
 
--- of an array, which C takes as an initialiser alone: the first, and behind it zeros
+-- of arrays, which C takes as an initialiser alone: the first, and behind it zeros
 abbrev pub zeroed_text : List ℕ → CType → List ℕ
 zeroed_text P (T.One b) = zeroed_base P b
 zeroed_text P (T.Array n b) = codes "{" ++ (zeroed_base P b ++ codes "}")
+zeroed_text P (T.Grid m n b) = codes "{{" ++ (zeroed_base P b ++ codes "}}")
 
 -- whether a struct has no member at all, not even in its members: C has no such struct, and all that is
 -- of such a type is left out. E: which structs have none

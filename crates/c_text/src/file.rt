@@ -1,23 +1,25 @@
-// Prints structs, functions and files.
+// Prints structs, functions and files: whole files, or part by part, so that a caller puts a comment
+// between.
 
 ghost use Rattle.std.specs.Prelude.{◌≡◌, ◌++◌, true, map, IfOk, string_bytes};
 ghost use Rattle.c_text.specs.TypeText.{left_out};
-ghost use Rattle.c_text.specs.FileText.{body_text, file_text, function_text, functions_text, head_text, local_of, members_text, param_text, param_type, params_text, struct_text, structs_text, unused_params};
+ghost use Rattle.c_text.specs.FileText.{body_text, file_text, function_text, functions_text, head_text, local_of, macro_text, macros_text, members_text, param_text, param_type, params_text, prototype_text, result_text, struct_text, structs_text, unused_param, unused_params};
 
-use crate::command::{Context, push_command, push_separator};
+use crate::command::{Context, push_separator};
 use crate::name::{Name, push_name};
-use crate::tree::{Base, CType, File, Function, Local, Param, Struct};
+use crate::tree::{Base, CType, File, Function, Kind, Local, Param, Struct};
 use crate::types::{empties, is_empty, push_declared, push_type};
+use crate::used::{is_used, used_in};
 use std::alloc::{AllocError, Global};
 
 /// What a function or a struct stands under: the prefix of names, the structs, and which of them have no
-/// member.
+/// member: those that `empties` finds.
 #[derive(Clone, Copy)]
-struct Naming<'a> {
-    alloc: Global,
-    prefix: &'a str,
-    structs: &'a [Struct],
-    empty: &'a [bool],
+pub struct Naming<'a> {
+    pub alloc: Global,
+    pub prefix: &'a str,
+    pub structs: &'a [Struct],
+    pub empty: &'a [bool],
 }
 
 /// A file as C, whose names begin with this prefix. An error only if allocation fails.
@@ -32,28 +34,55 @@ pub fn print_file(alloc: Global, prefix: &str, file: &File) -> Result<String, Al
         structs: file.structs.as_slice(),
         empty: empty.as_slice(),
     };
-    text.push_str("#include <stdbool.h>\n#include <stdint.h>\n")?;
+    text.push_str("#include <stdbool.h>\n#include <stdint.h>\n\n")?;
+    push_macros(&mut text, prefix)?;
     push_structs(&mut text, naming)?;
     push_functions(&mut text, naming, file.functions.as_slice())?;
     Ok(text)
 }
 
+/// Adds the macros that stand before functions, by which the text is C99 and C++11.
+pub fn push_macros(text: &mut String, prefix: &str) -> Result<(), AllocError>
+    ensures { IfOk result (λ _. string_bytes text.new
+        ≡ string_bytes text.old ++ macros_text prefix.now) }
+{
+    text.push_str("#ifdef __cplusplus\n")?;
+    push_macro(text, prefix, Name::Of, "T\n")?;
+    push_macro(text, prefix, Name::Zeros, "T()\n#else\n")?;
+    push_macro(text, prefix, Name::Of, "(struct T)\n")?;
+    push_macro(text, prefix, Name::Zeros, "(struct T){0}\n#endif\n")?;
+    Ok(())
+}
+
+/// Adds a macro of T, and what stands behind it.
+fn push_macro(text: &mut String, prefix: &str, name: Name, rest: &str) -> Result<(), AllocError>
+    ensures { IfOk result (λ _. string_bytes text.new
+        ≡ string_bytes text.old ++ macro_text prefix.now name rest.now) }
+{
+    text.push_str("#define ")?;
+    push_name(text, prefix, name)?;
+    text.push_str("(T) ")?;
+    text.push_str(rest)?;
+    Ok(())
+}
+
 /// Adds the structs, but for those without members.
-fn push_structs(text: &mut String, naming: Naming<'_>) -> Result<(), AllocError>
+pub fn push_structs(text: &mut String, naming: Naming<'_>) -> Result<(), AllocError>
     ensures { IfOk result (λ _. string_bytes text.new ≡ string_bytes text.old
         ++ structs_text naming.entry.prefix.now naming.entry.empty.now 0 naming.entry.structs.now) }
 {
     let structs = naming.structs;
     for (k, each) in structs.iter().enumerate() {
         if !is_empty(naming.empty, CType::One(Base::Struct(k))) {
+            text.push_str("\n")?;
             push_struct(text, naming, k, each)?;
         }
     }
     Ok(())
 }
 
-/// Adds a struct.
-fn push_struct(
+/// Adds struct k, which has members.
+pub fn push_struct(
     text: &mut String,
     naming: Naming<'_>,
     k: usize,
@@ -62,23 +91,28 @@ fn push_struct(
     ensures { IfOk result (λ _. string_bytes text.new ≡ string_bytes text.old
         ++ struct_text naming.entry.prefix.now naming.entry.empty.now k each.now) }
 {
-    text.push_str("\nstruct ")?;
+    text.push_str("struct ")?;
     push_name(text, naming.prefix, Name::Struct(k))?;
     text.push_str(" {\n")?;
-    push_members(text, naming, each.members.as_slice())?;
+    push_members(text, naming, each.kind, each.members.as_slice())?;
     text.push_str("};\n")?;
     Ok(())
 }
 
-/// Adds the members of a struct.
-fn push_members(text: &mut String, naming: Naming<'_>, members: &[CType]) -> Result<(), AllocError>
+/// Adds the members of a struct of a kind.
+fn push_members(
+    text: &mut String,
+    naming: Naming<'_>,
+    kind: Kind,
+    members: &[CType],
+) -> Result<(), AllocError>
     ensures { IfOk result (λ _. string_bytes text.new ≡ string_bytes text.old
-        ++ members_text naming.entry.prefix.now naming.entry.empty.now 0 members.now) }
+        ++ members_text naming.entry.prefix.now naming.entry.empty.now kind 0 members.now) }
 {
     for (k, ty) in members.iter().enumerate() {
         if !is_empty(naming.empty, *ty) {
             text.push_str("    ")?;
-            push_declared(text, naming.prefix, *ty, Name::Member(k))?;
+            push_declared(text, naming.prefix, *ty, Name::Member(kind, k))?;
             text.push_str(";\n")?;
         }
     }
@@ -96,13 +130,14 @@ fn push_functions(
         0 functions.now) }
 {
     for (k, function) in functions.iter().enumerate() {
+        text.push_str("\n")?;
         push_function(text, naming, k, function)?;
     }
     Ok(())
 }
 
-/// Adds a function.
-fn push_function(
+/// Adds function k.
+pub fn push_function(
     text: &mut String,
     naming: Naming<'_>,
     k: usize,
@@ -116,6 +151,19 @@ fn push_function(
     push_body(text, naming, function)
 }
 
+/// Adds the type of a result.
+fn push_result(text: &mut String, naming: Naming<'_>, ty: CType) -> Result<(), AllocError>
+    ensures { IfOk result (λ _. string_bytes text.new ≡ string_bytes text.old
+        ++ result_text naming.entry.prefix.now naming.entry.empty.now ty) }
+{
+    if is_empty(naming.empty, ty) {
+        text.push_str("void")?;
+    } else {
+        push_type(text, naming.prefix, ty)?;
+    }
+    Ok(())
+}
+
 /// Adds what stands before a function's body.
 fn push_head(
     text: &mut String,
@@ -126,13 +174,28 @@ fn push_head(
     ensures { IfOk result (λ _. string_bytes text.new ≡ string_bytes text.old
         ++ head_text naming.entry.prefix.now naming.entry.empty.now k function.now) }
 {
-    text.push_str("\nstatic ")?;
-    push_type(text, naming.prefix, function.result)?;
+    text.push_str("static ")?;
+    push_prototype(text, naming, k, function)?;
+    text.push_str("\n")?;
+    Ok(())
+}
+
+/// Adds what function k is called by: its result's type, its name and its parameters.
+pub fn push_prototype(
+    text: &mut String,
+    naming: Naming<'_>,
+    k: usize,
+    function: &Function,
+) -> Result<(), AllocError>
+    ensures { IfOk result (λ _. string_bytes text.new ≡ string_bytes text.old
+        ++ prototype_text naming.entry.prefix.now naming.entry.empty.now k function.now) }
+{
+    push_result(text, naming, function.result)?;
     text.push_str(" ")?;
     push_name(text, naming.prefix, Name::Function(k))?;
     text.push_str("(")?;
     push_params(text, naming, function.params.as_slice())?;
-    text.push_str(")\n")?;
+    text.push_str(")")?;
     Ok(())
 }
 
@@ -196,21 +259,38 @@ fn push_params(text: &mut String, naming: Naming<'_>, params: &[Param]) -> Resul
     Ok(())
 }
 
-/// Adds a line for each parameter, which may stay unused.
+/// Adds a line for each parameter that isn't used.
 fn push_unused_params(
     text: &mut String,
     naming: Naming<'_>,
+    used: &[bool],
     params: &[Param],
 ) -> Result<(), AllocError>
     ensures { IfOk result (λ _. string_bytes text.new ≡ string_bytes text.old
-        ++ unused_params naming.entry.prefix.now naming.entry.empty.now 0 params.now) }
+        ++ unused_params naming.entry.prefix.now naming.entry.empty.now used.now 0 params.now) }
 {
     for (k, param) in params.iter().enumerate() {
         if !is_empty(naming.empty, param_type(*param)) {
-            text.push_str("    (void)")?;
-            push_name(text, naming.prefix, Name::Local(k))?;
-            text.push_str(";\n")?;
+            push_unused_param(text, naming.prefix, used, k)?;
         }
+    }
+    Ok(())
+}
+
+/// Adds a line for parameter k, if it isn't used.
+fn push_unused_param(
+    text: &mut String,
+    prefix: &str,
+    used: &[bool],
+    k: usize,
+) -> Result<(), AllocError>
+    ensures { IfOk result (λ _. string_bytes text.new
+        ≡ string_bytes text.old ++ unused_param prefix.now used.now k) }
+{
+    if !is_used(used, k) {
+        text.push_str("    (void)")?;
+        push_name(text, prefix, Name::Local(k))?;
+        text.push_str(";\n")?;
     }
     Ok(())
 }
@@ -233,17 +313,20 @@ fn push_body(text: &mut String, naming: Naming<'_>, function: &Function) -> Resu
         function.now) }
 {
     let locals = locals_of(naming.alloc, function.params.as_slice())?;
+    let used = used_in(naming.alloc, &function.body)?;
     let context = Context {
         alloc: naming.alloc,
         prefix: naming.prefix,
         structs: naming.structs,
         empty: naming.empty,
         result: function.result,
+        used: used.as_slice(),
         margin: "    ",
+        locals: locals.as_slice(),
     };
     text.push_str("{\n")?;
-    push_unused_params(text, naming, function.params.as_slice())?;
-    push_command(text, context, locals.as_slice(), &function.body)?;
+    push_unused_params(text, naming, used.as_slice(), function.params.as_slice())?;
+    context.push_command(text, &function.body)?;
     text.push_str("}\n")?;
     Ok(())
 }

@@ -1,17 +1,19 @@
 // Prints expressions.
 
 ghost use Rattle.std.specs.Prelude.{◌≡◌, ◌++◌, codes, IfOk, string_bytes};
-ghost use Rattle.c_text.specs.TermText.{address_text, comma_text, elements_text, has_operator, is_pointer, local_text, operand_text, operator_text, owner_text, pointed_text, term_text, valued_text};
+ghost use Rattle.c_text.specs.TermText.{address_text, braces_text, comma_text, elements_text, has_none, has_operator, is_pointer, local_text, operand_text, operator_text, owner_text, pointed_text, term_text, valued_text};
 
 use crate::name::{Name, push_name};
-use crate::tree::{CType, Local, Operator, Term};
-use crate::types::{push_literal, push_type, push_zeroed, scalar_word};
+use crate::place::{kind_of, place_type};
+use crate::tree::{CType, Local, Operator, Struct, Term};
+use crate::types::{base_of, push_literal, push_of, push_zeroed, scalar_word};
 use std::alloc::AllocError;
 
-/// What an expression stands under: the prefix of names, and the locals.
+/// What an expression stands under: the prefix of names, the structs, and the locals.
 #[derive(Clone, Copy)]
 pub struct Scope<'a> {
     pub prefix: &'a str,
+    pub structs: &'a [Struct],
     pub locals: &'a [Local],
 }
 
@@ -63,7 +65,8 @@ fn is_pointer(locals: &[Local], k: usize) -> bool
 /// Adds a local, of a pointer what it leads to.
 fn push_local(text: &mut String, scope: Scope<'_>, k: usize) -> Result<(), AllocError>
     ensures { IfOk result (λ _. string_bytes text.new
-        ≡ string_bytes text.old ++ local_text scope.entry.prefix.now scope.entry.locals.now k) }
+        ≡ string_bytes text.old
+        ++ local_text scope.entry.prefix.now scope.entry.structs.now scope.entry.locals.now k) }
 {
     if is_pointer(scope.locals, k) {
         text.push_str("(*")?;
@@ -78,7 +81,8 @@ fn push_local(text: &mut String, scope: Scope<'_>, k: usize) -> Result<(), Alloc
 /// Adds a local before the name of its member.
 fn push_pointed(text: &mut String, scope: Scope<'_>, k: usize) -> Result<(), AllocError>
     ensures { IfOk result (λ _. string_bytes text.new
-        ≡ string_bytes text.old ++ pointed_text scope.entry.prefix.now scope.entry.locals.now k) }
+        ≡ string_bytes text.old
+        ++ pointed_text scope.entry.prefix.now scope.entry.structs.now scope.entry.locals.now k) }
 {
     push_name(text, scope.prefix, Name::Local(k))?;
     if is_pointer(scope.locals, k) {
@@ -93,13 +97,15 @@ fn push_pointed(text: &mut String, scope: Scope<'_>, k: usize) -> Result<(), All
 #[cycle(push_term)]
 pub fn push_term(text: &mut String, scope: Scope<'_>, term: &Term) -> Result<(), AllocError>
     ensures { IfOk result (λ _. string_bytes text.new
-        ≡ string_bytes text.old ++ term_text scope.entry.prefix.now scope.entry.locals.now term.now) }
+        ≡ string_bytes text.old
+        ++ term_text scope.entry.prefix.now scope.entry.structs.now scope.entry.locals.now term.now) }
 {
     match term {
         Term::Local(k) => push_local(text, scope, *k)?,
         Term::Dot(e, k) => {
+            let kind = kind_of(scope.structs, place_type(scope.structs, scope.locals, e));
             push_owner(text, scope, e)?;
-            push_name(text, scope.prefix, Name::Member(*k))?;
+            push_name(text, scope.prefix, Name::Member(kind, *k))?;
         }
         Term::At(e, i) => {
             push_operand(text, scope, e)?;
@@ -109,7 +115,7 @@ pub fn push_term(text: &mut String, scope: Scope<'_>, term: &Term) -> Result<(),
         }
         Term::Literal(literal) => push_literal(text, *literal)?,
         Term::Zeroed(ty) => push_zeroed(text, scope.prefix, *ty)?,
-        Term::Braced(all, _) => push_braced(text, scope, all.as_slice())?,
+        Term::Braced(all, tail) => push_braced(text, scope, all.as_slice(), *tail)?,
         Term::Binary(operator, _, a, b) => {
             push_operand(text, scope, a)?;
             text.push_str(operator_word(*operator))?;
@@ -153,7 +159,9 @@ pub(crate) fn push_operand(
     term: &Term,
 ) -> Result<(), AllocError>
     ensures { IfOk result (λ _. string_bytes text.new ≡ string_bytes text.old
-        ++ operand_text term.now (term_text scope.entry.prefix.now scope.entry.locals.now term.now)) }
+        ++ operand_text term.now
+        (term_text scope.entry.prefix.now scope.entry.structs.now
+        scope.entry.locals.now term.now)) }
 {
     if has_operator(term) {
         text.push_str("(")?;
@@ -169,8 +177,9 @@ pub(crate) fn push_operand(
 #[cycle(push_term)]
 fn push_owner(text: &mut String, scope: Scope<'_>, term: &Term) -> Result<(), AllocError>
     ensures { IfOk result (λ _. string_bytes text.new ≡ string_bytes text.old
-        ++ owner_text scope.entry.prefix.now scope.entry.locals.now term.now
-        (term_text scope.entry.prefix.now scope.entry.locals.now term.now)) }
+        ++ owner_text scope.entry.prefix.now scope.entry.structs.now scope.entry.locals.now term.now
+        (term_text scope.entry.prefix.now scope.entry.structs.now
+        scope.entry.locals.now term.now)) }
 {
     match term {
         Term::Local(k) => push_pointed(text, scope, *k)?,
@@ -182,13 +191,34 @@ fn push_owner(text: &mut String, scope: Scope<'_>, term: &Term) -> Result<(), Al
     Ok(())
 }
 
-/// Adds elements in braces.
-#[cycle(push_term)]
-fn push_braced(text: &mut String, scope: Scope<'_>, all: &[Term]) -> Result<(), AllocError>
-    ensures { IfOk result (λ _. string_bytes text.new ≡ string_bytes text.old
-        ++ (codes "{"
-        ++ (elements_text scope.entry.prefix.now scope.entry.locals.now 0 all.now ++ codes "}"))) }
+/// Whether there are no elements.
+fn has_none(all: &[Term]) -> bool
+    ensures { result ≡ has_none all.now }
 {
+    match all.first() {
+        Some(_) => false,
+        None => true,
+    }
+}
+
+/// Adds elements in braces, behind which are zeros of a type, or nothing.
+#[cycle(push_term)]
+fn push_braced(
+    text: &mut String,
+    scope: Scope<'_>,
+    all: &[Term],
+    tail: Option<CType>,
+) -> Result<(), AllocError>
+    ensures { IfOk result (λ _. string_bytes text.new ≡ string_bytes text.old
+        ++ braces_text scope.entry.prefix.now (has_none all.now) tail
+        (elements_text scope.entry.prefix.now scope.entry.structs.now
+        scope.entry.locals.now 0 all.now)) }
+{
+    if has_none(all) {
+        if let Some(ty) = tail {
+            return push_zeroed(text, scope.prefix, ty);
+        }
+    }
     text.push_str("{")?;
     push_elements(text, scope, all)?;
     text.push_str("}")?;
@@ -199,7 +229,8 @@ fn push_braced(text: &mut String, scope: Scope<'_>, all: &[Term]) -> Result<(), 
 #[cycle(push_term)]
 fn push_elements(text: &mut String, scope: Scope<'_>, all: &[Term]) -> Result<(), AllocError>
     ensures { IfOk result (λ _. string_bytes text.new ≡ string_bytes text.old
-        ++ elements_text scope.entry.prefix.now scope.entry.locals.now 0 all.now) }
+        ++ elements_text scope.entry.prefix.now scope.entry.structs.now
+        scope.entry.locals.now 0 all.now) }
 {
     for (i, term) in all.iter().enumerate() {
         push_comma(text, i)?;
@@ -227,13 +258,12 @@ pub fn push_valued(
 ) -> Result<(), AllocError>
     ensures { IfOk result (λ _. string_bytes text.new ≡ string_bytes text.old
         ++ valued_text scope.entry.prefix.now ty term.now
-        (term_text scope.entry.prefix.now scope.entry.locals.now term.now)) }
+        (term_text scope.entry.prefix.now scope.entry.structs.now
+        scope.entry.locals.now term.now)) }
 {
     match term {
         Term::Braced(..) => {
-            text.push_str("(")?;
-            push_type(text, scope.prefix, ty)?;
-            text.push_str(")")?;
+            push_of(text, scope.prefix, base_of(ty))?;
             push_term(text, scope, term)?;
         }
         _ => push_term(text, scope, term)?,
@@ -244,7 +274,8 @@ pub fn push_valued(
 /// Adds an expression's address.
 pub fn push_address(text: &mut String, scope: Scope<'_>, term: &Term) -> Result<(), AllocError>
     ensures { IfOk result (λ _. string_bytes text.new ≡ string_bytes text.old
-        ++ address_text scope.entry.prefix.now scope.entry.locals.now term.now) }
+        ++ address_text scope.entry.prefix.now scope.entry.structs.now
+        scope.entry.locals.now term.now) }
 {
     match term {
         Term::Local(k) => {

@@ -1,7 +1,7 @@
 // C as trees.
 
 /// The types of numbers.
-#[derive(Clone, Copy)]
+#[derive(Clone, Copy, PartialEq, Eq, Hash)]
 pub enum Scalar {
     /// `uint8_t`.
     Uint8,
@@ -14,7 +14,7 @@ pub enum Scalar {
 }
 
 /// A type that is no array.
-#[derive(Clone, Copy)]
+#[derive(Clone, Copy, PartialEq, Eq, Hash)]
 pub enum Base {
     /// `bool`.
     Bool,
@@ -25,17 +25,33 @@ pub enum Base {
 }
 
 /// A type of objects.
-#[derive(Clone, Copy)]
+#[derive(Clone, Copy, PartialEq, Eq, Hash)]
 pub enum CType {
     /// One object.
     One(Base),
     /// So many.
     Array(usize, Base),
+    /// So many arrays, each of so many.
+    Grid(usize, usize, Base),
 }
 
-/// A struct: the types of its members.
+/// What a struct is for, by which its members are called.
+#[derive(Clone, Copy, PartialEq, Eq, Hash)]
+pub enum Kind {
+    /// Pairs.
+    Pair,
+    /// Events.
+    Event,
+    /// Lists.
+    List,
+    /// What functions keep, and all else.
+    Kept,
+}
+
+/// A struct: its kind, and the types of its members.
 #[derive(Drop)]
 pub struct Struct {
+    pub kind: Kind,
     pub members: Vec<CType>,
 }
 

@@ -1,7 +1,9 @@
 // Prints types and literals.
 
-ghost use Rattle.std.specs.Prelude.{◌≡◌, ◌++◌, [], IfOk, string_bytes};
-ghost use Rattle.c_text.specs.TypeText.{all_empty, base_of, base_text, count_text, declared_text, empties, is_empty, literal_text, scalar_text, signed_text, truth_text, type_text, zero_text, zeroed_base, zeroed_text};
+ghost use Rattle.std.specs.Prelude.{◌≡◌, ◌++◌, [], codes, IfOk, string_bytes};
+ghost use Rattle.c_text.specs.declared.name.Name.TheVariants as N;
+ghost use Rattle.c_text.specs.NameText.{name_text};
+ghost use Rattle.c_text.specs.TypeText.{all_empty, base_of, base_text, count_text, declared_text, empties, is_empty, literal_text, of_base, scalar_text, signed_text, truth_text, type_text, zero_text, zeroed_base, zeroed_text};
 
 use crate::name::{Name, push_name};
 use crate::tree::{Base, CType, Literal, Scalar, Struct};
@@ -38,13 +40,13 @@ fn truth_word(truth: bool) -> &'static str
     if truth { "true" } else { "false" }
 }
 
-/// Of an array, the type of its elements.
-fn base_of(ty: CType) -> Base
+/// Of arrays, the type of their elements.
+pub(crate) fn base_of(ty: CType) -> Base
     ensures { result ≡ base_of ty }
 {
     match ty {
         CType::One(base) => base,
-        CType::Array(_, base) => base,
+        CType::Array(_, base) | CType::Grid(_, _, base) => base,
     }
 }
 
@@ -64,8 +66,8 @@ fn push_base(text: &mut String, prefix: &str, base: Base) -> Result<(), AllocErr
     Ok(())
 }
 
-/// Adds a type, of an array that of its elements.
-pub(crate) fn push_type(text: &mut String, prefix: &str, ty: CType) -> Result<(), AllocError>
+/// Adds a type, of arrays that of their elements.
+pub fn push_type(text: &mut String, prefix: &str, ty: CType) -> Result<(), AllocError>
     ensures { IfOk result (λ _. string_bytes text.new
         ≡ string_bytes text.old ++ type_text prefix.now ty) }
 {
@@ -79,6 +81,7 @@ fn push_count(text: &mut String, ty: CType) -> Result<(), AllocError>
     match ty {
         CType::One(_) => {}
         CType::Array(n, _) => write!(text, "[{n}]")?,
+        CType::Grid(m, n, _) => write!(text, "[{m}][{n}]")?,
     }
     Ok(())
 }
@@ -126,6 +129,35 @@ pub(crate) fn push_literal(text: &mut String, literal: Literal) -> Result<(), Al
     Ok(())
 }
 
+/// Adds what stands before braces that are no initialiser: their type.
+pub(crate) fn push_of(text: &mut String, prefix: &str, base: Base) -> Result<(), AllocError>
+    ensures { IfOk result (λ _. string_bytes text.new
+        ≡ string_bytes text.old ++ of_base prefix.now base) }
+{
+    match base {
+        Base::Bool => text.push_str("(bool)")?,
+        Base::Number(scalar) => {
+            let word = scalar_word(scalar);
+            write!(text, "({word})")?;
+        }
+        Base::Struct(k) => push_macro(text, prefix, Name::Of, k)?,
+    }
+    Ok(())
+}
+
+/// Adds a macro of struct k.
+fn push_macro(text: &mut String, prefix: &str, name: Name, k: usize) -> Result<(), AllocError>
+    ensures { IfOk result (λ _. string_bytes text.new ≡ string_bytes text.old
+        ++ (name_text prefix.now name
+        ++ (codes "(" ++ (name_text prefix.now (N.Struct k) ++ codes ")")))) }
+{
+    push_name(text, prefix, name)?;
+    text.push_str("(")?;
+    push_name(text, prefix, Name::Struct(k))?;
+    text.push_str(")")?;
+    Ok(())
+}
+
 /// Adds the zeros of a type that is no array.
 fn push_zeroed_base(text: &mut String, prefix: &str, base: Base) -> Result<(), AllocError>
     ensures { IfOk result (λ _. string_bytes text.new
@@ -134,11 +166,7 @@ fn push_zeroed_base(text: &mut String, prefix: &str, base: Base) -> Result<(), A
     match base {
         Base::Bool => text.push_str("false")?,
         Base::Number(scalar) => text.push_str(zero_word(scalar))?,
-        Base::Struct(k) => {
-            text.push_str("(struct ")?;
-            push_name(text, prefix, Name::Struct(k))?;
-            text.push_str("){0}")?;
-        }
+        Base::Struct(k) => push_macro(text, prefix, Name::Zeros, k)?,
     }
     Ok(())
 }
@@ -154,6 +182,11 @@ pub(crate) fn push_zeroed(text: &mut String, prefix: &str, ty: CType) -> Result<
             text.push_str("{")?;
             push_zeroed_base(text, prefix, base)?;
             text.push_str("}")?;
+        }
+        CType::Grid(_, _, base) => {
+            text.push_str("{{")?;
+            push_zeroed_base(text, prefix, base)?;
+            text.push_str("}}")?;
         }
     }
     Ok(())

@@ -6,5 +6,5 @@ use Rattle.c_text.proofs.file.push_members.Given as goal
 abbrev pub invariant-loop-k : goal.invariant-loop-k
 invariant-loop-k l =
     string_bytes l.text
-    ++ members_text l.naming.prefix.now l.naming.empty.now l.k (drop l.k l.members)
-    ≡ string_bytes l.initial.text ++ members_text l.naming.prefix.now l.naming.empty.now 0 l.members
+    ++ members_text l.naming.prefix.now l.naming.empty.now l.kind l.k (drop l.k l.members)
+    ≡ string_bytes l.initial.text ++ members_text l.naming.prefix.now l.naming.empty.now l.kind 0 l.members

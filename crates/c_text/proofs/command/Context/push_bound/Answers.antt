@@ -1,5 +1,5 @@
 use Rattle.c_text.proofs.Joined.{joined_four}
-use Rattle.c_text.proofs.command.push_bound.Goals as goal
+use Rattle.c_text.proofs.command.Context.push_bound.Goals as goal
 
 pub returns : goal.returns
 returns c =

@@ -1,5 +1,5 @@
 use Rattle.c_text.proofs.Joined.{joined_five}
-use Rattle.c_text.proofs.command.push_loop_head.Goals as goal
+use Rattle.c_text.proofs.command.Context.push_loop_head.Goals as goal
 
 pub returns : goal.returns
 returns c =
