@@ -1,0 +1,4 @@
+-- A file a line.
+pub mod Alike
+pub mod Linking
+pub mod Sharing

@@ -1,0 +1,2 @@
+-- Equal functions once.
+pub mod Sharing
