@@ -1,0 +1,13 @@
+use Rattle.std.proofs.Common.{refl}
+use Rattle.c_meaning.specs.Syntax.{local}
+use Rattle.c_forms.specs.Standing.{behind}
+use Rattle.c_build.proofs.routing.push_routed.Goals as goal
+
+pub returns : goal.returns
+returns c = λ n Ps Os S A D B counts is_numbered is_given is_answer.
+    let e1 = c.in_ok-add.ensures in
+    let e2 = c.in_ok-push_leaf_call.ensures n Ps Os D (behind n Ps Os 0) counts is_given (λ t. rw (c.behind.ensures, counts.params, counts.olds)) in
+    let e3 = c.in_ok-push_part_call.ensures n Ps Os B (local 0) (behind n Ps Os 1) counts is_answer (λ t. refl)
+    (λ t. rw (c.behind-2.ensures, counts.params, counts.olds)) in
+    let e4 = c.in_ok-add-2.ensures in
+    rw (e4, e3, e2, e1, c.behind-3.ensures, counts.params, counts.olds, c.in_ok-place.ensures, is_numbered)

@@ -1,0 +1,5 @@
+use Rattle.net_tree.specs.Network.{at_once}
+use Rattle.c_build.proofs.switches.push_switch.Goals as goal
+
+pub returns : goal.returns
+returns c = λ n Ps Os S T A B V counts is_beside is_answer. c.in_ok-push_switch_hearing.ensures n Ps Os at_once S T A B V counts is_beside is_answer (λ t. rw (c.behind.ensures, counts.params, counts.olds))

@@ -1,0 +1,7 @@
+use Rattle.c_build.proofs.within.push_event_within.Goals as goal
+
+pub returns : goal.returns
+returns c = λ n.
+    let e1 = c.in_ok-push_within.ensures in
+    let e2 = c.in_ok-add.ensures in
+    rw (e2, e1, c.get.ensures)
