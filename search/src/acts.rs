@@ -1,15 +1,13 @@
 //! What moves do that no law does alone: to expressions, to an `arr`, and to as many stages or members as there are.
 use crate::chain::{behind, last, length, seq};
-use crate::cost::{is_path, net_cost, own_parts};
+use crate::cost::{net_cost, own_parts};
 use crate::draft::{joined, Budget, Clearing, Draft};
-use crate::exprs::{
-    as_behind, as_late, as_then, cheap, first_input, input, normal, on_left, on_right, pair, second_input, seen_through, then,
-};
+use crate::exprs::{as_behind, as_then, cheap, first_input, input, normal, on_left, pair, second_input, seen_through, then};
 use crate::laws;
-use crate::read::{of, template};
+use crate::read::template;
 use crate::term::{int, node, put, Op, Term};
 use crate::trail::Way;
-use crate::types::{type_of, Standing, MOST_EXPR_HEIGHT, MOST_EXPR_SIZE};
+use crate::types::{told_type, MOST_EXPR_HEIGHT, MOST_EXPR_SIZE};
 
 /// Rewrites an expression, where it is of the right form.
 pub type Rewriting = fn(&Budget, Term) -> Option<Way>;
@@ -86,11 +84,6 @@ pub fn behind_first(budget: &Budget, e: Term) -> Option<Way> {
     as_behind(budget, e, first_input())
 }
 
-/// The expression behind an exchange of both parts.
-pub fn behind_swap(budget: &Budget, e: Term) -> Option<Way> {
-    as_behind(budget, e, template("SWAP"))
-}
-
 /// The expression as itself behind UNASSOC, and that behind ASSOC.
 pub fn behind_assoc(budget: &Budget, e: Term) -> Option<Way> {
     as_then(budget, e, template("ASSOC"), then(template("UNASSOC"), e))
@@ -102,27 +95,6 @@ pub fn never_apart(budget: &Budget, e: Term) -> Option<Way> {
         return None;
     }
     as_then(budget, e, e.kids[0], pair(input(), e.kids[1]))
-}
-
-/// The type of an expression's values, where that is known whatever its input and the parameters are: all of it is closed, or its form
-/// tells it.
-pub fn told_type(e: Term) -> Option<Term> {
-    let unit_type = node(Op::UnitType, &[]);
-    type_of(e, Standing::alone(unit_type)).or_else(|| form_type(e))
-}
-
-/// The type that the form of an expression tells.
-fn form_type(e: Term) -> Option<Term> {
-    match e.op {
-        Op::Unit => Some(node(Op::UnitType, &[])),
-        Op::Int | Op::Neg | Op::Add | Op::Sub | Op::Mul | Op::Len => Some(node(Op::IntType, &[])),
-        Op::True | Op::False | Op::Less | Op::Equal | Op::Not | Op::And | Op::Or => Some(node(Op::BoolType, &[])),
-        Op::Then | Op::If | Op::On => form_type(e.kids[1]),
-        Op::Nth => form_type(e.kids[2]),
-        Op::NoEvent => Some(node(Op::EventType, &[e.ty?])),
-        Op::List => Some(node(Op::ListType, &[e.ty?])),
-        _ => None,
-    }
 }
 
 /// Parts the `arr`, and the one that is then behind it, as long as that costs less.
@@ -141,6 +113,7 @@ fn pays_as_two(one: Term) -> bool {
     one.op == Op::Arr && e.op == Op::Then && net_cost(seq(arr(e.kids[0]), arr(e.kids[1]))) < net_cost(one)
 }
 
+/// Makes a `first` of an `arr` at a path one `arr`, where it is one.
 pub fn open(w: &mut Draft, path: &[u32]) -> Option<()> {
     if w.first_at(path)?.op != Op::Arr {
         return Some(());
@@ -165,21 +138,6 @@ pub fn gather_first(w: &mut Draft) -> Option<()> {
     w.gather(&[0, 0], 0, length(inner) - 1).map(|_| ())
 }
 
-/// Takes the last stage of a loop, a `first`, behind it.
-pub fn end_of_loop(w: &mut Draft) -> Option<()> {
-    let body = w.at(&[1])?;
-    if last(body).op != Op::First {
-        return None;
-    }
-    w.gather(&[1], 0, length(body) - 1)?;
-    w.back(laws::LOOP_OUT, &[])
-}
-
-/// Tests that a loop ends in an `arr`.
-pub fn ends_in_arr(w: &mut Draft) -> Option<()> {
-    Some(()).filter(|()| w.at(&[1]).map_or(false, |body| last(body).op == Op::Arr))
-}
-
 /// Takes the last `arr` past all cells but the first stage.
 pub fn pass(w: &mut Draft) -> Option<()> {
     let count = length(w.net());
@@ -199,20 +157,33 @@ fn pass_one(w: &mut Draft, stages: usize, more: bool) -> Option<()> {
 
 /// Takes the `arr` past the cell, both of which stand at a path.
 fn pass_cell(w: &mut Draft, path: &[u32]) -> Option<()> {
-    let law = match w.at(&joined(path, &[0]))?.op {
-        Op::IPre => laws::CELL_PASS,
-        Op::Delay => laws::DELAY_PASS,
-        _ => return None,
-    };
-    w.forward(law, path)?;
+    w.forward(passing(w.at(&joined(path, &[0]))?)?, path)?;
     w.clear(&joined(path, &[1, 0]))
 }
 
-/// Makes the `arr` behind a `hold`, both at a path, a map of events before it.
-pub fn map_held(w: &mut Draft, path: &[u32]) -> Option<()> {
-    let (c, g) = (w.at(&joined(path, &[0, 0]))?, w.arr_at(&joined(path, &[1]))?);
-    let ty = told_type(then(c, g))?;
-    w.backward(laws::HOLD_MAP, path, of("(>>> (arr MAP(g)) (hold (then c g)))", &[('c', c), ('g', g), ('T', ty)]))
+/// The law by which an `arr` behind a cell passes it.
+fn passing(cell: Term) -> Option<laws::Law> {
+    match cell.op {
+        Op::IPre => Some(laws::CELL_PASS),
+        Op::Delay => Some(laws::DELAY_PASS),
+        _ => None,
+    }
+}
+
+/// Takes the cell before the `arr` of a known value, which the cell begins with too.
+pub fn known_cell(w: &mut Draft) -> Option<()> {
+    let (e, cell) = (w.arr_at(&[0])?, w.at(&[1])?);
+    let law = passing(cell)?;
+    let way = as_then(&w.budget, cell.kids[0], cell.kids[0], e)?;
+    w.took(&[1, 0], way.to, &way.steps())?;
+    w.backward(law, &[], seq(cell, arr(e)))
+}
+
+/// Takes the first output of a chain to its last stage.
+pub fn initial_last(w: &mut Draft) -> Option<()> {
+    let count = length(w.at(&[1])?);
+    w.gather(&[1], 0, count - 1)?;
+    w.forward(laws::INITIAL_LAST, &[])
 }
 
 /// Brings an `arr` behind members, which looks at one of them alone, to what it does with that.
@@ -246,13 +217,6 @@ pub fn members_as_arr(w: &mut Draft) -> Option<()> {
     let element = all.iter().find_map(|e| told_type(e))?;
     let list = put(Op::List, 0, Some(element), &all);
     w.backward(laws::MEMBERS_ARR, &[], arr(list))
-}
-
-/// Makes members of which each takes one of others these ones, in another order.
-pub fn as_members(w: &mut Draft) -> Option<()> {
-    let list = w.arr_at(&[1]).filter(|e| e.op == Op::List && e.kids.iter().all(|kid| is_known_element(kid)))?;
-    w.at(&[0]).filter(|members| members.op == Op::Par)?;
-    take_members(w, &[], list.kids.len())
 }
 
 /// Makes members at a path, behind which an `arr` makes a list of so many of them, these.
@@ -309,108 +273,4 @@ fn renumbered(e: Term, heard: &[Term]) -> Term {
         *kid = renumbered(kid, heard);
     }
     e.with_kids(&kids)
-}
-
-/// Tests that the first member begins with no `arr`.
-pub fn begins_with_no_arr(w: &mut Draft) -> Option<()> {
-    Some(()).filter(|()| w.arr_at(&[0, 0]).is_none())
-}
-
-pub fn flatten_first(w: &mut Draft) -> Option<()> {
-    w.flatten(&[0])
-}
-
-/// The input as UNASSOC behind ASSOC.
-pub fn there_and_back(budget: &Budget, input: Term) -> Option<Way> {
-    as_then(budget, input, template("ASSOC"), template("UNASSOC"))
-}
-
-/// `(pair a b)` as `(pair a x)`, and b of the right part behind it, where b is no path.
-pub fn right_late(budget: &Budget, e: Term) -> Option<Way> {
-    Some(e).filter(|e| !is_path(e.kids[1])).and_then(|e| as_late(budget, e))
-}
-
-/// `(pair a b)` as `(pair x b)`, and a of the left part behind it, where a isn't x.
-pub fn left_behind(budget: &Budget, e: Term) -> Option<Way> {
-    let (a, b) = (e.kid(0)?, e.kid(1)?);
-    if e.op != Op::Pair || a.op == Op::Input {
-        return None;
-    }
-    as_then(budget, e, pair(template("x"), b), on_left(a))
-}
-
-/// The expression as its largest part of the left part alone, in place of that, and what is left of it behind that.
-pub fn left_before(budget: &Budget, e: Term) -> Option<Way> {
-    let largest = largest_left(e)?;
-    let inside = seen_through(budget, largest, first_input())?;
-    let behind = seen_through(budget, e, pair(largest, second_input()))?;
-    as_then(budget, e, on_left(inside), behind)
-}
-
-/// What an expression uses of its input.
-fn uses_of(e: Term) -> Uses {
-    match e.op {
-        Op::Input | Op::On => Uses::Whole,
-        Op::Fst if e.kids[0].op == Op::Input => Uses::Left,
-        Op::Snd if e.kids[0].op == Op::Input => Uses::Right,
-        Op::Then => uses_of(e.kids[0]),
-        _ => e.kids.iter().map(|part| uses_of(part)).max().unwrap_or(Uses::Nothing),
-    }
-}
-
-/// The one largest part that uses the left part of the input alone, where it is not just that, and nothing else uses it; the input isn't used
-/// as a whole.
-fn largest_left(e: Term) -> Option<Term> {
-    if uses_of(e) == Uses::Whole {
-        return None;
-    }
-    let mut todo = vec![e];
-    let mut found = None;
-    while let Some(e) = todo.pop() {
-        match uses_of(e) {
-            Uses::Nothing => {}
-            Uses::Left if found.map_or(true, |other| other == e) => found = Some(e),
-            Uses::Left => return None,
-            _ if e.op == Op::Then => todo.push(e.kids[0]),
-            _ if e == second_input() => {}
-            _ => todo.extend(&e.kids),
-        }
-    }
-    found.filter(|&e| e != first_input())
-}
-
-/// The last `arr` uses of the right part no more than one of its parts: then only that goes past the `first`s.
-pub fn narrow(w: &mut Draft) -> Option<()> {
-    let count = length(w.net()) - 2;
-    let way = behind(&[1], count);
-    w.part_by(|budget, e| narrowed(budget, e, Op::Fst).or_else(|| narrowed(budget, e, Op::Snd)), &way)?;
-    for j in (0..count).rev() {
-        let mut way = behind(&[1], j);
-        w.back(laws::NEST, &way)?;
-        way.push(0);
-        w.forward(laws::EXCHANGE, &way)?;
-        way.pop();
-        w.forward(laws::NEST, &way)?;
-    }
-    w.forward(laws::FUSE_FRONT, &[])?;
-    w.clear(&[0, 0])
-}
-
-/// The expression as one that leaves this half of the right part, and another behind it.
-fn narrowed(budget: &Budget, e: Term, half: Op) -> Option<Way> {
-    let seen = pair(first_input(), node(half, &[second_input()]));
-    let g = seen_through(budget, e, seen).filter(|&g| g != e)?;
-    as_then(budget, e, on_right(node(half, &[input()])), g)
-}
-
-/// What a part of an expression uses of its input, a pair: the more, the greater.
-#[derive(Clone, Copy, PartialEq, Eq, PartialOrd, Ord, Debug)]
-enum Uses {
-    Nothing,
-    /// The left part alone.
-    Left,
-    /// The right part, or both one by one.
-    Right,
-    /// It may be the whole.
-    Whole,
 }

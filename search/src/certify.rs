@@ -1,12 +1,15 @@
 //! What `certify` and `improve` print.
 use crate::draft::{Budget, Step};
+use crate::exprs::input;
 use crate::improve::{improved, MOST_STEPS};
-use crate::print::{certificate, position};
+use crate::print::{certificate, position, text_of};
 use crate::read::{MOST_BYTES, MOST_OPEN};
-use crate::term::Term;
-use crate::told::pair_of_lines;
-use crate::tuning::MOST_IMPROVING;
+use crate::single::Form;
+use crate::term::{node, Op, Term};
+use crate::told::{cut, pair_of_lines};
+use crate::tuning::{MOST_BETWEEN, MOST_IMPROVING};
 use crate::ways::Search;
+use crate::wires::Graph;
 use crate::Refusal;
 
 /// The last number of a child that a certificate can name.
@@ -61,8 +64,42 @@ fn why_none(search: &Search, source: Term, target: Term) -> String {
         Some((there, back)) => (String::new(), (there.net, back.net)),
         None => (format!("gave up: {} nodes visited\n", search.nodes), (source, target)),
     };
+    let apart = formed.and_then(|_| wire_apart(&Budget::new(MOST_BETWEEN), a, b));
     let (path, a, b) = first_difference(a, b);
-    format!("{}{}\n{}", gave_up, position(&path), pair_of_lines(a, b))
+    format!("{}{}\n{}{}", gave_up, position(&path), pair_of_lines(a, b), apart.unwrap_or_default())
+}
+
+/// The first wire in which two normal forms differ: a part of what they output, else of the state of their loops.
+fn wire_apart(budget: &Budget, a: Term, b: Term) -> Option<String> {
+    let graph = |net| Form::read(net).and_then(|form| Graph::of(budget, form));
+    let (a, b) = (graph(a)?, graph(b)?);
+    let of_output = part_apart(a.shown, b.shown, input()).map(|part| named(part, "output"));
+    let told = of_output.or_else(|| match (a.states.iter().zip(&b.states)).find(|(s, t)| (s.start, s.next) != (t.start, t.next)) {
+        Some((s, t)) if s.start == t.start => Some(format!("{}, in what it becomes", named(s.place, "state"))),
+        Some((s, t)) => {
+            Some(format!("{}, which begins as {} and {}", named(s.place, "state"), cut(&text_of(s.start)), cut(&text_of(t.start))))
+        }
+        None => None,
+    });
+    told.map(|told| format!("the first wire that differs: {}\n", told))
+}
+
+/// Where the first part of a pair of pairs stands that differs from the other one's.
+fn part_apart(a: Term, b: Term, at: Term) -> Option<Term> {
+    if a.op != Op::Pair || b.op != Op::Pair {
+        return Some(at).filter(|_| a != b);
+    }
+    let half = |k: usize, op: Op| part_apart(a.kids[k], b.kids[k], node(op, &[at]));
+    half(0, Op::Fst).or_else(|| half(1, Op::Snd))
+}
+
+/// What stands there in a whole, or the whole.
+fn named(at: Term, whole: &str) -> String {
+    if at == input() {
+        format!("the {}", whole)
+    } else {
+        format!("{} of the {}", cut(&text_of(at)), whole)
+    }
 }
 
 /// The first position, a node before its children, at which two trees have different nodes, with what each has there.

@@ -47,55 +47,48 @@ pub fn head(chain: Term) -> Term {
     parts(chain).map_or(chain, |(f, _)| f)
 }
 
+/// A chain, what stands behind its first stage, and so on, to its last stage.
+fn rests(chain: Term) -> impl Iterator<Item = Term> {
+    std::iter::successors(Some(chain), |rest| parts(rest).map(|(_, more)| more))
+}
+
 /// The chain's last stage.
 pub fn last(chain: Term) -> Term {
-    let mut found = chain;
-    while let Some((_, rest)) = parts(found) {
-        found = rest;
-    }
-    found
+    rests(chain).last().unwrap_or(chain)
 }
 
 /// What stands behind so many stages of a chain.
 pub fn rest(chain: Term, stages: usize) -> Option<Term> {
-    (0..stages).try_fold(chain, |found, _| parts(found).map(|(_, rest)| rest))
+    rests(chain).nth(stages)
 }
 
 /// How many stages a chain has that is nested to the right.
 pub fn length(chain: Term) -> usize {
-    let mut count = 1;
-    let mut found = chain;
-    while let Some((_, rest)) = parts(found) {
-        found = rest;
-        count += 1;
-    }
-    count
+    rests(chain).count()
 }
 
-/// The stages of a chain, however they are nested.
-pub fn stages(chain: Term) -> Vec<Term> {
+/// The links of a chain of a form, however they are nested.
+pub fn links(op: Op, chain: Term) -> Vec<Term> {
     let mut all = vec![];
     let mut todo = vec![chain];
-    while let Some(net) = todo.pop() {
-        match parts(net) {
-            Some((f, g)) => todo.extend([g, f]),
-            None => all.push(net),
+    while let Some(tree) = todo.pop() {
+        if tree.op == op {
+            todo.extend(tree.kids.iter().rev());
+        } else {
+            all.push(tree);
         }
     }
     all
 }
 
+/// The stages of a chain, however they are nested.
+pub fn stages(chain: Term) -> Vec<Term> {
+    links(Op::Seq, chain)
+}
+
 /// How many stages stand before the first that is itself a chain.
 pub fn before_chain(chain: Term) -> Option<usize> {
-    let mut left = chain;
-    for stages in 0.. {
-        let (f, rest) = parts(left)?;
-        if f.op == Op::Seq {
-            return Some(stages);
-        }
-        left = rest;
-    }
-    None
+    rests(chain).position(|rest| parts(rest).map_or(false, |(f, _)| f.op == Op::Seq))
 }
 
 impl Draft {

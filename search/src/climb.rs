@@ -21,11 +21,11 @@ pub struct Nearer {
     pub back: Vec<Step>,
 }
 
-/// The nearest two networks that are found from these; nothing where these are too large.
-pub fn brought_nearer(budget: &Budget, first: Term, second: Term) -> Option<Nearer> {
+/// The nearest two networks that are found from these, by laws up to this version; nothing where these are too large.
+pub fn brought_nearer(budget: &Budget, first: Term, second: Term, version: u8) -> Option<Nearer> {
     let pairs = first.size.saturating_mul(second.size);
     let width = tuning::WIDTHS.iter().find(|(most, _)| pairs <= *most)?.1;
-    let mut climb = Climb { budget, width, taken: vec![], seen: Memo::default(), apart: Memo::default(), next: vec![] };
+    let mut climb = Climb { budget, version, width, taken: vec![], seen: Memo::default(), apart: Memo::default(), next: vec![] };
     let apart = climb.apart(first, second);
     climb.next.push(Both { first, second, apart, undone: 0, last: None });
     let best = climb.nearest()?;
@@ -53,6 +53,8 @@ struct Taken {
 
 struct Climb<'b> {
     budget: &'b Budget,
+    /// The last version of which laws are tried.
+    version: u8,
     /// How many pairs are kept.
     width: usize,
     taken: Vec<Taken>,
@@ -87,10 +89,10 @@ impl Climb<'_> {
     fn expand(&mut self, both: Both, is_first: bool) {
         let (from, other) = if is_first { (both.first, both.second) } else { (both.second, both.first) };
         let beside = Some(other).filter(|_| from.size > tuning::FEW_NODES);
-        let mut places = vec![];
+        let (version, mut places) = (self.version, vec![]);
         add_places(from, beside, &mut vec![], 0, &mut places);
         for (path, here, olds) in places {
-            for law in laws_at(here) {
+            for law in laws_at(here).filter(|law| law.version() <= version) {
                 if !self.budget.spend(1) {
                     return;
                 }
@@ -140,7 +142,7 @@ impl Climb<'_> {
         let found = if a.op == Op::Seq || b.op == Op::Seq {
             self.apart_as_chains(&stages(a), &stages(b)).max(1)
         } else {
-            let like = if a.is_like(b) { a.kids.iter().zip(&b.kids).map(|(f, g)| self.apart(f, g)).sum() } else { u64::MAX };
+            let like = if a.is_like(b) { a.kids.iter().zip(b.kids.iter()).map(|(f, g)| self.apart(f, g)).sum() } else { u64::MAX };
             let inside = self.apart_inside(a, like.min(a.size + b.size), |climb, part| climb.apart(part, b));
             self.apart_inside(b, inside, |climb, part| climb.apart(a, part))
         };

@@ -34,18 +34,37 @@ pub fn cost_before(chain: Term, next: Next) -> u64 {
     told(|costs| total(&[costs.net(chain), costs.kept(last(chain), next)]))
 }
 
+/// What a search is led by. What stands apart may keep it from steps that pay later.
+#[derive(Clone, Copy, PartialEq, Eq, Debug)]
+pub enum Led {
+    /// All costs.
+    ByAll,
+    /// All but of lists that C copies.
+    WithoutLists,
+    /// Nor of what stages hold of one another.
+    WithoutHeld,
+}
+
+/// Costs are from now on those that a search is led by.
+pub fn be_led(led: Led) {
+    told(|costs| {
+        *costs = Costs { led, weights: std::mem::take(&mut costs.weights), nets: Memo::default() };
+        0
+    });
+}
+
 fn told(ask: impl FnOnce(&mut Costs) -> u64) -> u64 {
     thread_local! {
-        static COSTS: RefCell<Costs> = RefCell::new(Costs::default());
+        static COSTS: RefCell<Costs> = RefCell::new(Costs { weights: Memo::default(), nets: Memo::default(), led: Led::ByAll });
     }
     COSTS.with(|costs| ask(&mut costs.borrow_mut()))
 }
 
 /// The costs that were told, each once.
-#[derive(Default)]
 struct Costs {
     weights: Memo<Term, Weight>,
     nets: Memo<Term, u64>,
+    led: Led,
 }
 
 impl Costs {
@@ -92,7 +111,10 @@ impl Costs {
             Op::First => total(&[cost::FIRST, self.net(kid(0))]),
             Op::InitialOut | Op::InitialIn => total(&[cost::INITIAL, self.net(kid(1))]),
             Op::Par => total(&[cost::MEMBERS, self.members(&net.kids, cost::MEMBER)]),
-            Op::LoopPre => total(&[cost::LOOP, self.net(kid(1)), self.kept(last(kid(1)), Next::Feedback)]),
+            Op::LoopPre => {
+                let more = if has_loop(kid(1)) { cost::LOOP_ROUND_LOOP } else { 0 };
+                total(&[cost::LOOP, more, self.net(kid(1)), self.kept(last(kid(1)), Next::Feedback)])
+            }
             Op::Switch | Op::DSwitch if is_never(kid(0)) => total(&[cost::SWITCH, self.net(kid(0))]),
             Op::Switch | Op::DSwitch => total(&[cost::SWITCH, total(&[self.net(kid(0)), self.net(kid(1))]) / 2]),
             Op::RSwitch | Op::DrSwitch => total(&[cost::SWITCH, total(&[self.net(kid(0)), self.net(kid(1)).saturating_mul(3)]) / 4]),
@@ -133,11 +155,38 @@ impl Costs {
         let made = match next {
             Next::Feedback if e.op == Op::Pair => self.made(e.kids[1]),
             Next::Feedback => self.made(e) / 2,
-            Next::Stage(cell) if is_cell(cell) => self.made(e),
+            Next::Stage(next) if is_cell(next) => self.made(e),
+            Next::Stage(next) if next.op == Op::Arr && self.led != Led::WithoutHeld => self.held(e, next.kids[0]),
             Next::Stage(first) if first.op == Op::First && is_cell(first.kids[0]) && e.op == Op::Pair => self.made(e.kids[0]),
             Next::Stage(_) | Next::Nothing => 0,
         };
-        made.saturating_mul(cost::FRESH_QUARTER)
+        total(&[made.saturating_mul(cost::FRESH_QUARTER), self.copied(e, next)])
+    }
+
+    /// What it costs C to copy lists that one `arr` hands on to another.
+    fn copied(&self, e: Term, next: Next) -> u64 {
+        match next {
+            Next::Stage(next) if self.led == Led::ByAll && next.op == Op::Arr && (has_lists(e) || has_lists(next)) => cost::LISTS_COPIED,
+            _ => 0,
+        }
+    }
+
+    /// How much of what an expression makes stands in the value of the next one, which holds it until the next sample.
+    fn held(&mut self, e: Term, next: Term) -> u64 {
+        match next.op {
+            Op::Pair | Op::Event | Op::List => next.kids.iter().fold(0, |sum, kid| total(&[sum, self.held(e, kid)])),
+            Op::If => total(&[self.held(e, next.kids[1]), self.held(e, next.kids[2])]) / 2,
+            _ => part_by(e, next).map_or(0, |part| self.made(part)),
+        }
+    }
+}
+
+/// The part of a made pair that a path leads to.
+fn part_by(e: Term, path: Term) -> Option<Term> {
+    match path.op {
+        Op::Input => Some(e),
+        Op::Fst | Op::Snd => part_by(e, path.kids[0]).filter(|whole| whole.op == Op::Pair)?.kid(usize::from(path.op == Op::Snd)),
+        _ => None,
     }
 }
 
@@ -152,6 +201,16 @@ fn is_never(net: Term) -> bool {
         }
         _ => false,
     }
+}
+
+/// Whether a loop runs in the network.
+fn has_loop(net: Term) -> bool {
+    net.op == Op::LoopPre || net.op.is_net() && net.kids.iter().any(|kid| has_loop(kid))
+}
+
+/// Whether the expression or the network has to do with lists.
+pub fn has_lists(tree: Term) -> bool {
+    matches!(tree.op, Op::List | Op::Nth | Op::Len) || tree.kids.iter().any(|kid| has_lists(kid))
 }
 
 /// What stands behind a chain.
@@ -212,7 +271,7 @@ fn shape_cost(e: Term) -> Shape {
         Op::Add if kid(1) == Op::Int && (kid(0) == Op::Input || is_multiple(e.kids[0])) => Shape::Whole(cost::SHAPED_ROOT),
         Op::Mul if is_multiple(e) => Shape::Whole(cost::SHAPED_ROOT),
         Op::Less if kid(0) == Op::Input && kid(1) == Op::Int => Shape::Whole(cost::COMPARISON),
-        Op::Fst | Op::Snd | Op::Event if kid(0) == Op::Input => Shape::Beside(cost::SHAPED_ROOT),
+        Op::Fst | Op::Snd if kid(0) == Op::Input => Shape::Beside(cost::SHAPED_ROOT),
         Op::Input => Shape::Beside(cost::SHAPED_ROOT),
         op if op.is_literal() => Shape::Beside(cost::SHAPED_ROOT),
         Op::Add | Op::Sub | Op::Mul => Shape::Beside(cost::ARITHMETIC_ROOT),
@@ -256,7 +315,7 @@ fn cost_with(e: Term, parts: &[Weight]) -> u64 {
     let operand = |k: usize| operand(kid(k), parts[k]);
     let looked = |k: usize, path: u64, other: u64| looked(kid(k), parts[k], path, other);
     match e.op {
-        Op::Fst | Op::Snd if is_path(kid(0)) => total(&[cost_of(0), cost::PATH_STEP]),
+        Op::Fst | Op::Snd if is_path(kid(0)) => total(&[cost_of(0), if e.height > 3 { cost::LONG_PATH_STEP } else { cost::PATH_STEP }]),
         Op::Fst | Op::Snd => total(&[cost::PART_OF_MADE, parts[0].fresh()]),
         Op::Neg => total(&[cost::ARITHMETIC, operand(0)]),
         Op::Add | Op::Sub | Op::Mul | Op::Less => total(&[cost::ARITHMETIC, operand(0), operand(1)]),
@@ -286,8 +345,8 @@ fn looked(part: Term, weight: Weight, path: u64, other: u64) -> u64 {
 
 fn operand(part: Term, weight: Weight) -> u64 {
     match part.op {
-        Op::Neg | Op::Add | Op::Sub | Op::Mul | Op::Len => total(&[cost::COMPUTED_OPERAND, weight.cost]),
-        _ if is_simple(part) => cost::SIMPLE_OPERAND,
+        Op::Neg | Op::Add | Op::Sub | Op::Mul | Op::Nth | Op::Len => total(&[cost::COMPUTED_OPERAND, weight.cost]),
+        _ if is_simple(part) => cost::SIMPLE_OPERAND + weight.cost.saturating_sub(cost::LEAF + 2 * cost::PATH_STEP),
         _ => total(&[cost::MADE_OPERAND, weight.cost]),
     }
 }

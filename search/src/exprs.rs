@@ -5,12 +5,12 @@
 use crate::cost::{expr_cost, is_path, is_simple, own_parts};
 use crate::draft::Budget;
 use crate::laws;
-use crate::memo::Memo;
+use crate::memo::{kept, Memo};
 use crate::sums;
 use crate::term::{node, Op, Term};
 use crate::trail::{Walk, Way};
 use crate::tuning;
-use std::cell::RefCell;
+use std::cell::{Cell, RefCell};
 use std::cmp::Reverse;
 
 /// How far expressions are rewritten.
@@ -33,37 +33,19 @@ impl Aim {
     }
 }
 
-/// What was found for expressions, and what is left to the search that asks.
-struct Exprs {
-    budget: Budget,
-    depth: u32,
-    improved: Memo<(u8, Term), Way>,
-    pushed: Memo<(u8, Term, Term), Way>,
-    seen: Memo<(Term, Term), Option<Term>>,
-    shared: Memo<Term, Way>,
-    uses: Memo<(Term, Term), Uses>,
-}
-
-/// Asks with this budget. Where that is used up, what is found isn't kept for the next one.
-fn asked<Answer>(budget: &Budget, ask: impl FnOnce(&mut Exprs) -> Answer) -> Answer {
-    thread_local! {
-        static EXPRS: RefCell<Exprs> = RefCell::new(Exprs::new());
-    }
-    EXPRS.with(|exprs| {
-        let mut exprs = exprs.borrow_mut();
-        exprs.budget = budget.clone();
-        ask(&mut exprs)
-    })
+thread_local! {
+    // What was found for expressions, each once, and how deep it is carried inwards now.
+    static IMPROVED: RefCell<Memo<(u8, Term), Way>> = RefCell::default();
+    static PUSHED: RefCell<Memo<(u8, Term), Way>> = RefCell::default();
+    static SEEN: RefCell<Memo<(Term, Term), Option<Term>>> = RefCell::default();
+    static SHARED: RefCell<Memo<Term, Way>> = RefCell::default();
+    static USES: RefCell<Memo<(Term, Term), Uses>> = RefCell::default();
+    static DEPTH: Cell<u32> = const { Cell::new(0) };
 }
 
 /// What costs less than the expression.
 pub fn cheap(budget: &Budget, e: Term) -> Way {
-    asked(budget, |exprs| exprs.within(Aim::Cheap, e))
-}
-
-/// What costs less than the first parts of an expression that takes too many steps as a whole, within so many.
-pub fn cheap_in_part(budget: &Budget, e: Term, most: usize) -> Way {
-    asked(budget, |exprs| exprs.cheap_in_part(e, most.min(most_steps(e))))
+    within(budget, Aim::Cheap, e)
 }
 
 /// How many steps an expression may take: a check of each goes over all of it.
@@ -74,36 +56,61 @@ fn most_steps(e: Term) -> usize {
 /// The expression's normal form: each `then` carried inwards, differences as sums, what may stand in any order in one, then products of
 /// sums multiplied out.
 pub fn normal(budget: &Budget, e: Term) -> Way {
-    asked(budget, |exprs| exprs.reached(Aim::Normal, e))
+    let ordered = within(budget, Aim::Ordered, e);
+    if !has_product(ordered.to) {
+        return ordered;
+    }
+    Way::made(e, |walk| {
+        walk.follow(&ordered);
+        walk.then(|now| within(budget, Aim::Normal, now));
+    })
 }
 
 /// The g for which `(then f g)` is e, where e uses its input by f and by the parts alone of which f is a pair.
 pub fn seen_through(budget: &Budget, e: Term, f: Term) -> Option<Term> {
-    asked(budget, |exprs| exprs.seen_through(e, f))
+    kept(
+        &SEEN,
+        (e, f),
+        || budget.left() > 0,
+        || {
+            let mut views = Views::default();
+            views.add(f, input());
+            replaced(budget, e, &views, &mut Memo::default())
+        },
+    )
 }
 
 /// The way from e back to `(then f g)`, where f carried into g leads to e, or to another expression of which what costs less, or what has
 /// its terms in order, or its normal form is e.
 pub fn as_then(budget: &Budget, e: Term, f: Term, g: Term) -> Option<Way> {
-    asked(budget, |exprs| exprs.as_then(e, f, g))
+    let mut walk = Walk::of(then(f, g));
+    walk.inside(0, |f| improved(budget, Aim::Plain, f));
+    walk.then(|now| pushed(budget, Aim::Plain, now));
+    let further = [Aim::Cheap, Aim::Ordered, Aim::Normal].into_iter().map(|aim| reached(budget, aim, walk.now));
+    let last = std::iter::once(Way::still(walk.now)).chain(further).find(|last| last.to == e)?;
+    walk.follow(&last);
+    Some(Way { to: then(f, g), trail: walk.done().trail.undone() })
+}
+
+/// What becomes of `(then f e)` where f is carried to each part of e that has its input.
+pub fn carried(budget: &Budget, f: Term, e: Term) -> Way {
+    pushed(budget, Aim::Plain, then(f, e))
 }
 
 /// `(then f g)`, of the expression that is g behind f.
 pub fn as_behind(budget: &Budget, e: Term, f: Term) -> Option<Way> {
-    asked(budget, |exprs| {
-        let g = exprs.seen_through(e, f)?;
-        exprs.as_then(e, f, g)
-    })
+    let g = seen_through(budget, e, f)?;
+    as_then(budget, e, f, g)
 }
 
 /// `(pair (then (fst x) g) (snd x))`, of the expression that is that.
 pub fn as_left(budget: &Budget, e: Term) -> Option<Way> {
-    asked(budget, |exprs| exprs.as_part(e, 0))
+    as_part(budget, e, 0)
 }
 
 /// `(pair (fst x) (then (snd x) g))`, of the expression that is that.
 pub fn as_right(budget: &Budget, e: Term) -> Option<Way> {
-    asked(budget, |exprs| exprs.as_part(e, 1))
+    as_part(budget, e, 1)
 }
 
 /// `(then (pair a x) (pair (fst x) (then (snd x) b)))`, of `(pair a b)`.
@@ -120,14 +127,9 @@ pub fn as_map(budget: &Budget, e: Term) -> Option<Way> {
     if !is_map {
         return None;
     }
-    let back = asked(budget, |exprs| exprs.looked_through(e.kids[2].kids[0], second_input()))?;
+    let back = looked_through(budget, e.kids[2].kids[0], second_input())?;
     let body = e.kids[2].with_kid(0, back.to);
     Some(Way { to: e.with_kid(2, body), trail: back.trail.below(&[2, 0]) })
-}
-
-/// `(then h e')` where h is the dearest part that e computes more than once, and without which it doesn't use its input.
-pub fn shared_at(budget: &Budget, e: Term) -> Option<Way> {
-    asked(budget, |exprs| exprs.shared_at(e))
 }
 
 /// `x`.
@@ -165,411 +167,291 @@ pub fn on_right(g: Term) -> Term {
     pair(first_input(), then(second_input(), g))
 }
 
-impl Exprs {
-    fn new() -> Exprs {
-        Exprs {
-            budget: Budget::new(0),
-            depth: 0,
-            improved: Memo::default(),
-            pushed: Memo::default(),
-            seen: Memo::default(),
-            shared: Memo::default(),
-            uses: Memo::default(),
-        }
+fn reached(budget: &Budget, aim: Aim, e: Term) -> Way {
+    if aim == Aim::Normal {
+        normal(budget, e)
+    } else {
+        within(budget, aim, e)
     }
+}
 
-    /// Whether the budget wasn't used up, so that what was found is all that there is.
-    fn is_whole(&self) -> bool {
-        self.budget.left() > 0
+/// What the aim makes of the expression, where that takes no more steps than it may.
+fn within(budget: &Budget, aim: Aim, e: Term) -> Way {
+    let way = improved(budget, aim, e);
+    if way.trail.len() > most_steps(e) {
+        budget.cut();
+        return Way::still(e);
     }
+    way
+}
 
-    fn normal(&mut self, e: Term) -> Way {
-        let ordered = self.within(Aim::Ordered, e);
-        if !has_product(ordered.to) {
-            return ordered;
-        }
-        let mut walk = Walk::of(e);
-        walk.follow(&ordered);
-        walk.follow(&self.within(Aim::Normal, ordered.to));
-        walk.done()
+fn improved(budget: &Budget, aim: Aim, e: Term) -> Way {
+    if e.kids.is_empty() {
+        return Way::still(e);
     }
-
-    fn reached(&mut self, aim: Aim, e: Term) -> Way {
-        match aim {
-            Aim::Normal => self.normal(e),
-            Aim::Plain => self.improved(aim, e),
-            Aim::Ordered | Aim::Cheap => self.within(aim, e),
+    let improve = |walk: &mut Walk| {
+        walk.parts(|kid| improved(budget, aim, kid));
+        walk.then(|e| if e.op == Op::Then { pushed(budget, aim, e) } else { settled(budget, aim, e) });
+        if aim == Aim::Cheap {
+            walk.then(|e| shared(budget, e));
         }
+    };
+    let find = || if budget.spend(1 + e.kids.len() as u64) { Way::made(e, improve) } else { Way::still(e) };
+    kept(&IMPROVED, (aim as u8, e), || budget.left() > 0, find)
+}
+
+/// What becomes of `(then f e)`, whose parts are as good as they get.
+fn pushed(budget: &Budget, aim: Aim, whole: Term) -> Way {
+    let depth = DEPTH.with(Cell::get);
+    let is_whole = || depth < tuning::MOST_CARRIED && budget.left() > 0;
+    let find = || {
+        DEPTH.with(|now| now.set(depth + 1));
+        let way = match whole.kids[0].op {
+            _ if depth >= tuning::MOST_CARRIED || !budget.spend(1) => Way::still(whole),
+            Op::Then if aim != Aim::Plain => pushed_twice(budget, aim, whole),
+            _ => pushed_inwards(budget, aim, whole),
+        };
+        DEPTH.with(|now| now.set(depth));
+        way
+    };
+    ended(whole).unwrap_or_else(|| kept(&PUSHED, (aim as u8, whole), is_whole, find))
+}
+
+/// What becomes of `(then (then a b) e)`.
+fn pushed_twice(budget: &Budget, aim: Aim, whole: Term) -> Way {
+    Way::made(whole, |walk| {
+        walk.forward(laws::THEN_NEST);
+        walk.inside(1, |inner| pushed(budget, aim, inner));
+        walk.then(|now| pushed(budget, aim, now));
+    })
+}
+
+/// What becomes of `(then f e)` where f goes to each part of e, or stays before it, whichever is aimed at.
+fn pushed_inwards(budget: &Budget, aim: Aim, whole: Term) -> Way {
+    let (f, e) = (whole.kids[0], whole.kids[1]);
+    let fits = f.size.saturating_mul(e.size) <= tuning::MOST_PRODUCT && f.height + e.height <= tuning::MOST_SUM;
+    if !fits && aim != Aim::Plain {
+        return Way::still(whole);
     }
+    let inner = if e.op == Op::Then { through_then(budget, aim, whole) } else { through(budget, aim, whole) };
+    match aim {
+        Aim::Cheap => cheaper(budget, inner, f, e),
+        _ => inner,
+    }
+}
 
-    /// What the aim makes of the expression, where that takes no more steps than it may.
-    fn within(&mut self, aim: Aim, e: Term) -> Way {
-        let way = self.improved(aim, e);
-        if way.trail.len() <= most_steps(e) {
-            return way;
+/// What becomes of `(then f e)` where f goes to each part of e.
+fn through(budget: &Budget, aim: Aim, whole: Term) -> Way {
+    Way::made(whole, |walk| {
+        if walk.forward(laws::INTO_ON) {
+            (0..2).for_each(|k| walk.inside(k, |part| pushed(budget, aim, part)));
+            walk.part(2, |body| {
+                body.part(0, |both| both.inside(0, |left| pushed(budget, aim, left)));
+                body.then(|now| pushed(budget, aim, now));
+            });
+        } else {
+            walk.forward(laws::INTO_PARTS);
+            walk.parts(|part| pushed(budget, aim, part));
         }
-        self.budget.cut();
+        walk.then(|now| settled(budget, aim, now));
+    })
+}
+
+/// What becomes of `(then f (then a b))`. Where f stays before a, all is left as it is: else it would be taken up again for ever. What is
+/// plain stays before b.
+fn through_then(budget: &Budget, aim: Aim, whole: Term) -> Way {
+    let (f, e) = (whole.kids[0], whole.kids[1]);
+    let before = pushed(budget, aim, then(f, e.kids[0]));
+    if before.to.op == Op::Then && aim != Aim::Plain {
+        return Way::still(whole);
+    }
+    Way::made(whole, |walk| {
+        walk.backward(laws::THEN_NEST, then(then(f, e.kids[0]), e.kids[1]));
+        walk.inside(0, |_| before);
+        walk.then(|now| match aim {
+            Aim::Plain => ended(now).unwrap_or_else(|| Way::still(now)),
+            _ => pushed(budget, aim, now),
+        });
+    })
+}
+
+/// What the laws of its form make of the expression, whose parts are as good as they get.
+fn settled(budget: &Budget, aim: Aim, e: Term) -> Way {
+    if aim == Aim::Plain {
+        return opened(e);
+    }
+    let is_certain = e.op == Op::On && e.kids[0].op == Op::Event;
+    Way::made(e, |walk| {
+        sums::clear(aim, walk);
+        if is_certain && walk.now.op == Op::Then {
+            walk.then(|now| pushed(budget, aim, now));
+        }
+        if aim == Aim::Cheap {
+            walk.then(|now| taken_out(budget, now));
+        }
+    })
+}
+
+/// The expression with an `if` or `on` in it taken out, where a branch of that is known at once, and it gets smaller and costs less.
+fn taken_out(budget: &Budget, e: Term) -> Way {
+    let looked_at = if matches!(e.op, Op::If | Op::On) { 1 } else { own_parts(e) };
+    let part = e.kids[..looked_at].iter().find(|part| part.op == Op::If || e.op == Op::On && part.op == Op::On);
+    let is_wanted = part.map_or(false, |part| part.kids[1..].iter().any(|branch| is_opened(e.op, branch)));
+    let law = if part.map_or(false, |part| part.op == Op::On) { laws::ON_OUT } else { laws::IF_OUT };
+    let mut walk = Walk::of(e);
+    if e.size > tuning::MOST_LIFTED || !is_wanted || !walk.forward(law) {
+        return Way::still(e);
+    }
+    walk.follow(&improved(budget, Aim::Cheap, walk.now));
+    let way = walk.done();
+    if way.to.size < e.size && expr_cost(way.to) < expr_cost(e) {
+        way
+    } else {
         Way::still(e)
     }
+}
 
-    /// What costs less than the expression, where that takes so many steps at most; else what costs less than its first parts.
-    fn cheap_in_part(&mut self, e: Term, most: usize) -> Way {
-        let way = self.improved(Aim::Cheap, e);
-        if way.trail.len() <= most {
-            return way;
-        }
-        let mut left = most;
-        let mut ways = vec![];
-        for kid in &e.kids {
-            let way = self.cheap_in_part(kid, left);
-            left -= way.trail.len();
-            ways.push(way);
-        }
-        let mut walk = Walk::of(e);
-        walk.follow_all(&ways);
-        walk.done()
+/// The cheaper of what `(then f e)` is carried inwards to, and what it is where f stays before e. What is more than a few
+/// operations isn't copied.
+fn cheaper(budget: &Budget, inner: Way, f: Term, e: Term) -> Way {
+    let kept = kept_before(budget, f, e);
+    let margin = if inner.to.size > kept.to.size { tuning::GROWTH_MARGIN } else { 0 };
+    let is_cheaper = expr_cost(inner.to).saturating_add(margin) <= expr_cost(kept.to);
+    if is_cheaper && !copies(f, e) {
+        inner
+    } else {
+        kept
     }
+}
 
-    fn improved(&mut self, aim: Aim, e: Term) -> Way {
-        if e.kids.is_empty() {
-            return Way::still(e);
-        }
-        let key = (aim as u8, e);
-        if let Some(way) = self.improved.get(&key) {
-            return way.clone();
-        }
-        if !self.budget.spend(1 + e.kids.len() as u64) {
-            return Way::still(e);
-        }
-        let ways: Vec<Way> = e.kids.iter().map(|kid| self.improved(aim, kid)).collect();
-        let mut walk = Walk::of(e);
-        walk.follow_all(&ways);
-        walk.follow(&self.finished(aim, walk.now));
-        if aim == Aim::Cheap {
-            walk.follow(&self.shared(walk.now));
-        }
-        let way = walk.done();
-        if self.is_whole() {
-            self.improved.insert(key, way.clone());
-        }
-        way
-    }
-
-    /// The expression, whose parts are done, rewritten at its root.
-    fn finished(&mut self, aim: Aim, e: Term) -> Way {
-        match e.op {
-            Op::Then => self.pushed(aim, e.kids[0], e.kids[1]),
-            _ => self.settled(aim, e),
+/// The cheapest of `(then f e)`, what that is where e uses one part of its input alone, and where a part of f isn't put together anew.
+fn kept_before(budget: &Budget, f: Term, e: Term) -> Way {
+    let mut best = Way::still(then(f, e));
+    for found in [narrowed(budget, f, e), rearranged(budget, f, e, 0), rearranged(budget, f, e, 1)].into_iter().flatten() {
+        if expr_cost(found.to) < expr_cost(best.to) {
+            best = found;
         }
     }
+    best
+}
 
-    /// What becomes of `(then f e)`, whose parts are as good as they get.
-    fn pushed(&mut self, aim: Aim, f: Term, e: Term) -> Way {
-        let whole = then(f, e);
-        if let Some(way) = ended(whole) {
-            return way;
-        }
-        let key = (aim as u8, f, e);
-        if let Some(way) = self.pushed.get(&key) {
-            return way.clone();
-        }
-        if self.depth >= tuning::MOST_CARRIED || !self.budget.spend(1) {
-            return Way::still(whole);
-        }
-        self.depth += 1;
-        let way = match f.op {
-            Op::Then if aim != Aim::Plain => self.pushed_twice(aim, whole),
-            _ => self.pushed_inwards(aim, f, e),
-        };
-        self.depth -= 1;
-        if self.is_whole() {
-            self.pushed.insert(key, way.clone());
-        }
-        way
-    }
-
-    /// What becomes of `(then (then a b) e)`.
-    fn pushed_twice(&mut self, aim: Aim, whole: Term) -> Way {
-        let (first, e) = (whole.kids[0], whole.kids[1]);
-        let mut walk = Walk::of(whole);
+/// `(then (pair a b) e)`, where this part of the pair puts parts of the input together: the input in its place, of which e takes those.
+fn rearranged(budget: &Budget, f: Term, e: Term, k: usize) -> Option<Way> {
+    let part = f.kid(k).filter(|&part| f.op == Op::Pair && part.op == Op::Pair && is_put_together(part) && !is_put_together(f))?;
+    let wanted = if k == 0 { on_left(part) } else { on_right(part) };
+    let rest = improved(budget, Aim::Plain, wanted).to;
+    let back = as_then(budget, f, f.with_kid(k, input()), rest)?;
+    Some(Way::made(then(f, e), |walk| {
+        walk.inside(0, |_| back);
         walk.forward(laws::THEN_NEST);
-        let inner = self.pushed(aim, first.kids[1], e);
-        walk.follow_in(1, &inner);
-        walk.follow(&self.pushed(aim, first.kids[0], inner.to));
-        walk.done()
-    }
+        walk.inside(1, |inner| pushed(budget, Aim::Cheap, inner));
+    }))
+}
 
-    /// What becomes of `(then f e)` where f goes to each part of e, or stays before it, whichever is aimed at.
-    fn pushed_inwards(&mut self, aim: Aim, f: Term, e: Term) -> Way {
-        let fits = f.size.saturating_mul(e.size) <= tuning::MOST_PRODUCT && f.height + e.height <= tuning::MOST_SUM;
-        if !fits && aim != Aim::Plain {
-            return Way::still(then(f, e));
-        }
-        let inner = self.through(aim, f, e);
-        match aim {
-            Aim::Cheap => self.cheaper(inner, f, e),
-            _ => inner,
-        }
+/// `(then (pair a b) e)`, where e uses one part of its input alone: `(then a e')` or `(then b e')`.
+fn narrowed(budget: &Budget, f: Term, e: Term) -> Option<Way> {
+    if f.op != Op::Pair {
+        return None;
     }
+    let first = narrowed_to(budget, f, e, first_input(), laws::FST_OF_PAIR);
+    first.or_else(|| narrowed_to(budget, f, e, second_input(), laws::SND_OF_PAIR))
+}
 
-    /// What becomes of `(then f e)` where f goes to each part of e.
-    fn through(&mut self, aim: Aim, f: Term, e: Term) -> Way {
-        let mut walk = Walk::of(then(f, e));
-        match e.op {
-            Op::Then => return self.through_then(aim, f, e),
-            Op::On => {
-                walk.forward(laws::INTO_ON);
-                let event = self.pushed(aim, f, e.kids[0]);
-                let none = self.pushed(aim, f, e.kids[1]);
-                let body = self.through_body(aim, walk.now.kids[2]);
-                walk.follow_all(&[event, none, body]);
-            }
-            _ => {
-                walk.forward(laws::INTO_PARTS);
-                let parts: Vec<Way> = e.kids.iter().map(|kid| self.pushed(aim, f, kid)).collect();
-                walk.follow_all(&parts);
-            }
-        }
-        walk.follow(&self.settled(aim, walk.now));
-        walk.done()
-    }
-
-    /// What becomes of `(then f (then a b))`. Where f stays before a, all is left as it is: else it would be taken up again for ever. What is
-    /// plain stays before b.
-    fn through_then(&mut self, aim: Aim, f: Term, e: Term) -> Way {
-        let (a, b) = (e.kids[0], e.kids[1]);
-        let mut walk = Walk::of(then(f, e));
-        walk.backward(laws::THEN_NEST, then(then(f, a), b));
-        let before = self.pushed(aim, f, a);
-        if before.to.op == Op::Then && aim != Aim::Plain {
-            return Way::still(then(f, e));
-        }
-        walk.follow_in(0, &before);
-        let way = match aim {
-            Aim::Plain => ended(walk.now).unwrap_or_else(|| Way::still(walk.now)),
-            _ => self.pushed(aim, before.to, b),
-        };
-        walk.follow(&way);
-        walk.done()
-    }
-
-    /// What becomes of `(then (pair (then (fst x) f) (snd x)) body)`, the body of an `on`.
-    fn through_body(&mut self, aim: Aim, e: Term) -> Way {
-        let mut walk = Walk::of(e);
-        let outer = e.kids[0].kids[0];
-        let seen = self.pushed(aim, outer.kids[0], outer.kids[1]);
-        let mut both = Walk::of(e.kids[0]);
-        both.follow_in(0, &seen);
-        walk.follow_in(0, &both.done());
-        walk.follow(&self.pushed(aim, walk.now.kids[0], e.kids[1]));
-        walk.done()
-    }
-
-    /// What the laws of its form make of the expression, whose parts are as good as they get.
-    fn settled(&mut self, aim: Aim, e: Term) -> Way {
-        if aim == Aim::Plain {
-            return opened(e);
-        }
-        let is_certain = e.op == Op::On && e.kids[0].op == Op::Event;
-        let mut walk = Walk::of(e);
-        walk.follow(&sums::cleared(aim, e));
-        if is_certain && walk.now.op == Op::Then {
-            walk.follow(&self.pushed(aim, walk.now.kids[0], walk.now.kids[1]));
-        }
-        walk.done()
-    }
-
-    /// The cheaper of what `(then f e)` is carried inwards to, and what it is where f stays before e. What is more than a few
-    /// operations isn't copied.
-    fn cheaper(&mut self, inner: Way, f: Term, e: Term) -> Way {
-        let kept = self.kept_before(f, e);
-        let margin = if inner.to.size > kept.to.size { tuning::GROWTH_MARGIN } else { 0 };
-        let is_cheaper = expr_cost(inner.to).saturating_add(margin) <= expr_cost(kept.to);
-        if is_cheaper && !self.copies(f, e) {
-            inner
-        } else {
-            kept
-        }
-    }
-
-    /// The cheaper of `(then f e)` and what that is where e uses one part of its input alone.
-    fn kept_before(&mut self, f: Term, e: Term) -> Way {
-        let whole = then(f, e);
-        match self.narrowed(f, e) {
-            Some(narrow) if expr_cost(narrow.to) < expr_cost(whole) => narrow,
-            _ => Way::still(whole),
-        }
-    }
-
-    /// `(then (pair a b) e)`, where e uses one part of its input alone: `(then a e')` or `(then b e')`.
-    fn narrowed(&mut self, f: Term, e: Term) -> Option<Way> {
-        if f.op != Op::Pair {
-            return None;
-        }
-        let first = self.narrowed_to(f, e, first_input(), laws::FST_OF_PAIR);
-        first.or_else(|| self.narrowed_to(f, e, second_input(), laws::SND_OF_PAIR))
-    }
-
-    /// The same for the part at which it looks, which the law picks.
-    fn narrowed_to(&mut self, f: Term, e: Term, look: Term, picks: laws::Law) -> Option<Way> {
-        let back = self.looked_through(e, look)?;
-        let g = back.to.kids[1];
-        let mut walk = Walk::of(then(f, e));
-        walk.follow_in(1, &back);
+/// The same for the part at which it looks, which the law picks.
+fn narrowed_to(budget: &Budget, f: Term, e: Term, look: Term, picks: laws::Law) -> Option<Way> {
+    let back = looked_through(budget, e, look)?;
+    let g = back.to.kids[1];
+    Some(Way::made(then(f, e), |walk| {
+        walk.inside(1, |_| back);
         walk.backward(laws::THEN_NEST, then(then(f, look), g));
-        let mut picked = Walk::of(then(f, look));
-        picked.forward(laws::INTO_PARTS);
-        picked.follow_in(0, &Way::by(laws::INPUT_BEHIND, picked.now.kids[0]));
-        picked.forward(picks);
-        walk.follow_in(0, &picked.done());
-        Some(walk.done())
-    }
+        walk.part(0, |picked| {
+            picked.forward(laws::INTO_PARTS);
+            picked.inside(0, |part| Way::by(laws::INPUT_BEHIND, part));
+            picked.forward(picks);
+        });
+    }))
+}
 
-    /// The g for which `(then f g)` is e, where e uses its input by f and by the parts alone of which f is a pair.
-    fn seen_through(&mut self, e: Term, f: Term) -> Option<Term> {
-        if let Some(&found) = self.seen.get(&(e, f)) {
-            return found;
-        }
-        let mut views = Views::default();
-        views.add(f, input());
-        let found = self.replaced(e, &views, &mut Memo::default());
-        if self.is_whole() {
-            self.seen.insert((e, f), found);
-        }
-        found
+/// The expression with what is seen written in its place; nothing where the input is left.
+fn replaced(budget: &Budget, e: Term, views: &Views, done: &mut Memo<Term, Option<Term>>) -> Option<Term> {
+    if let Some(&to) = views.seen.get(&e) {
+        return Some(to);
     }
+    if let Some(&found) = done.get(&e) {
+        return found;
+    }
+    if e.op == Op::Input || !budget.spend(1) {
+        return None;
+    }
+    let found = replaced_parts(budget, e, views, done);
+    done.insert(e, found);
+    found
+}
 
-    /// The expression with what is seen written in its place; nothing where the input is left.
-    fn replaced(&mut self, e: Term, views: &Views, done: &mut Memo<Term, Option<Term>>) -> Option<Term> {
-        if let Some(&to) = views.seen.get(&e) {
-            return Some(to);
-        }
-        if let Some(&found) = done.get(&e) {
-            return found;
-        }
-        if e.op == Op::Input || !self.budget.spend(1) {
-            return None;
-        }
-        let found = self.replaced_parts(e, views, done);
-        done.insert(e, found);
-        found
+/// The same for each part: what is behind a `then` has another input, and the body of `on` sees its own under `fst`.
+fn replaced_parts(budget: &Budget, e: Term, views: &Views, done: &mut Memo<Term, Option<Term>>) -> Option<Term> {
+    let mut kids = e.kids.clone();
+    for kid in kids.iter_mut().take(own_parts(e)) {
+        *kid = replaced(budget, kid, views, done)?;
     }
+    if e.op == Op::On {
+        let lifted = lifted(budget, views);
+        kids[2] = replaced(budget, e.kids[2], &lifted, &mut Memo::default())?;
+    }
+    Some(e.with_kids(&kids))
+}
 
-    /// The same for each part: what is behind a `then` has another input, and the body of `on` sees its own under `fst`.
-    fn replaced_parts(&mut self, e: Term, views: &Views, done: &mut Memo<Term, Option<Term>>) -> Option<Term> {
-        let mut kids = e.kids.clone();
-        for kid in kids.iter_mut().take(own_parts(e)) {
-            *kid = self.replaced(kid, views, done)?;
-        }
-        if e.op == Op::On {
-            let lifted = self.lifted(views);
-            kids[2] = self.replaced(e.kids[2], &lifted, &mut Memo::default())?;
-        }
-        Some(e.with_kids(&kids))
+/// The views in the body of `on`: each behind `fst`, and the event as it is.
+fn lifted(budget: &Budget, views: &Views) -> Views {
+    let mut lifted = Views::default();
+    for &(from, to) in &views.all {
+        let from = pushed(budget, Aim::Plain, then(first_input(), from)).to;
+        let to = pushed(budget, Aim::Plain, then(first_input(), to)).to;
+        lifted.put(from, to);
     }
+    lifted.put(second_input(), second_input());
+    lifted
+}
 
-    /// The views in the body of `on`: each behind `fst`, and the event as it is.
-    fn lifted(&mut self, views: &Views) -> Views {
-        let mut lifted = Views::default();
-        for &(from, to) in &views.all {
-            let from = self.pushed(Aim::Plain, first_input(), from).to;
-            let to = self.pushed(Aim::Plain, first_input(), to).to;
-            lifted.put(from, to);
-        }
-        lifted.put(second_input(), second_input());
-        lifted
-    }
+/// The way from e back to `(then f g)`, for the g that is seen through f.
+fn looked_through(budget: &Budget, e: Term, f: Term) -> Option<Way> {
+    let g = seen_through(budget, e, f)?;
+    back_to_then(budget, e, f, g)
+}
 
-    /// The way from e back to `(then f g)`, for the g that is seen through f.
-    fn looked_through(&mut self, e: Term, f: Term) -> Option<Way> {
-        let g = self.seen_through(e, f)?;
-        self.back_to_then(e, f, g)
-    }
+/// The way from e back to `(then f g)`, where f carried into g leads to e.
+fn back_to_then(budget: &Budget, e: Term, f: Term, g: Term) -> Option<Way> {
+    let way = pushed(budget, Aim::Plain, then(f, g));
+    (way.to == e).then(|| Way { to: then(f, g), trail: way.trail.undone() })
+}
 
-    /// The way from e back to `(then f g)`, where f carried into g leads to e.
-    fn back_to_then(&mut self, e: Term, f: Term, g: Term) -> Option<Way> {
-        let way = self.pushed(Aim::Plain, f, g);
-        (way.to == e).then(|| Way { to: then(f, g), trail: way.trail.undone() })
+fn as_part(budget: &Budget, e: Term, changed: usize) -> Option<Way> {
+    let looks = [first_input(), second_input()];
+    let mut walk = Walk::of(e);
+    if e.op == Op::Input {
+        walk.backward(laws::PAIR_OF_PARTS, pair(looks[0], looks[1]));
     }
+    if walk.now.op != Op::Pair || walk.now.kids[1 - changed] != looks[1 - changed] {
+        return None;
+    }
+    let back = looked_through(budget, walk.now.kids[changed], looks[changed])?;
+    walk.inside(changed, |_| back);
+    Some(walk.done())
+}
 
-    /// The way from e back to `(then f g)`, where f carried into g leads to e, or to another expression of which what costs less, or what
-    /// has its terms in order, or its normal form is e.
-    fn as_then(&mut self, e: Term, f: Term, g: Term) -> Option<Way> {
-        let mut walk = Walk::of(then(f, g));
-        let plain = self.improved(Aim::Plain, f);
-        walk.follow_in(0, &plain);
-        let way = self.pushed(Aim::Plain, plain.to, g);
-        walk.follow(&way);
-        let reaches = |way: &Way| way.to == e;
-        let mut last = Way::still(walk.now);
-        for aim in [Aim::Cheap, Aim::Ordered, Aim::Normal] {
-            if reaches(&last) {
-                break;
-            }
-            last = self.reached(aim, walk.now);
-        }
-        if !reaches(&last) {
-            return None;
-        }
-        walk.follow(&last);
-        Some(Way { to: then(f, g), trail: walk.done().trail.undone() })
-    }
-
-    fn as_part(&mut self, e: Term, changed: usize) -> Option<Way> {
-        let looks = [first_input(), second_input()];
-        let mut walk = Walk::of(e);
-        if e.op == Op::Input {
-            walk.backward(laws::PAIR_OF_PARTS, pair(looks[0], looks[1]));
-        }
-        if walk.now.op != Op::Pair || walk.now.kids[1 - changed] != looks[1 - changed] {
-            return None;
-        }
-        let back = self.looked_through(walk.now.kids[changed], looks[changed])?;
-        walk.follow_in(changed as u32, &back);
-        Some(walk.done())
-    }
-
-    /// `(then h e')` where h is the dearest part that e computes more than once, and without which it doesn't use its input.
-    fn shared_at(&mut self, e: Term) -> Option<Way> {
-        let mut most = 0;
-        let mut best = None;
-        for (part, count) in parts_in(e) {
-            let dear = expr_cost(part).saturating_mul(count);
-            if count > 1 && dear > most {
-                if let Some(found) = self.looked_through(e, part) {
-                    most = dear;
-                    best = Some(found);
-                }
-            }
-        }
-        best
-    }
-
-    /// The expression with a part that it computes more than once computed once, where that costs less.
-    fn shared(&mut self, e: Term) -> Way {
-        if let Some(way) = self.shared.get(&e) {
-            return way.clone();
-        }
-        let mut least = expr_cost(e);
-        let mut best = None;
-        for (part, count) in parts_in(e) {
-            if count < 2 || expr_cost(part) < tuning::LEAST_SHARED {
-                continue;
-            }
-            if let Some(g) = self.seen_through(e, part) {
-                let cost = expr_cost(then(part, g));
-                if cost < least {
-                    least = cost;
-                    best = Some((part, g));
-                }
-            }
-        }
-        let way = best.and_then(|(part, g)| self.back_to_then(e, part, g)).unwrap_or_else(|| Way::still(e));
-        if self.is_whole() {
-            self.shared.insert(e, way.clone());
-        }
-        way
-    }
+/// The expression with a part that it computes more than once computed once, where that costs less.
+fn shared(budget: &Budget, e: Term) -> Way {
+    kept(
+        &SHARED,
+        e,
+        || budget.left() > 0,
+        || {
+            let dear = parts_in(e).into_iter().filter(|&(part, count)| count > 1 && expr_cost(part) >= tuning::LEAST_SHARED);
+            let seen = dear.filter_map(|(part, _)| seen_through(budget, e, part).map(|g| (expr_cost(then(part, g)), part, g)));
+            let best = seen.filter(|found| found.0 < expr_cost(e)).min_by_key(|found| found.0);
+            best.and_then(|(_, part, g)| back_to_then(budget, e, part, g)).unwrap_or_else(|| Way::still(e))
+        },
+    )
 }
 
 /// What stands in place of what, where an expression is seen through another.
@@ -596,6 +478,22 @@ impl Views {
         self.seen.entry(from).or_insert(to);
         self.all.push((from, to));
     }
+}
+
+/// Whether an operation is known at once of such a part, or of a branch of it.
+fn is_opened(op: Op, part: Term) -> bool {
+    match op {
+        _ if part.op == Op::If => part.kids[1..].iter().any(|branch| is_opened(op, branch)),
+        Op::Fst | Op::Snd => part.op == Op::Pair,
+        Op::On => matches!(part.op, Op::Event | Op::NoEvent),
+        Op::Nth | Op::Len => part.op == Op::List,
+        _ => part.op.is_literal(),
+    }
+}
+
+/// Whether the expression is made of pairs of what is simple.
+fn is_put_together(e: Term) -> bool {
+    is_simple(e) || e.op == Op::Pair && e.kids.iter().all(|kid| is_put_together(kid))
 }
 
 /// What becomes of a `then` before or behind `x`, or before a constant.
@@ -625,7 +523,7 @@ fn has_product(e: Term) -> bool {
 }
 
 /// The parts of e that stand at its own input, but for paths and constants, with how often each does; so many different ones at most.
-fn parts_in(e: Term) -> Vec<(Term, u64)> {
+pub fn parts_in(e: Term) -> Vec<(Term, u64)> {
     let is_part = |e: Term| !is_simple(e) && !e.is_constant();
     let mut counts = Memo::default();
     let mut parts = vec![];
@@ -668,46 +566,46 @@ impl Uses {
     }
 }
 
-impl Exprs {
-    /// Whether f carried into e is computed more than once where it was computed once, or a part of the pair that it is.
-    fn copies(&mut self, f: Term, e: Term) -> bool {
-        self.copies_at(f, e, input(), 0)
-    }
+/// Whether f carried into e is computed more than once where it was computed once, or a part of the pair that it is.
+pub fn copies(f: Term, e: Term) -> bool {
+    copies_at(f, e, input(), 0)
+}
 
-    /// The same for the part of f that e sees by the path, where so often e uses what that is in. A part of few operations may be copied
-    /// once.
-    fn copies_at(&mut self, part: Term, e: Term, path: Term, outer: u64) -> bool {
-        if is_simple(part) || part.is_constant() {
-            return false;
-        }
-        let uses = self.uses_of(e, path);
-        if part.op != Op::Pair {
-            let used = uses.any.saturating_add(outer);
-            let is_small = used <= tuning::MOST_COPIES && operations(part).map_or(false, |count| count <= tuning::MOST_COPIED);
-            return used > 1 && !is_small;
-        }
-        let whole = uses.whole.saturating_add(outer);
-        let half = |op: Op| node(op, &[path]);
-        self.copies_at(part.kids[0], e, half(Op::Fst), whole) || self.copies_at(part.kids[1], e, half(Op::Snd), whole)
+/// The same for the part of f that e sees by the path, where so often e uses what that is in. A part of few operations may be copied
+/// once.
+fn copies_at(part: Term, e: Term, path: Term, outer: u64) -> bool {
+    if is_simple(part) || part.is_constant() {
+        return false;
     }
+    let uses = uses_of(e, path);
+    if part.op != Op::Pair {
+        let used = uses.any.saturating_add(outer);
+        let is_small = used <= tuning::MOST_COPIES && operations(part).map_or(false, |count| count <= tuning::MOST_COPIED);
+        return used > 1 && !is_small;
+    }
+    let whole = uses.whole.saturating_add(outer);
+    let half = |op: Op| node(op, &[path]);
+    copies_at(part.kids[0], e, half(Op::Fst), whole) || copies_at(part.kids[1], e, half(Op::Snd), whole)
+}
 
-    /// How often e uses what the path leads to in its input.
-    fn uses_of(&mut self, e: Term, path: Term) -> Uses {
-        if is_path(e) {
-            return Uses { whole: u64::from(e == path), any: u64::from(begins_with(e, path)) };
-        }
-        if let Some(&uses) = self.uses.get(&(e, path)) {
-            return uses;
-        }
-        let used: Vec<Uses> = e.kids[..own_parts(e)].iter().map(|kid| self.uses_of(kid, path)).collect();
-        let uses = match e.op {
-            Op::If => used[0].and(used[1].or(used[2])),
-            Op::On => used[0].and(used[1].or(self.uses_of(e.kids[2], behind_first(path)))),
-            _ => used.into_iter().fold(Uses::default(), Uses::and),
-        };
-        self.uses.insert((e, path), uses);
-        uses
+/// How often e uses what the path leads to in its input.
+fn uses_of(e: Term, path: Term) -> Uses {
+    if is_path(e) {
+        return Uses { whole: u64::from(e == path), any: u64::from(begins_with(e, path)) };
     }
+    kept(
+        &USES,
+        (e, path),
+        || true,
+        || {
+            let used: Vec<Uses> = e.kids[..own_parts(e)].iter().map(|kid| uses_of(kid, path)).collect();
+            match e.op {
+                Op::If => used[0].and(used[1].or(used[2])),
+                Op::On => used[0].and(used[1].or(uses_of(e.kids[2], behind_first(path)))),
+                _ => used.into_iter().fold(Uses::default(), Uses::and),
+            }
+        },
+    )
 }
 
 /// How many operations the expression is, where it is arithmetic, comparisons and looking into lists alone.

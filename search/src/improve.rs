@@ -3,9 +3,8 @@
 //! At each place of a chain the first move that pays is made, then it goes on at the last stage that this touched. Types aren't looked at
 //! meanwhile: at the end the moves are taken as a check would take them, and one that it would reject is left out.
 use crate::chain::{behind, front, head, length, rest, seq, stage_way, stages};
-use crate::cost::{cost_before, net_cost, Next};
-use crate::draft::{joined, Budget, Clearing, Draft, Path, Step};
-use crate::exprs::{cheap, cheap_in_part};
+use crate::cost::{be_led, cost_before, has_lists, net_cost, Led, Next};
+use crate::draft::{joined, Budget, Clearing, Draft, Step};
 use crate::joining::loops_made_one;
 use crate::laws;
 use crate::memo::Memo;
@@ -13,6 +12,8 @@ use crate::moves::{cells_behind, windows, Built, Move, Shape, MOVES, WIDEST};
 use crate::optimise::optimised;
 use crate::print;
 use crate::read::MOST_BYTES;
+use crate::shorten::shortened;
+use crate::single::normal_form;
 use crate::term::{Op, Term};
 use crate::tuning;
 use crate::types::Replay;
@@ -24,39 +25,32 @@ pub const MOST_STEPS: usize = 10_000;
 pub type Found = (Term, Vec<Step>);
 
 /// The cheapest network that is found: what the search makes of the source, what `optimise` makes of it, and what the search makes of that.
-/// The source itself, and no step, where none costs less. The last isn't looked for where the first was more than a certificate holds.
+/// The source itself, and no step, where none costs less. A small one is searched again, led by less than all that it costs.
 pub fn improved(budget: &Budget, input: Term, source: Term) -> Found {
-    let mut search = Search::new();
     let mut best = (source, vec![]);
-    take_if_better(&mut best, searched(&mut search, budget, input, source));
-    if let Some((net, steps)) = optimised(input, source).filter(|found| found.0 != source) {
-        if !search.is_full() {
-            let (further, more) = searched(&mut search, budget, input, net);
-            take_if_better(&mut best, (further, [steps.clone(), more].concat()));
-        }
-        take_if_better(&mut best, (net, steps));
-    }
-    if net_cost(best.0) > net_cost(source) / tuning::MOST_LEFT.1 * tuning::MOST_LEFT.0 {
-        let further = cleared_in_part(budget, input, &best);
-        take_if_better(&mut best, further);
+    let ways = [Led::WithoutLists, Led::WithoutHeld, Led::ByAll];
+    let count = if source.size > tuning::MOST_TWICE { 1 } else { 2 + usize::from(has_lists(source)) };
+    for &led in &ways[..count] {
+        be_led(led);
+        let found = candidates(budget, input, source);
+        be_led(Led::ByAll);
+        found.into_iter().for_each(|found| take_if_better(&mut best, found));
     }
     best
 }
 
-/// What is found, with expressions that take too many steps cleared up in part.
-fn cleared_in_part(budget: &Budget, input: Term, found: &Found) -> Found {
-    let mut moves = vec![];
-    let mut todo = vec![(found.0, Path::new())];
-    while let Some((tree, path)) = todo.pop() {
-        if tree.op.is_net() {
-            todo.extend(tree.kids.iter().zip(0..).map(|(kid, k)| (*kid, joined(&path, &[k]))));
-        } else if cheap(budget, tree).to == tree {
-            let way = cheap_in_part(budget, tree, MOST_STEPS - found.1.len());
-            moves.push(way.steps().iter().map(|step| step.below(&path)).collect());
+/// What is found. What `optimise` makes isn't searched where the first was more than a certificate holds.
+fn candidates(budget: &Budget, input: Term, source: Term) -> Vec<Found> {
+    let mut search = Search::new();
+    let mut found = vec![searched(&mut search, budget, input, source)];
+    if let Some((net, steps)) = optimised(input, source).filter(|found| found.0 != source) {
+        if !search.is_full() {
+            let (further, more) = searched(&mut search, budget, input, net);
+            found.push((further, [steps.clone(), more].concat()));
         }
+        found.push((net, steps));
     }
-    let (net, more) = taken(input, found.0, moves);
-    (net, [found.1.clone(), more].concat())
+    found
 }
 
 /// Takes what was found in place of the best so far, where it costs less and is within the limits of certificates.
@@ -149,9 +143,11 @@ fn made_again(replay: &Replay, made: &[Step]) -> Option<Vec<Step>> {
 /// are made in what moves build.
 type Case = (Term, Next, usize, usize, u32);
 
-/// What is found for each network, how often what moves build is improved yet, and how many steps and bytes a certificate still holds.
+/// What is found for each network, how often what moves build is improved yet, how many steps and bytes a certificate still holds, and how
+/// much work normal forms may still take: nothing while one is improved.
 struct Search {
     room: (usize, usize),
+    forming: u64,
     shapes: Vec<(&'static Move, Shape)>,
     tries: u32,
     built: Memo<Case, Option<Draft>>,
@@ -174,13 +170,14 @@ fn case_of(draft: &Draft, next: Next, depth: u32) -> Case {
 
 impl Search {
     fn new() -> Search {
-        let shapes = MOVES.iter().filter(|moved| moved.is_for_cost).map(|moved| (moved, moved.shape())).collect();
-        Search { room: (0, 0), shapes, tries: 0, built: Memo::default(), parts: Memo::default(), fruitless: Memo::default() }
+        let shapes = MOVES.iter().map(|moved| (moved, moved.shape())).collect();
+        Search { room: (0, 0), forming: 0, shapes, tries: 0, built: Memo::default(), parts: Memo::default(), fruitless: Memo::default() }
     }
 
     /// The moves that make a network cost less.
     fn moves(&mut self, budget: &Budget, net: Term) -> Vec<Vec<Step>> {
         self.tries = tuning::MOST_TRIES;
+        self.forming = tuning::MOST_FORMING;
         self.room = (MOST_STEPS, MOST_BYTES);
         let mut draft = Draft::new(budget, net, 0, Clearing::ByCost);
         self.improve(&mut draft, Next::Nothing);
@@ -212,7 +209,34 @@ impl Search {
         let before = draft.steps.len();
         let done = self.settle(draft, next, tuning::MOST_BUILT);
         self.count(&draft.steps[before..]);
-        done
+        done?;
+        self.take_form(draft, next);
+        Some(())
+    }
+
+    /// Takes what the search makes of the network's normal form, where less stands in that than in the network, and it costs much less.
+    fn take_form(&mut self, draft: &mut Draft, next: Next) -> Option<()> {
+        let net = draft.net();
+        let few = Budget::new(self.forming);
+        if contents(net) == 0 || !few.spend(net.size) {
+            return None;
+        }
+        let formed = Some(normal_form(&few, net, draft.olds)).filter(|formed| formed.is_done && contents(formed.net) < contents(net));
+        self.forming = few.left();
+        let mut made = Draft::new(&draft.budget, net, draft.olds, draft.clearing);
+        made.room = draft.room;
+        made.took(&[], formed.as_ref()?.net, &formed?.steps)?;
+        let (room, forming) = (self.room, std::mem::take(&mut self.forming));
+        let done = self.improve(&mut made, next);
+        (self.room, self.forming) = (room, forming);
+        let cost = cost_before(net, next);
+        done.filter(|()| cost_before(made.net(), next) < cost - cost / tuning::LEAST_SAVED)?;
+        let steps = shortened(net, &made.steps);
+        self.count(&steps);
+        draft.end_move();
+        draft.took(&[], made.net(), &steps)?;
+        draft.end_move();
+        Some(())
     }
 
     /// Improves the stages of the chain, from the last to the first.
@@ -360,6 +384,25 @@ impl Search {
     }
 }
 
+/// How much stands in a network: what its loops, cells and accumulators keep, and all that isn't made of these, `first`s and `arr`s.
+fn contents(net: Term) -> u64 {
+    let own = match net.op {
+        Op::LoopPre | Op::IPre | Op::Hold => leaves(net.kids[0]),
+        Op::AccumBy => leaves(net.kids[1]),
+        Op::Arr | Op::Seq | Op::First => 0,
+        _ => 1,
+    };
+    net.kids.iter().filter(|kid| kid.op.is_net()).fold(own, |sum, kid| sum.saturating_add(contents(kid)))
+}
+
+/// How many parts a value has that are no pairs.
+fn leaves(e: Term) -> u64 {
+    match e.op {
+        Op::Pair => leaves(e.kids[0]).saturating_add(leaves(e.kids[1])),
+        _ => 1,
+    }
+}
+
 /// Improves the expressions of the chain's `arr`s.
 fn clear_stages(chain: &mut Draft) -> Option<()> {
     chain.flatten(&[])?;
@@ -481,6 +524,53 @@ mod tests {
             "(>>> (parB integral (delay 9 0) time) (arr (add (nth x 0 0) (nth x 2 0))))",
             &format!("(>>> (parB integral time) {})", two),
         );
+    }
+
+    #[test]
+    fn what_nothing_needs_goes() {
+        let sum = "(loopPre 0 (arr (pair (add (fst x) (snd x)) (fst x))))";
+        let longest = "(if (less (fst x) (snd (snd x))) (snd (snd x)) (fst x))";
+        is_found(&format!("(loopPre (pair 0 0) (arr (pair (add (fst x) (fst (snd x))) (pair (fst x) {}))))", longest), sum);
+        is_found("(loopPre 5 (arr (pair (add (fst x) (snd x)) 5)))", "(arr (add x 5))");
+        is_found("(>>> integral (>>> (arr (pair x x)) (>>> (first (delay 9 0)) (arr (snd x)))))", "integral");
+    }
+
+    #[test]
+    fn what_is_made_twice_is_made_once() {
+        let twice = "(>>> (arr (pair x x)) (>>> (first integral) (>>> (arr (pair (snd x) (fst x))) (first integral))))";
+        is_found(&format!("(>>> {} (arr (add (fst x) (snd x))))", twice), "(>>> integral (arr (mul x 2)))");
+    }
+
+    #[test]
+    fn what_is_shared_is_not_copied() {
+        let sum = "(add (fst x) (snd x))";
+        let dear = "(add (mul (add (fst x) (mul (snd x) 3)) (sub (fst x) 7)) (mul (fst x) (add (snd x) (mul (fst x) 5))))";
+        for shared in [sum, dear] {
+            for two in ["(pair x (add x x))", "(pair (mul x x) (sub x 1))"] {
+                let net = format!("(loopPre 0 (arr (then {} {})))", shared, two);
+                is_found(&net, &format!("(loopPre 0 (>>> (arr {}) (arr {})))", shared, two));
+            }
+        }
+        is_found(&format!("(loopPre 0 (arr (then {} (pair x x))))", dear), &format!("(loopPre 0 (>>> (arr {}) (arr (pair x x))))", dear));
+    }
+
+    #[test]
+    fn what_is_computed_again_is_handed_on_beside_the_input() {
+        let again = "(mul (add (mul x 3) 7) (mul (sub (mul x 5) 2) (add (mul x 11) 13)))";
+        let net = "(arr (pair (add E x) (pair (sub E x) (pair (mul E x) (less E x)))))".replace('E', again);
+        assert_eq!(print::text_of(found(&net).1).matches("(mul x 11)").count(), 1);
+    }
+
+    #[test]
+    fn members_compute_no_more_than_what_stands_before_them() {
+        let (net, better) =
+            found("(>>> (arr (mul (add (mul x 3) 7) (mul (sub (mul x 5) 2) (add (mul x 11) 13)))) (parB integral (iPre 0)))");
+        assert_eq!(net, better);
+    }
+
+    #[test]
+    fn constants_pass_cells() {
+        is_found("(>>> time (>>> (arr 5) (>>> (iPre 5) (delay 3 5))))", "(arr 5)");
     }
 
     #[test]

@@ -1,8 +1,10 @@
 //! The laws, from left to right: those of tools/workbench/laws.tsv that are two patterns, and the others by hand.
+use crate::cost::own_parts;
 use crate::read::{filled, fits, template, Letters};
 use crate::term::{int, node, truth, Op, Term};
 use std::cell::RefCell;
 use std::fmt;
+use std::rc::Rc;
 
 /// A law: `E` or `L`, and its number.
 #[derive(Clone, Copy, PartialEq, Eq, PartialOrd, Ord, Hash, Debug)]
@@ -21,90 +23,45 @@ pub const fn l(number: u8) -> Law {
     Law { is_of_nets: true, number }
 }
 
+/// The last version of certificates.
+pub const LAST_VERSION: u8 = 4;
+
 /// The number of the last law of expressions.
-pub const LAST_OF_EXPRS: u8 = 26;
+pub const LAST_OF_EXPRS: u8 = 55;
 
 /// The number of the last law of networks.
-pub const LAST_OF_NETS: u8 = 51;
+pub const LAST_OF_NETS: u8 = 65;
 
-// The laws' names. What a law says stands in tools/workbench/laws.tsv, and in docs/LAWS.md.
-pub const INPUT_BEFORE: Law = e(1);
-pub const INPUT_BEHIND: Law = e(2);
-pub const THEN_NEST: Law = e(3);
-pub const INTO_PARTS: Law = e(4);
-pub const INTO_ON: Law = e(5);
-pub const CONSTANT_BEHIND: Law = e(6);
-pub const FST_OF_PAIR: Law = e(7);
-pub const SND_OF_PAIR: Law = e(8);
-pub const PAIR_OF_PARTS: Law = e(9);
-pub const IF_TRUE: Law = e(10);
-pub const IF_FALSE: Law = e(11);
-pub const IF_SAME: Law = e(12);
-pub const ON_NONE: Law = e(13);
-pub const ON_EVENT: Law = e(14);
-pub const COMPUTE: Law = e(15);
-pub const ADD_SWAP: Law = e(16);
-pub const ADD_NEST: Law = e(17);
-pub const NTH_KNOWN: Law = e(18);
-pub const SUB_AS_ADD: Law = e(19);
-pub const MUL_SWAP: Law = e(20);
-pub const MUL_NEST: Law = e(21);
-pub const MUL_SUM: Law = e(22);
-pub const AND_OR: Law = e(23);
-pub const NOT_NOT: Law = e(24);
-pub const IF_NOT: Law = e(25);
-pub const EQUAL: Law = e(26);
-pub const IDENTITY_FRONT: Law = l(1);
-pub const IDENTITY_BACK: Law = l(2);
-pub const NEST: Law = l(3);
-pub const FUSE: Law = l(4);
-pub const FIRST_ARR: Law = l(5);
-pub const FIRST_CHAIN: Law = l(6);
-pub const EXCHANGE: Law = l(7);
-pub const FIRST_HEARD: Law = l(8);
-pub const FIRST_TWICE: Law = l(9);
-pub const FUSE_FRONT: Law = l(10);
-pub const CELL_PASS: Law = l(11);
-pub const CELL_PAIR: Law = l(12);
-pub const LOOP_IN: Law = l(13);
-pub const LOOP_OUT: Law = l(14);
-pub const LOOP_TURN: Law = l(15);
-pub const LOOP_INNER: Law = l(16);
-pub const LOOP_UNHEARD: Law = l(17);
-pub const HOLD_EVENT: Law = l(18);
-pub const HOLD_NONE: Law = l(19);
-pub const SOURCE: Law = l(20);
-pub const AFTER_MAP: Law = l(21);
-pub const REPEATEDLY_MAP: Law = l(22);
-pub const HOLD_MAP: Law = l(23);
-pub const ACCUM_MAP: Law = l(24);
-pub const CONSTANT: Law = l(25);
-pub const DELAY_PASS: Law = l(26);
-pub const SWITCH_IN: Law = l(27);
-pub const D_SWITCH_IN: Law = l(28);
-pub const SWITCH_OUT: Law = l(29);
-pub const D_SWITCH_OUT: Law = l(30);
-pub const SWITCH_NEVER: Law = l(31);
-pub const D_SWITCH_NEVER: Law = l(32);
-pub const SWITCH_FIRST: Law = l(33);
-pub const D_SWITCH_FIRST: Law = l(34);
-pub const R_SWITCH_NEVER: Law = l(35);
-pub const R_SWITCH_OUT: Law = l(36);
-pub const K_SWITCH_NEVER: Law = l(37);
-pub const K_SWITCH_RESUMED: Law = l(38);
-pub const P_SWITCH_NEVER: Law = l(39);
-pub const MEMBER: Law = l(40);
-pub const MEMBERS_IN: Law = l(41);
-pub const MEMBERS_ARR: Law = l(42);
-pub const INITIAL_TWICE: Law = l(43);
-pub const INITIAL_ARR: Law = l(44);
-pub const DR_SWITCH_OUT: Law = l(45);
-pub const RP_SWITCH_NEVER: Law = l(46);
-pub const LOOP_FIRST: Law = l(47);
-pub const HALVES: Law = l(48);
-pub const CELL_LOOP: Law = l(49);
-pub const HOLD_LOOP: Law = l(50);
-pub const LOOP_ACCUM: Law = l(51);
+/// Names laws by their numbers. What they say stands in tools/workbench/laws.tsv, and in docs/LAWS.md.
+macro_rules! names {
+    ($of:ident: $($name:ident = $number:literal,)*) => {
+        $(pub const $name: Law = $of($number);)*
+    };
+}
+
+names! { e:
+    INPUT_BEFORE = 1, INPUT_BEHIND = 2, THEN_NEST = 3, INTO_PARTS = 4, INTO_ON = 5, CONSTANT_BEHIND = 6,
+    FST_OF_PAIR = 7, SND_OF_PAIR = 8, PAIR_OF_PARTS = 9, IF_TRUE = 10, IF_FALSE = 11, IF_SAME = 12, ON_NONE = 13,
+    ON_EVENT = 14, COMPUTE = 15, ADD_SWAP = 16, ADD_NEST = 17, NTH_KNOWN = 18, SUB_AS_ADD = 19, MUL_SWAP = 20,
+    MUL_NEST = 21, MUL_SUM = 22, AND_OR = 23, NOT_NOT = 24, IF_NOT = 25, EQUAL = 26, ADD_ZERO = 27, MUL_ONE = 28,
+    MUL_ZERO = 29, NEG_NEG = 30, NEG_SUM = 31, NEG_PRODUCT = 32, ADD_NEG = 33, LESS_SAME = 34, AND_SAME = 35,
+    OR_SAME = 36, AND_NEST = 37, OR_NEST = 38, AND_NOT = 39, OR_NOT = 40, NOT_AND = 41, NOT_OR = 42, IF_TRUTH = 44,
+    IF_THEN_IF = 47, IF_ELSE_IF = 48, IF_OUT = 49, ON_OUT = 50, ON_ITSELF = 51, ON_SAME = 52, ON_THEN = 53,
+}
+
+names! { l:
+    IDENTITY_FRONT = 1, IDENTITY_BACK = 2, NEST = 3, FUSE = 4, FIRST_ARR = 5, FIRST_CHAIN = 6, EXCHANGE = 7,
+    FIRST_HEARD = 8, FIRST_TWICE = 9, FUSE_FRONT = 10, CELL_PASS = 11, CELL_PAIR = 12, LOOP_IN = 13, LOOP_OUT = 14,
+    LOOP_TURN = 15, LOOP_INNER = 16, LOOP_UNHEARD = 17, HOLD_EVENT = 18, HOLD_NONE = 19, SOURCE = 20,
+    AFTER_MAP = 21, REPEATEDLY_MAP = 22, HOLD_MAP = 23, ACCUM_MAP = 24, CONSTANT = 25, DELAY_PASS = 26,
+    SWITCH_IN = 27, D_SWITCH_IN = 28, SWITCH_OUT = 29, D_SWITCH_OUT = 30, SWITCH_NEVER = 31, D_SWITCH_NEVER = 32,
+    SWITCH_FIRST = 33, D_SWITCH_FIRST = 34, R_SWITCH_NEVER = 35, R_SWITCH_OUT = 36, K_SWITCH_NEVER = 37,
+    K_SWITCH_RESUMED = 38, P_SWITCH_NEVER = 39, MEMBER = 40, MEMBERS_IN = 41, MEMBERS_ARR = 42, INITIAL_TWICE = 43,
+    INITIAL_ARR = 44, DR_SWITCH_OUT = 45, RP_SWITCH_NEVER = 46, LOOP_FIRST = 47, HALVES = 48, CELL_LOOP = 49,
+    HOLD_LOOP = 50, LOOP_ACCUM = 51, COPIED = 52, HELD_ACCUM = 53, DR_SWITCH_NEVER = 54, DELAY_PAIR = 55,
+    R_SWITCH_IN = 56, DR_SWITCH_IN = 57, INITIAL_LAST = 58, INITIAL_FIRST = 59, INITIAL_BETWEEN = 60,
+    INITIAL_CELL = 61, INITIAL_EVENT = 62, INTEGRAL_ONE = 63, SWITCH_SAME = 64, D_SWITCH_SAME = 65,
+}
 
 /// The table that the tools in Python read too: a law a line, its name, its sides, and words on its letters.
 const TABLE: &str = include_str!("../../tools/workbench/laws.tsv");
@@ -129,7 +86,8 @@ impl Law {
         match (self.is_of_nets, self.number) {
             (false, 1..=18) | (true, 1..=42) => 1,
             (true, 43..=46) => 2,
-            _ => 3,
+            (false, 19..=26) | (true, 47..=51) => 3,
+            _ => LAST_VERSION,
         }
     }
 
@@ -138,21 +96,31 @@ impl Law {
     }
 }
 
-/// The laws that may be taken at a tree: those of networks, or of expressions, in their order.
+/// The laws that may be taken forward at a tree, by its form, in their order.
 pub fn laws_at(term: Term) -> impl Iterator<Item = Law> {
-    let is_of_nets = term.op.is_net();
-    let last = if is_of_nets { LAST_OF_NETS } else { LAST_OF_EXPRS };
-    (1..=last).map(move |number| Law { is_of_nets, number })
+    thread_local! {
+        static LAWS: RefCell<Vec<Option<Rc<[Law]>>>> = RefCell::new(vec![None; Op::Scope as usize + 1]);
+    }
+    let laws = LAWS.with(|laws| laws.borrow_mut()[term.op as usize].get_or_insert_with(|| laws_of_form(term.op)).clone());
+    (0..laws.len()).map(move |k| laws[k])
+}
+
+/// The laws that may be taken forward at trees of a form.
+fn laws_of_form(op: Op) -> Rc<[Law]> {
+    let all = if op.is_net() { (1..=LAST_OF_NETS).map(l as fn(u8) -> Law) } else { (1..=LAST_OF_EXPRS).map(e as fn(u8) -> Law) };
+    let of_form = |law: &Law| sides_of(*law).map_or(true, |(left, _)| left.op == op || left.op == Op::Letter);
+    all.filter(of_form).collect()
 }
 
 /// The laws that are no two patterns.
-const BY_HAND: [Law; 13] = [
+const BY_HAND: [Law; 14] = [
     INTO_PARTS,
     CONSTANT_BEHIND,
     COMPUTE,
     NTH_KNOWN,
     AND_OR,
     EQUAL,
+    IF_OUT,
     SOURCE,
     K_SWITCH_RESUMED,
     P_SWITCH_NEVER,
@@ -163,20 +131,21 @@ const BY_HAND: [Law; 13] = [
 ];
 
 /// The patterns of a law that is two.
-type Sides = Option<(Term, Term)>;
+pub type Sides = Option<(Term, Term)>;
 
 /// The sides of each law, by `index`.
 fn read_table() -> Vec<Sides> {
+    let rows: Vec<Vec<&'static str>> = TABLE.lines().map(|line| line.split('\t').collect()).collect();
     let mut sides = vec![None];
-    for line in TABLE.lines() {
-        let fields: Vec<&'static str> = line.split('\t').collect();
-        let is_by_hand = BY_HAND.iter().any(|law| law.to_string() == fields[0]);
-        sides.push(if is_by_hand { None } else { Some((template(fields[1]), template(fields[2]))) });
+    for law in (1..=LAST_OF_EXPRS).map(e).chain((1..=LAST_OF_NETS).map(l)) {
+        let row = rows.iter().find(|row| row[0] == law.to_string()).expect("a row of each law");
+        sides.push(if BY_HAND.contains(&law) { None } else { Some((template(row[1]), template(row[2]))) });
     }
     sides
 }
 
-fn sides_of(law: Law) -> Sides {
+/// The patterns of a law.
+pub fn sides_of(law: Law) -> Sides {
     thread_local! {
         static SIDES: RefCell<Vec<Sides>> = RefCell::new(read_table());
     }
@@ -199,6 +168,7 @@ pub fn forward(law: Law, tree: Term, olds: usize) -> Option<Term> {
         (NTH_KNOWN, Op::Nth, &[list, i, default]) => known_element(list, i, default),
         (AND_OR, Op::And | Op::Or, &[a, b]) => Some(decided(tree, a, b)),
         (EQUAL, Op::Equal, &[a, b]) => Some(if a == b { truth(true) } else { node(Op::Equal, &[b, a]) }),
+        (IF_OUT, op, _) if op.is_expr() => if_outside(tree),
         (SOURCE, Op::Seq, &[_, source]) => Some(source).filter(|s| matches!(s.op, Op::After | Op::Repeatedly | Op::Time)),
         (K_SWITCH_RESUMED, Op::KSwitch, &[f, _, t]) => Some(f).filter(|_| t.op == Op::Old && t.number == olds as i64),
         (P_SWITCH_NEVER, Op::PSwitch, kids) => routed_members(kids),
@@ -215,6 +185,13 @@ pub fn backward(law: Law, tree: Term) -> Option<Term> {
     let (left, right) = sides_of(law)?;
     let mut letters = Letters::new();
     Some(tree).filter(|_| fits(right, tree, &mut letters)).map(|_| filled(left, &letters))
+}
+
+/// `(if c (O .. a ..) (O .. b ..))` of `(O .. (if c a b) ..)`, whose first part that is an `if` this is, of those at the same input.
+fn if_outside(tree: Term) -> Option<Term> {
+    let k = tree.kids[..own_parts(tree)].iter().position(|kid| kid.op == Op::If)?;
+    let part = tree.kids[k];
+    Some(node(Op::If, &[part.kids[0], tree.with_kid(k, part.kids[1]), tree.with_kid(k, part.kids[2])]))
 }
 
 /// `(O (then f e1) .. (then f en))` of `(then f (O e1 .. en))`.
@@ -251,10 +228,8 @@ fn computed(op: Op, parts: &[Term]) -> Option<Term> {
 
 /// The element of a list at a known index, or the default.
 fn known_element(list: Term, i: Term, default: Term) -> Option<Term> {
-    if list.op != Op::List || list.kids.is_empty() || i.op != Op::Int {
-        return None;
-    }
-    Some(usize::try_from(i.number).ok().and_then(|i| list.kid(i)).unwrap_or(default))
+    let is_known = list.op == Op::List && !list.kids.is_empty() && i.op == Op::Int;
+    Some(usize::try_from(i.number).ok().and_then(|i| list.kid(i)).unwrap_or(default)).filter(|_| is_known)
 }
 
 /// What the first part of an `and` or `or` decides, else the two in the other order.
@@ -289,13 +264,8 @@ fn routed_members(kids: &[Term]) -> Option<Term> {
 
 /// The one member that an `arr` behind takes.
 fn one_member(members: Term, arr: Term) -> Option<Term> {
-    if members.op != Op::Par || arr.op != Op::Arr {
-        return None;
-    }
-    match (arr.kids[0].op, &*arr.kids[0].kids) {
-        (Op::Nth, &[list, i, _]) if list.op == Op::Input && i.op == Op::Int => members.kid(usize::try_from(i.number).ok()?),
-        _ => None,
-    }
+    let e = arr.kid(0).filter(|e| members.op == Op::Par && arr.op == Op::Arr && e.op == Op::Nth)?;
+    Some(e.kids[1]).filter(|i| e.kids[0].op == Op::Input && i.op == Op::Int).and_then(|i| members.kid(usize::try_from(i.number).ok()?))
 }
 
 /// Each member behind h.
@@ -319,40 +289,18 @@ fn first_members(arr: Term, switch: Term) -> Option<Term> {
 #[cfg(test)]
 mod tests {
     use super::*;
-    use crate::read::read_file;
-
-    /// Each example of docs/LAWS.md: its two sides.
-    fn examples() -> Vec<(String, Term, Term)> {
-        let page = include_str!("../../docs/LAWS.md");
-        let meant = |side: &str| {
-            side.replace("LEFT(neg x)", "(pair (then (fst x) (neg x)) (snd x))").replace("RIGHT(neg x)", "(pair (fst x) (then (snd x) (neg x)))").replace("MAP(neg x)", "(on x (none Int) (event (then (snd x) (neg x))))").replace("UNASSOC", "(pair (pair (fst x) (fst (snd x))) (snd (snd x)))").replace("ASSOC", "(pair (fst (fst x)) (pair (snd (fst x)) (snd x)))").replace("CROSS", "(pair (pair (fst (fst x)) (snd x)) (snd (fst x)))").replace("SWAP", "(pair (snd x) (fst x))").replace("HELD", "(on (fst x) (pair (snd x) (snd x)) (pair (snd x) (snd x)))").replace("ACCUM(add (fst x) (snd x))", "(on (fst x) (pair (none Int) (snd x)) (then (pair (snd (fst x)) (snd x)) (then (add (fst x) (snd x)) (pair (event x) x))))")
-        };
-        let mut found = vec![];
-        for block in page.split("```laws\n").skip(1) {
-            for row in block.split("```").next().unwrap_or("").lines() {
-                let cells: Vec<&str> = row.split(" | ").collect();
-                let side = |text: &str| {
-                    let net = if cells[0].starts_with('E') { format!("(arr {})", meant(text)) } else { meant(text) };
-                    let net = read_file(format!("yampa 2 input Int {}", net).as_bytes()).expect("an example").1;
-                    if cells[0].starts_with('E') {
-                        net.kids[0]
-                    } else {
-                        net
-                    }
-                };
-                found.push((cells[0].to_string(), side(cells[2]), side(cells[3])));
-            }
-        }
-        found
-    }
 
     #[test]
     fn examples_hold() {
-        let rows = examples();
-        assert!(rows.len() >= 77);
-        for (name, left, right) in rows {
-            let law = laws_at(left).find(|law| law.to_string() == name).expect("a law");
-            assert_eq!(forward(law, left, 0), Some(right), "{}", name);
+        let rows = include_str!("../../tests/rows/laws").lines().filter(|row| !row.is_empty() && !row.starts_with("; "));
+        let mut count = 0;
+        for cells in rows.map(|row| row.split(" | ").collect::<Vec<&'static str>>()) {
+            let sides = [cells[2], cells[3]].map(|side| filled(template(side), &[('T', node(Op::IntType, &[]))]));
+            if let Some(law) = laws_at(sides[0]).find(|law| law.to_string() == cells[0]) {
+                assert_eq!(forward(law, sides[0], 0), Some(sides[1]), "{}", law);
+                count += 1;
+            }
         }
+        assert!(count >= 120);
     }
 }

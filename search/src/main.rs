@@ -4,6 +4,7 @@
 //! printed on standard output, with status 0; else a line on standard error says why there is none, with status 1, or 3 where a file can't be
 //! read.
 mod acts;
+mod align;
 mod certify;
 mod chain;
 mod climb;
@@ -13,18 +14,16 @@ mod exprs;
 mod improve;
 mod joining;
 mod laws;
+mod lazily;
 mod meeting;
 mod memo;
 mod moves;
-mod normal;
 mod optimise;
 mod place;
 mod places;
 mod print;
 mod read;
-mod segments;
-mod shaping;
-mod short;
+mod sharing;
 mod shorten;
 mod single;
 mod sums;
@@ -93,11 +92,7 @@ fn answered(words: &[String]) -> i32 {
 
 /// Prints a text, and returns the status, or 3 where it can't be written.
 fn printed(text: &str, status: i32) -> i32 {
-    if std::io::stdout().write_all(text.as_bytes()).is_ok() {
-        status
-    } else {
-        3
-    }
+    std::io::stdout().write_all(text.as_bytes()).map_or(3, |()| status)
 }
 
 /// The input type and the network of a file.

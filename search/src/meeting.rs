@@ -4,12 +4,13 @@ use crate::place::Place;
 use crate::term::{hash_of, Term};
 use std::collections::HashMap;
 
-/// A tree, and the steps that were taken from it.
-pub struct Trail {
-    /// Where it begins.
-    pub start: Term,
-    /// The steps.
-    pub steps: Vec<Step>,
+/// Steps from each of two trees to a third.
+#[derive(Clone, Debug, Default)]
+pub struct Ways {
+    /// The steps from the one tree.
+    pub there: Vec<Step>,
+    /// The steps from the other.
+    pub back: Vec<Step>,
 }
 
 /// The hashes of the trees on a way, from its start to its end. None of them is made.
@@ -28,21 +29,21 @@ pub fn hashes_on(start: Term, steps: &[Step]) -> Vec<u64> {
     all
 }
 
-/// Cuts off the steps of two trails that end at one tree, behind where they meet with the fewest steps.
-pub fn cut_at_meeting(first: &mut Trail, second: &mut Trail) {
+/// Cuts off the steps from two trees that end at one, behind where they meet with the fewest steps.
+pub fn cut_at_meeting(first: Term, second: Term, ways: &mut Ways) {
     let mut places = HashMap::new();
-    for (j, hash) in hashes_on(second.start, &second.steps).into_iter().enumerate() {
+    for (j, hash) in hashes_on(second, &ways.back).into_iter().enumerate() {
         places.entry(hash).or_insert(j);
     }
-    let all = hashes_on(first.start, &first.steps);
+    let all = hashes_on(first, &ways.there);
     let meetings = all.iter().enumerate().filter_map(|(i, hash)| places.get(hash).map(|&j| (i, j)));
     if let Some((i, j)) = meetings.min_by_key(|(i, j)| i + j) {
-        first.steps.truncate(i);
-        second.steps.truncate(j);
+        ways.there.truncate(i);
+        ways.back.truncate(j);
     }
 }
 
-/// Takes a trail's steps below a path.
+/// Takes steps below a path.
 pub fn follow_all(draft: &mut Draft, path: &[u32], steps: &[Step]) -> Option<()> {
     steps.iter().try_for_each(|step| draft.follow(path, step))
 }

@@ -50,8 +50,28 @@ const OF_EXPRS: [Law; 14] = [
     laws::NTH_KNOWN,
 ];
 
+/// The laws by which stages go into loops and switches, and past cells.
+const GATHERING: [Law; 14] = [
+    laws::FIRST_CHAIN,
+    laws::LOOP_IN,
+    laws::LOOP_OUT,
+    laws::LOOP_INNER,
+    laws::SWITCH_IN,
+    laws::D_SWITCH_IN,
+    laws::SWITCH_OUT,
+    laws::D_SWITCH_OUT,
+    laws::R_SWITCH_OUT,
+    laws::DR_SWITCH_OUT,
+    laws::CELL_PASS,
+    laws::DELAY_PASS,
+    laws::LOOP_FIRST,
+    laws::DR_SWITCH_NEVER,
+];
+
 /// A walk over the network, a tree before its parts.
-struct Walk {
+struct Walk<'l> {
+    of_nets: &'l [Law],
+    of_exprs: &'l [Law],
     replay: Replay,
     steps: Vec<Step>,
     /// In which trees no law fits, where so many frozen networks are in scope.
@@ -62,12 +82,22 @@ struct Walk {
 
 /// The network to which `optimise` leads, and its steps.
 pub fn optimised(input: Term, net: Term) -> Option<(Term, Vec<Step>)> {
-    let mut walk = Walk { replay: Replay::new(input, net)?, steps: vec![], settled: Memo::default(), refused: 0 };
+    walked(input, net, &OF_NETS, &OF_EXPRS)
+}
+
+/// What laws of networks alone make of a network: as few stages as can be, which stand in loops and switches; and the steps.
+pub fn gathered(input: Term, net: Term) -> Option<(Term, Vec<Step>)> {
+    walked(input, net, &[&OF_NETS[..], &GATHERING[..]].concat(), &[])
+}
+
+/// The network to which the first laws that fit lead, and the steps.
+fn walked(input: Term, net: Term, of_nets: &[Law], of_exprs: &[Law]) -> Option<(Term, Vec<Step>)> {
+    let mut walk = Walk { of_nets, of_exprs, replay: Replay::new(input, net)?, steps: vec![], settled: Memo::default(), refused: 0 };
     while walk.steps.len() < MOST_OPTIMISED && walk.step_within(walk.replay.net(), &mut vec![], 0) {}
     Some((walk.replay.net(), walk.steps))
 }
 
-impl Walk {
+impl Walk<'_> {
     /// Takes the first step at a tree or in it, where there is one.
     fn step_within(&mut self, tree: Term, path: &mut Vec<u32>, olds: usize) -> bool {
         if self.settled.contains_key(&(tree, olds)) {
@@ -93,7 +123,7 @@ impl Walk {
 
     /// Takes the first step at a tree.
     fn step_at(&mut self, tree: Term, path: &[u32], olds: usize) -> bool {
-        let laws = if tree.op.is_net() { &OF_NETS[..] } else { &OF_EXPRS[..] };
+        let laws = if tree.op.is_net() { self.of_nets } else { self.of_exprs };
         for &law in laws {
             if let Some(after) = forward(law, tree, olds) {
                 let step = Step { law, ahead: true, at: path.to_vec(), before: tree, after };

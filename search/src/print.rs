@@ -1,9 +1,6 @@
 //! The one spelling of terms and of certificates.
 use crate::draft::Step;
-use crate::memo::Memo;
-use crate::read::form_of;
-use crate::term::{Follows, Op, Term};
-use std::cell::RefCell;
+use crate::term::{Follows, Op, Term, FORMS};
 
 /// A term's text.
 pub fn text_of(term: Term) -> String {
@@ -14,23 +11,14 @@ pub fn text_of(term: Term) -> String {
 
 /// A position's text.
 pub fn position(path: &[u32]) -> String {
-    let mut text = String::from("(at");
-    for k in path {
-        text.push(' ');
-        text.push_str(&k.to_string());
-    }
-    text.push(')');
-    text
+    let numbers: String = path.iter().map(|k| format!(" {}", k)).collect();
+    format!("(at{})", numbers)
 }
 
 /// A step's line.
 pub fn step(step: &Step) -> String {
-    let law = step.law;
-    if step.ahead {
-        format!("(step {} forward {})\n", law, position(&step.at))
-    } else {
-        format!("(step {} backward {} {})\n", law, position(&step.at), text_of(step.after))
-    }
+    let given = if step.ahead { String::new() } else { format!(" {}", text_of(step.after)) };
+    format!("(step {} {} {}{})\n", step.law, if step.ahead { "forward" } else { "backward" }, position(&step.at), given)
 }
 
 /// The text of a certificate with these steps, of the first version that has them.
@@ -53,42 +41,10 @@ pub fn length(steps: &[Step]) -> usize {
 
 /// How many bytes a step's line has.
 pub fn step_length(step: &Step) -> usize {
-    let (words, tree) = if step.ahead { ("(step  forward )\n".len(), 0) } else { ("(step  backward  )\n".len(), length_of(step.after)) };
-    let numbers: usize = step.at.iter().map(|&k| 1 + digits(k)).sum();
-    words + step.law.to_string().len() + "(at)".len() + numbers + tree
-}
-
-/// How many digits a number has.
-fn digits(number: u32) -> usize {
-    let mut count = 1;
-    let mut rest = number / 10;
-    while rest > 0 {
-        count += 1;
-        rest /= 10;
-    }
-    count
-}
-
-/// How many bytes a term's text has. It is told once of each.
-fn length_of(term: Term) -> usize {
-    thread_local! {
-        static KNOWN: RefCell<Memo<Term, usize>> = RefCell::new(Memo::default());
-    }
-    if term.kids.is_empty() {
-        return text_of(term).len();
-    }
-    if let Some(length) = KNOWN.with(|known| known.borrow().get(&term).copied()) {
-        return length;
-    }
-    let (word, follows) = form_of(term);
-    let own = match follows {
-        Follows::Number(_) => 1 + term.number.to_string().len(),
-        Follows::Column(..) => "(col )".len(),
-        _ => term.ty.map_or(0, |ty| 1 + length_of(ty)),
-    };
-    let length = "()".len() + word.len() + own + term.kids.iter().map(|kid| 1 + length_of(kid)).sum::<usize>();
-    KNOWN.with(|known| known.borrow_mut().insert(term, length));
-    length
+    let digits = |k: u32| std::iter::successors(Some(k), |&rest| Some(rest / 10).filter(|&rest| rest > 0)).count();
+    let numbers: usize = step.at.iter().map(|&k| " ".len() + digits(k)).sum();
+    let given = if step.ahead { "forward".len() } else { "backward ".len() + step.after.length as usize };
+    "(step   (at))\n".len() + step.law.to_string().len() + numbers + given
 }
 
 fn print(term: Term, text: &mut String) {
@@ -100,7 +56,7 @@ fn print(term: Term, text: &mut String) {
 }
 
 fn print_form(term: Term, text: &mut String) {
-    let (word, follows) = form_of(term);
+    let &(word, _, follows, _) = &FORMS[term.op as usize];
     if follows == Follows::Children(0) {
         return text.push_str(word);
     }

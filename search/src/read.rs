@@ -2,7 +2,7 @@
 //!
 //! What it takes is held to the grammar by the proved program, which reads each file first: here it is enough that no text is taken for
 //! another one, and that none makes the reader fail.
-use crate::term::{int, node, put, Follows, Node, Op, Term, FORMS};
+use crate::term::{int, put, Follows, Op, Term, ANY_NUMBER, FORMS};
 use std::cell::RefCell;
 use std::collections::HashMap;
 
@@ -11,9 +11,6 @@ pub const MOST_BYTES: usize = 1 << 20;
 
 /// The most parentheses that are open at once.
 pub const MOST_OPEN: usize = 600;
-
-/// The number of a form in a template where that is a letter.
-const ANY_NUMBER: i64 = -1;
 
 /// The letter of such a number.
 const NUMBER_LETTER: char = 'q';
@@ -42,6 +39,7 @@ const MEANINGS: &[(&str, &str, &str)] = &[
     ("UNASSOC", "", "(pair (pair (fst x) (fst (snd x))) (snd (snd x)))"),
     ("CROSS", "", "(pair (pair (fst (fst x)) (snd x)) (snd (fst x)))"),
     ("HELD", "", "(on (fst x) (pair (snd x) (snd x)) (pair (snd x) (snd x)))"),
+    ("HELD_ACCUM", "g", "(on (fst x) (pair (snd x) (snd x)) (then (pair (snd (fst x)) (snd x)) (then g (pair x x))))"),
     ("LEFT", "g", "(pair (then (fst x) g) (snd x))"),
     ("RIGHT", "g", "(pair (fst x) (then (snd x) g))"),
     ("MAP", "g", "(on x (none T) (event (then (snd x) g)))"),
@@ -53,16 +51,6 @@ pub type Letters = Vec<(char, Term)>;
 
 /// Why a text isn't a network: the first byte that doesn't fit.
 pub type Fault = usize;
-
-/// What kind of tree is wanted at a place.
-#[derive(Clone, Copy, PartialEq, Eq)]
-enum Kind {
-    Type,
-    Expr,
-    Net,
-    /// Any, of a template.
-    Any,
-}
 
 struct Reader<'t> {
     text: &'t [u8],
@@ -78,14 +66,9 @@ pub fn read_file(text: &[u8]) -> Result<(Term, Term), Fault> {
     if text.len() > MOST_BYTES || reader.word()? != "yampa" || !matches!(reader.word()?, "1" | "2") || reader.word()? != "input" {
         return Err(0);
     }
-    let input = reader.tree(Kind::Type)?;
-    let net = reader.tree(Kind::Net)?;
-    reader.skip_blanks();
-    if reader.at == text.len() {
-        Ok((input, net))
-    } else {
-        Err(reader.at)
-    }
+    let (input, net) = (reader.tree()?, reader.tree()?);
+    let is_whole = reader.next().is_none() && input.op.is_type() && net.op.is_net();
+    Some((input, net)).filter(|_| is_whole).ok_or(reader.at)
 }
 
 /// The pattern of a template; panics where it is none, since templates stand in this program's text.
@@ -97,7 +80,7 @@ pub fn template(text: &'static str) -> Term {
         return found;
     }
     let mut reader = Reader { text: text.as_bytes(), at: 0, open: 0, is_template: true };
-    let found = reader.tree(Kind::Any).and_then(|found| if reader.next().is_none() { Ok(found) } else { Err(reader.at) });
+    let found = reader.tree().and_then(|found| if reader.next().is_none() { Ok(found) } else { Err(reader.at) });
     let pattern = found.unwrap_or_else(|at| panic!("template {} at {}", text, at));
     READ.with(|read| read.borrow_mut().insert(text, pattern));
     pattern
@@ -110,10 +93,11 @@ pub fn of(text: &'static str, letters: &[(char, Term)]) -> Term {
 
 /// A pattern with what stands for its letters; other letters stay.
 pub fn filled(pattern: Term, letters: &[(char, Term)]) -> Term {
-    match pattern.op {
-        Op::Letter => return meant(pattern.number, letters).unwrap_or(pattern),
-        Op::Int => return pattern,
-        _ => {}
+    if pattern.op == Op::Letter {
+        return meant(pattern.number, letters).unwrap_or(pattern);
+    }
+    if !pattern.has_letter {
+        return pattern;
     }
     let kids: Vec<Term> = pattern.kids.iter().map(|kid| filled(kid, letters)).collect();
     let ty = pattern.ty.map(|ty| filled(ty, letters));
@@ -133,19 +117,14 @@ pub fn fits(pattern: Term, term: Term, letters: &mut Letters) -> bool {
     if pattern.op == Op::Letter {
         return stands_for(pattern.number, term, letters);
     }
-    if pattern.op != term.op || pattern.kids.len() != term.kids.len() {
-        return false;
+    if !pattern.has_letter {
+        return pattern == term;
     }
-    if pattern.number == ANY_NUMBER && pattern.op != Op::Int {
-        letters.push((NUMBER_LETTER, int(term.number)));
-    } else if pattern.number != term.number {
-        return false;
-    }
-    let same_type = match (pattern.ty, term.ty) {
-        (Some(ty), Some(other)) => fits(ty, other, letters),
-        (ty, other) => ty == other,
-    };
-    same_type && pattern.kids.iter().zip(&term.kids).all(|(kid, other)| fits(kid, other, letters))
+    let is_like = pattern.op == term.op && pattern.kids.len() == term.kids.len() && pattern.ty.is_some() == term.ty.is_some();
+    let mut is_letter = || pattern.number == ANY_NUMBER && stands_for(i64::from(u32::from(NUMBER_LETTER)), int(term.number), letters);
+    let has_number = is_like && (pattern.number == term.number || is_letter());
+    let mut parts = pattern.kids.iter().chain(&pattern.ty).zip(term.kids.iter().chain(&term.ty));
+    has_number && parts.all(|(part, other)| fits(part, other, letters))
 }
 
 fn stands_for(letter: i64, term: Term, letters: &mut Letters) -> bool {
@@ -215,88 +194,36 @@ impl<'t> Reader<'t> {
         Ok(())
     }
 
-    /// A tree of a kind.
-    fn tree(&mut self, kind: Kind) -> Result<Term, Fault> {
-        if self.next() != Some(b'(') {
-            return self.word_tree(kind);
+    /// A tree.
+    fn tree(&mut self) -> Result<Term, Fault> {
+        let is_open = self.next() == Some(b'(');
+        if is_open {
+            self.opened()?;
         }
-        self.opened()?;
         let from = self.at;
         let word = self.word()?;
-        let found = match FORMS.iter().find(|form| form.0 == word) {
-            Some(&(_, op, follows)) => self.parts(op, follows)?,
-            None => self.shorter(word, SHORTER).ok_or(from)??,
+        let form = FORMS.iter().find(|form| form.0 == word && (is_open || form.2 == Follows::Children(0)));
+        let found = match form {
+            Some(&(_, op, follows, _)) => self.parts(op, follows)?,
+            None if !is_open && word.starts_with(|c: char| c == '-' || c.is_ascii_digit()) => number(word).map(int).ok_or(from)?,
+            None => self.meaning(word).ok_or(from)??,
         };
-        self.closed()?;
-        self.of_kind(kind, found, from)
+        if is_open {
+            self.closed()?;
+        }
+        Ok(found)
     }
 
-    /// A tree that is one word.
-    fn word_tree(&mut self, kind: Kind) -> Result<Term, Fault> {
-        let from = self.at;
-        let word = self.word()?;
-        if kind != Kind::Net && kind != Kind::Type && word.starts_with(|c: char| c == '-' || c.is_ascii_digit()) {
-            return number(word).map(int).ok_or(from);
-        }
-        if let Some(&(_, op, _)) = FORMS.iter().find(|form| form.0 == word && form.2 == Follows::Children(0)) {
-            return self.of_kind(kind, node(op, &[]), from);
-        }
-        if self.is_template {
-            return self.letter(word).ok_or(from)?;
-        }
-        match SHORTER.iter().find(|short| short.0 == word && short.1.is_empty()) {
-            Some(short) => self.of_kind(kind, template(short.2), from),
-            None => Err(from),
-        }
-    }
-
-    /// The tree, where it is of the kind.
-    fn of_kind(&self, kind: Kind, tree: Term, from: usize) -> Result<Term, Fault> {
-        let is_it = match kind {
-            Kind::Any => true,
-            Kind::Net => tree.op.is_net(),
-            Kind::Expr => tree.op.is_expr(),
-            Kind::Type => !tree.op.is_net() && !tree.op.is_expr(),
-        };
-        if is_it || self.is_template {
-            Ok(tree)
-        } else {
-            Err(from)
-        }
-    }
-
-    /// A letter, a word in capitals or a shorter way, in a template.
-    fn letter(&mut self, word: &str) -> Option<Result<Term, Fault>> {
+    /// What a word means that is no form's: in a template a letter, or a word in capitals; or a shorter way, whose parts stand behind it.
+    fn meaning(&mut self, word: &str) -> Option<Result<Term, Fault>> {
         let mut all = word.chars();
-        if let (Some(name), None) = (all.next(), all.next()) {
+        if let (true, Some(name), None) = (self.is_template, all.next(), all.next()) {
             return Some(Ok(put(Op::Letter, i64::from(u32::from(name)), None, &[])));
         }
-        if let Some(&(_, _, text)) = SHORTER.iter().chain(MEANINGS).find(|short| short.0 == word && short.1.is_empty()) {
-            return Some(Ok(template(text)));
-        }
-        let meaning = MEANINGS.iter().find(|short| short.0 == word)?;
-        let inner = self.opened().and_then(|()| self.tree(Kind::Expr)).and_then(|inner| self.closed().map(|()| inner));
-        Some(inner.map(|inner| filled(template(meaning.2), &[('g', inner)])))
-    }
-
-    /// What a shorter way with these parts means.
-    fn shorter(&mut self, word: &str, ways: &[(&str, &str, &'static str)]) -> Option<Result<Term, Fault>> {
-        let &(_, parameters, text) = ways.iter().find(|short| short.0 == word && !short.1.is_empty())?;
-        let is_net = template(text).op.is_net();
-        let mut letters = Letters::new();
-        for name in parameters.chars() {
-            let kind = match name {
-                'T' => Kind::Type,
-                'f' => Kind::Net,
-                'g' if word != "accumHoldBy" && is_net => Kind::Net,
-                _ => Kind::Expr,
-            };
-            match self.tree(kind) {
-                Ok(part) => letters.push((name, part)),
-                Err(fault) => return Some(Err(fault)),
-            }
-        }
-        Some(Ok(filled(template(text), &letters)))
+        let more = if self.is_template { MEANINGS } else { &[] };
+        let &(_, parameters, text) = SHORTER.iter().chain(more).find(|short| short.0 == word)?;
+        let parts: Result<Letters, Fault> = parameters.chars().map(|name| self.tree().map(|part| (name, part))).collect();
+        Some(parts.map(|letters| filled(template(text), &letters)))
     }
 
     /// The parts of a form, behind its word.
@@ -309,23 +236,22 @@ impl<'t> Reader<'t> {
                 count
             }
             Follows::Type | Follows::Elements => {
-                ty = Some(self.tree(Kind::Type)?);
+                ty = Some(self.tree()?);
                 0
             }
             Follows::Members => 0,
             Follows::Column(before, behind) => {
-                self.kids(op, before, &mut kids)?;
+                self.kids(before, &mut kids)?;
                 self.column(&mut kids)?;
                 behind
             }
         };
-        self.kids(op, count, &mut kids)?;
+        self.kids(count, &mut kids)?;
         if matches!(follows, Follows::Members | Follows::Elements) {
-            while self.next() != Some(b')') {
-                self.kids(op, 1, &mut kids)?;
-            }
+            self.more_kids(&mut kids)?;
         }
-        Ok(put(op, own, ty, &kids))
+        let are_of_kind = kids.iter().all(|kid| kid.op.is_type() == op.is_type()) && ty.map_or(true, |ty| ty.op.is_type());
+        Some(put(op, own, ty, &kids)).filter(|_| self.is_template || are_of_kind).ok_or(self.at)
     }
 
     fn own_number(&mut self) -> Result<i64, Fault> {
@@ -339,15 +265,14 @@ impl<'t> Reader<'t> {
     }
 
     /// So many further children of a form.
-    fn kids(&mut self, op: Op, count: usize, kids: &mut Vec<Term>) -> Result<(), Fault> {
-        for _ in 0..count {
-            let kind = if is_net_child(op, kids.len()) { Kind::Net } else { Kind::Expr };
-            let kind = match op {
-                Op::PairType | Op::EventType | Op::ListType => Kind::Type,
-                Op::RpSwitch if kids.last().map_or(false, |last: &Term| last.op.is_expr()) => Kind::Net,
-                _ => kind,
-            };
-            kids.push(self.tree(kind)?);
+    fn kids(&mut self, count: usize, kids: &mut Vec<Term>) -> Result<(), Fault> {
+        (0..count).try_for_each(|_| self.tree().map(|kid| kids.push(kid)))
+    }
+
+    /// All children that are left of a form.
+    fn more_kids(&mut self, kids: &mut Vec<Term>) -> Result<(), Fault> {
+        while self.next() != Some(b')') {
+            kids.push(self.tree()?);
         }
         Ok(())
     }
@@ -359,19 +284,8 @@ impl<'t> Reader<'t> {
         if self.word()? != "col" {
             return Err(from);
         }
-        while self.next() != Some(b')') {
-            kids.push(self.tree(Kind::Net)?);
-        }
+        self.more_kids(kids)?;
         self.closed()
-    }
-}
-
-/// Whether child k of a form is a network, but of `rpSwitchB` the one behind its expression.
-fn is_net_child(op: Op, k: usize) -> bool {
-    match op {
-        Op::LoopPre | Op::InitialOut | Op::InitialIn | Op::PSwitch => k > 0,
-        Op::Arr | Op::IPre | Op::Delay | Op::Hold | Op::AccumBy | Op::After | Op::Repeatedly | Op::RpSwitch => false,
-        _ => op.is_net(),
     }
 }
 
@@ -380,12 +294,4 @@ fn number(word: &str) -> Option<i64> {
     let digits = word.strip_prefix('-').unwrap_or(word);
     let is_spelt = digits.bytes().all(|b| b.is_ascii_digit()) && (word == "0" || !digits.starts_with('0'));
     word.parse().ok().filter(|_| is_spelt)
-}
-
-/// A node's word, and what follows it.
-pub fn form_of(node: &Node) -> (&'static str, Follows) {
-    match FORMS.iter().find(|form| form.1 == node.op) {
-        Some(&(word, _, follows)) => (word, follows),
-        None => ("?", Follows::Children(0)),
-    }
 }

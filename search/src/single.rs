@@ -1,38 +1,45 @@
 //! Networks as at most one loop round one chain `(arr (pair e1 x)) (first b1) (arr (pair e2 x)) (first b2) .. (arr out)`.
 //!
 //! Each stage adds what a box outputs to all that was there. Cells, holds and accumulators become states of the loop.
-use crate::acts::told_type;
 use crate::chain::behind;
 use crate::draft::{joined, undone, Budget, Clearing, Draft, Step};
 use crate::exprs::{normal, pair, then};
 use crate::joining::accumulator_as_loop;
 use crate::laws::{self, Law};
 use crate::read::{of, template};
-use crate::term::{node, Op, Term};
-use crate::tuning::{LOOK, MOST_SINGLE_SIZE, MOST_SINGLE_STEPS};
-use crate::wires::reduce;
+use crate::term::{node, put, Op, Term};
+use crate::tuning::{LOOK, MOST_BESIDE, MOST_SINGLE_SIZE, MOST_SINGLE_STEPS};
+use crate::types::told_type;
+use crate::wires::{places, reduce, wire, Graph, WIRE};
 
-/// The steps of both networks to one such network, where they come to one.
-pub fn single_alike(budget: &Budget, nets: (Term, Term), olds: (usize, usize)) -> Option<(Vec<Step>, Vec<Step>)> {
-    if nets.0.size.saturating_add(nets.1.size) > MOST_SINGLE_SIZE {
-        return None;
+/// A network as such a one, without what nothing needs, with the steps.
+pub struct Formed {
+    /// The network.
+    pub net: Term,
+    /// The steps.
+    pub steps: Vec<Step>,
+    /// Whether it is that, which nothing kept the search from.
+    pub is_done: bool,
+}
+
+/// The normal form of a network, where so many frozen networks are in scope, as far as the search comes.
+pub fn normal_form(budget: &Budget, net: Term, olds: usize) -> Formed {
+    let mut d = Draft::new(budget, net, olds, Clearing::Always);
+    if net.size <= MOST_SINGLE_SIZE && reduced(&mut d, &[]).is_some() {
+        return Formed { net: d.net(), steps: d.steps, is_done: budget.is_whole() };
     }
-    let mut there = Draft::new(budget, nets.0, olds.0, Clearing::Always);
-    let mut back = Draft::new(budget, nets.1, olds.1, Clearing::Always);
-    reduced(&mut there, &[])?;
-    reduced(&mut back, &[])?;
-    let is_one = there.net() == back.net();
-    Some((there.steps, back.steps)).filter(|_| is_one)
+    Formed { net, steps: vec![], is_done: false }
 }
 
 /// Makes the network at a path such a one.
 pub fn single(d: &mut Draft, path: &[u32]) -> Option<()> {
     if !d.budget.spend(LOOK) || d.steps.len() > MOST_SINGLE_STEPS {
+        d.budget.cut();
         return None;
     }
     match d.at(path)?.op {
         Op::Arr => d.clear(&joined(path, &[0])),
-        Op::Seq if takes(d, &[laws::R_SWITCH_NEVER, laws::MEMBER], path) => single(d, path),
+        Op::Seq if takes(d, &[laws::R_SWITCH_NEVER, laws::DR_SWITCH_NEVER, laws::MEMBER], path) => single(d, path),
         Op::Seq => chain(d, path),
         Op::First => first(d, path),
         Op::LoopPre => {
@@ -52,6 +59,10 @@ pub fn single(d: &mut Draft, path: &[u32]) -> Option<()> {
         }
     }
 }
+
+/// The laws that make less of a box.
+const BOX_LAWS: &[Law] =
+    &[laws::K_SWITCH_NEVER, laws::INITIAL_TWICE, laws::INITIAL_ARR, laws::INITIAL_CELL, laws::SWITCH_SAME, laws::D_SWITCH_SAME];
 
 /// Takes the first of these laws that fits; whether one does.
 fn takes(d: &mut Draft, laws: &[Law], path: &[u32]) -> bool {
@@ -87,10 +98,45 @@ fn is_opened(d: &mut Draft, path: &[u32]) -> Option<bool> {
         }
     }
     Some(
-        takes(d, &[laws::K_SWITCH_NEVER, laws::INITIAL_TWICE, laws::INITIAL_ARR], path)
+        takes(d, BOX_LAWS, path)
             || event_of_unit(d, path).is_some()
-            || never(d, path).is_some(),
+            || never(d, path).is_some()
+            || members(d, path).is_some()
+            || first_of_constant(d, path).is_some(),
     )
+}
+
+/// A first output before a constant as a cell of that constant.
+fn first_of_constant(d: &mut Draft, path: &[u32]) -> Option<()> {
+    let constant = d.at(path).filter(|net| net.op == Op::InitialOut && net.kids[1].op == Op::Arr)?.kids[1].kids[0];
+    let way = joined(path, &[1]);
+    go_back_by(d, &way, of("(>>> (arr k) (iPre k))", &[('k', constant)]), reduced)?;
+    d.forward(laws::INITIAL_LAST, path)?;
+    d.forward(laws::INITIAL_CELL, &way)
+}
+
+/// Members, which get the same, as a list of what boxes behind one another output, where the form of one tells the type of that.
+fn members(d: &mut Draft, path: &[u32]) -> Option<()> {
+    let all = d.at(path).filter(|net| net.op == Op::Par && net.kids.len() <= MOST_BESIDE)?;
+    let element = all.kids.iter().find_map(|f| told_output(&d.budget, f))?;
+    let (last, others) = all.kids.split_last()?;
+    let front = others.iter().rev().fold(*last, |more, f| of("(&&& f g)", &[('f', f), ('g', more)]));
+    let parts: Vec<Term> = places(all.kids.len(), template("x"));
+    for (k, part) in (0..).zip(&parts) {
+        let way = joined(path, &[k]);
+        go_back_by(d, &way, of("(>>> f (arr e))", &[('f', front), ('e', part)]), reduced)?;
+    }
+    let looks = parts.iter().map(|&part| node(Op::Arr, &[part])).collect::<Vec<Term>>();
+    d.backward(laws::MEMBERS_IN, path, node(Op::Seq, &[front, node(Op::Par, &looks)]))?;
+    d.backward(laws::MEMBERS_ARR, &joined(path, &[1]), node(Op::Arr, &[put(Op::List, 0, Some(element), &parts)]))
+}
+
+/// The type of what such a network outputs, where its form tells that.
+fn told_output(budget: &Budget, net: Term) -> Option<Term> {
+    let graph = Graph::of(budget, Form::read(net)?)?;
+    let own = graph.wires.iter().position(|&wire| wire == graph.shown).map(|i| graph.form.stages[i].1);
+    let state = (1..).zip(&graph.states).find(|(k, _)| wire(WIRE + k) == graph.shown).map(|(_, state)| state.start);
+    told_type(own.or(state).unwrap_or(graph.shown))
 }
 
 /// Makes the network at a path such a one, without what nothing needs.
@@ -188,13 +234,15 @@ fn never(d: &mut Draft, path: &[u32]) -> Option<()> {
 
 /// Goes back from such a network at a path to a network of which it is made.
 pub fn go_back(d: &mut Draft, path: &[u32], wanted: Term) -> Option<()> {
+    go_back_by(d, path, wanted, single)
+}
+
+/// Goes back from what stands at a path to a network of which that makes it.
+fn go_back_by(d: &mut Draft, path: &[u32], wanted: Term, making: fn(&mut Draft, &[u32]) -> Option<()>) -> Option<()> {
     let mut made = Draft::new(&d.budget, wanted, d.olds_at(path), Clearing::Always);
-    single(&mut made, &[])?;
-    if d.at(path)? != made.net() {
-        return None;
-    }
-    let steps: Vec<Step> = undone(&made.steps);
-    d.took(path, wanted, &steps)
+    making(&mut made, &[])?;
+    Some(()).filter(|()| d.at(path) == Some(made.net()))?;
+    d.took(path, wanted, &undone(&made.steps))
 }
 
 /// Turns the expression at a path into another one of the same normal form.
@@ -274,8 +322,14 @@ pub fn flat(d: &mut Draft, path: &[u32]) -> Option<()> {
 fn tidy(d: &mut Draft, path: &[u32]) -> Option<()> {
     let mut way = path.to_vec();
     while d.at(&way)?.op != Op::Arr {
+        if d.at(&way)?.op == Op::First {
+            d.back(laws::IDENTITY_BACK, &way)?;
+        }
         if d.at(&joined(&way, &[0]))?.op == Op::First {
             d.back(laws::IDENTITY_FRONT, &way)?;
+        }
+        if d.at(&joined(&way, &[1]))?.op == Op::First {
+            d.back(laws::IDENTITY_BACK, &joined(&way, &[1]))?;
         }
         let b = d.at(&joined(&way, &[1, 0, 0]))?;
         let e = d.at(&joined(&way, &[0, 0]))?;
@@ -352,13 +406,18 @@ impl Form {
 
     /// The network.
     pub fn write(&self) -> Term {
-        self.upto(self.stages.len(), node(Op::Arr, &[self.out]))
+        self.upto(0, self.rest(0))
     }
 
     /// So many of its stages, then another chain.
     pub fn upto(&self, count: usize, tail: Term) -> Term {
         let chain = chain_of(&self.stages[..count], tail);
         self.init.map_or(chain, |init| node(Op::LoopPre, &[init, chain]))
+    }
+
+    /// The chain from a stage on.
+    pub fn rest(&self, from: usize) -> Term {
+        chain_of(&self.stages[from..], node(Op::Arr, &[self.out]))
     }
 
     /// The way to a stage, where the network stands at a path.

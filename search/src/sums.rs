@@ -1,25 +1,37 @@
 //! Expressions cleared up at their root: what is known is computed, and the terms of sums and the factors of products are put in order.
+use crate::chain::links;
 use crate::exprs::Aim;
 use crate::laws::{self, Law};
-use crate::term::{node, Op, Term};
+use crate::term::{int, node, Op, Term};
 use crate::trail::{Walk, Way};
 use crate::tuning;
 use std::cmp::Ordering;
 
-/// What the first law of its form that fits makes of the expression, whose parts are done; of a sum or product its terms in order, of an
-/// `and`, `or` or `equal` what a part decides, and for the normal form of a difference or a product of sums a sum.
-pub fn cleared(aim: Aim, e: Term) -> Way {
-    let mut walk = Walk::of(e);
-    if laws_of(e.op).iter().any(|&law| walk.forward(law)) {
-        return walk.done();
+/// Takes the first law of its form that fits an expression, whose parts are done; else puts the terms of a sum or product in order, takes what
+/// a part of an `and`, `or` or `equal` decides, and for the normal form makes a difference or a product of sums a sum.
+pub fn clear(aim: Aim, walk: &mut Walk) {
+    if laws_of(walk.now.op).iter().any(|&law| walk.forward(law)) {
+        return;
     }
+    let e = walk.now;
     match e.op {
-        Op::Sub if aim.orders_all() && e.height <= tuning::MOST_DIFFERENCE => summed(aim, e),
-        Op::Mul if wants_multiplying(aim, e) => multiplied(aim, e),
-        Op::And | Op::Or => decided(aim, laws::AND_OR, e),
-        Op::Equal => decided(aim, laws::EQUAL, e),
-        _ => in_order(aim, e),
+        Op::Sub if aim.orders_all() && e.height <= tuning::MOST_DIFFERENCE => sum(aim, walk),
+        Op::Neg if aim.orders_all() => negate(aim, walk),
+        Op::Mul if aim.orders_all() && e.kids.iter().any(|kid| kid.op == Op::Neg) => negate_product(aim, walk),
+        Op::Mul if wants_multiplying(aim, e) => multiply(aim, walk),
+        Op::And | Op::Or if aim.orders_all() && !e.kids.iter().any(|kid| kid.op.is_literal()) && may_nest(e) => order(aim, e.op, walk),
+        Op::And | Op::Or => decide(aim, laws::AND_OR, walk),
+        Op::Not if aim.orders_all() => negate_truth(aim, walk),
+        Op::If | Op::On if aim.orders_all() && e.kids[1..].iter().any(|kid| kid.op == Op::Pair) => halve(aim, walk),
+        Op::Equal => decide(aim, laws::EQUAL, walk),
+        _ => order_terms(aim, walk),
     }
+}
+
+/// Clears up parts of an expression, and then itself.
+fn clear_with(aim: Aim, parts: &[usize], walk: &mut Walk) {
+    parts.iter().for_each(|&k| walk.part(k, |part| clear(aim, part)));
+    clear(aim, walk);
 }
 
 /// The laws that clear up an expression of this form.
@@ -28,35 +40,145 @@ fn laws_of(op: Op) -> &'static [Law] {
         Op::Fst => &[laws::FST_OF_PAIR],
         Op::Snd => &[laws::SND_OF_PAIR],
         Op::Pair => &[laws::PAIR_OF_PARTS],
-        Op::If => &[laws::IF_TRUE, laws::IF_FALSE, laws::IF_SAME, laws::IF_NOT],
-        Op::On => &[laws::ON_NONE, laws::ON_EVENT],
+        Op::If => &[laws::IF_TRUE, laws::IF_FALSE, laws::IF_SAME, laws::IF_NOT, laws::IF_TRUTH, laws::IF_THEN_IF, laws::IF_ELSE_IF],
+        Op::On => &[laws::ON_NONE, laws::ON_EVENT, laws::ON_ITSELF, laws::ON_SAME],
         Op::Nth => &[laws::NTH_KNOWN],
         Op::Not => &[laws::COMPUTE, laws::NOT_NOT],
-        Op::Neg | Op::Add | Op::Sub | Op::Mul | Op::Less | Op::Equal | Op::And | Op::Or => &[laws::COMPUTE],
+        Op::Neg => &[laws::COMPUTE, laws::NEG_NEG],
+        Op::Add => &[laws::COMPUTE, laws::ADD_ZERO, laws::ADD_NEG],
+        Op::Mul => &[laws::COMPUTE, laws::MUL_ZERO, laws::MUL_ONE],
+        Op::Less => &[laws::COMPUTE, laws::LESS_SAME],
+        Op::And => &[laws::COMPUTE, laws::AND_SAME, laws::AND_NOT],
+        Op::Or => &[laws::COMPUTE, laws::OR_SAME, laws::OR_NOT],
+        Op::Sub | Op::Equal => &[laws::COMPUTE],
         _ => &[],
     }
 }
 
-/// The difference as a sum, its terms in order.
-fn summed(aim: Aim, e: Term) -> Way {
-    let mut walk = Walk::of(e);
-    walk.forward(laws::SUB_AS_ADD);
-    walk.follow_in(1, &Way::by(laws::COMPUTE, walk.now.kids[1]));
-    walk.follow(&in_order(aim, walk.now));
-    walk.done()
+/// Makes an `if` or `on` of which a branch is a pair a pair of two.
+fn halve(aim: Aim, walk: &mut Walk) {
+    let halves = [node(Op::Fst, &[walk.now]), node(Op::Snd, &[walk.now])];
+    walk.backward(laws::PAIR_OF_PARTS, node(Op::Pair, &halves));
+    (0..2).for_each(|k| walk.part(k, |half| halve_branches(aim, half)));
 }
 
-/// What a part decides; else the expression with its parts in order, where that is aimed at.
-fn decided(aim: Aim, law: Law, e: Term) -> Way {
-    let mut walk = Walk::of(e);
-    if wants_swap(aim, e) {
+/// Makes the half of an `if` or `on` one of the halves of its branches.
+fn halve_branches(aim: Aim, walk: &mut Walk) {
+    if !walk.forward(laws::IF_OUT) {
+        let (half, on, input) = (walk.now, walk.now.kids[0], node(Op::Input, &[]));
+        walk.part(0, |inner| inner.backward(laws::INPUT_BEHIND, node(Op::Then, &[on, input])));
+        walk.backward(laws::INTO_PARTS, node(Op::Then, &[on, half.with_kid(0, input)]));
+        walk.forward(laws::ON_THEN);
+        for k in 1..3 {
+            walk.part(k, |branch| branch.perhaps(laws::INTO_PARTS));
+            walk.part(k, |branch| branch.part(0, |part| part.perhaps(laws::INPUT_BEHIND)));
+        }
+    }
+    clear_with(aim, &[1, 2], walk);
+}
+
+/// Makes a difference a sum, its terms in order.
+fn sum(aim: Aim, walk: &mut Walk) {
+    walk.forward(laws::SUB_AS_ADD);
+    clear_with(aim, &[1], walk);
+}
+
+/// Makes a negated sum one of negated terms, and a negated product with a literal one with the negated literal.
+fn negate(aim: Aim, walk: &mut Walk) {
+    if walk.forward(laws::NEG_SUM) {
+        clear_with(aim, &[0, 1], walk);
+    } else if factor(walk.now.kids[0]).is_some() {
+        make_multiple(walk);
+        drop_factor(walk);
+    }
+}
+
+/// Makes a product with a negated factor the negated product.
+fn negate_product(aim: Aim, walk: &mut Walk) {
+    if walk.now.kids[0].op != Op::Neg {
+        walk.forward(laws::MUL_SWAP);
+    }
+    let product = node(Op::Mul, &[walk.now.kids[0].kids[0], walk.now.kids[1]]);
+    walk.backward(laws::NEG_PRODUCT, node(Op::Neg, &[product]));
+    clear_with(aim, &[0], walk);
+}
+
+/// Makes a negated `and` or `or` an `or` or `and` of what is negated.
+fn negate_truth(aim: Aim, walk: &mut Walk) {
+    if walk.forward(laws::NOT_AND) || walk.forward(laws::NOT_OR) {
+        clear_with(aim, &[0, 1], walk);
+    }
+}
+
+/// The literal that is the last factor of a product.
+fn factor(e: Term) -> Option<i64> {
+    let last = e.kid(1).filter(|_| e.op == Op::Mul)?;
+    factor(last).or_else(|| Some(last.number).filter(|_| last.op == Op::Int))
+}
+
+/// Makes a term a product with a literal last, behind which no factor is negated.
+fn make_multiple(walk: &mut Walk) {
+    let e = walk.now;
+    match e.op {
+        Op::Neg if e.kids[0].op != Op::Int => {
+            walk.part(0, make_multiple);
+            walk.part(0, |product| product.perhaps(laws::MUL_SWAP));
+            walk.forward(laws::NEG_PRODUCT);
+            walk.forward(laws::MUL_SWAP);
+            walk.part(1, make_multiple);
+        }
+        Op::Mul if factor(e).is_none() => walk.part(1, make_multiple),
+        Op::Int | Op::Neg | Op::Mul => walk.perhaps(laws::COMPUTE),
+        _ => walk.backward(laws::MUL_ONE, node(Op::Mul, &[e, int(1)])),
+    }
+}
+
+/// Drops the literal that a product ends in where it is 1, makes the product that where it is 0, and negates it where it is -1.
+fn drop_factor(walk: &mut Walk) {
+    let e = walk.now;
+    match factor(e) {
+        Some(0 | 1) if e.kids[1].op == Op::Mul => {
+            walk.part(1, drop_factor);
+            walk.forward(laws::MUL_ZERO);
+        }
+        Some(0) => walk.perhaps(laws::MUL_ZERO),
+        Some(1) => walk.perhaps(laws::MUL_ONE),
+        Some(-1) => {
+            let negated = node(Op::Neg, &[Way::made(with_factor(e, 1), drop_factor).to]);
+            let back = Way::made(negated, make_multiple);
+            if back.to == e {
+                walk.follow(&Way { to: negated, trail: back.trail.undone() });
+            }
+        }
+        _ => {}
+    }
+}
+
+/// The product with another literal last.
+fn with_factor(e: Term, number: i64) -> Term {
+    let last = e.kids[1];
+    e.with_kid(1, if last.op == Op::Mul { with_factor(last, number) } else { int(number) })
+}
+
+/// A term without the literal factor that it ends in, and not negated: terms of which that is the same are made one.
+fn base(e: Term) -> Term {
+    match e.op {
+        Op::Neg | Op::Not => base(e.kids[0]),
+        Op::Mul if e.kids[1].op == Op::Int => e.kids[0],
+        Op::Mul if factor(e).is_some() => e.with_kid(1, base(e.kids[1])),
+        _ => e,
+    }
+}
+
+/// Takes what a part decides; else puts the parts in order, where that is aimed at.
+fn decide(aim: Aim, law: Law, walk: &mut Walk) {
+    if wants_swap(aim, walk.now) {
         walk.forward(law);
     }
     let (a, b) = (walk.now.kids[0], walk.now.kids[1]);
-    if if e.op == Op::Equal { a == b } else { a.op.is_literal() } {
+    if if walk.now.op == Op::Equal { a == b } else { a.op.is_literal() } {
         walk.forward(law);
     }
-    walk.done()
 }
 
 /// Whether the second part is to stand first: a literal, and for the normal form what the order puts first.
@@ -72,7 +194,7 @@ fn wants_swap(aim: Aim, e: Term) -> bool {
 /// parts put it.
 fn is_after(aim: Aim, a: Term, b: Term) -> bool {
     if aim.orders_all() {
-        return compared(a, b) == Ordering::Greater;
+        return compared(base(a), base(b)).then_with(|| compared(a, b)) == Ordering::Greater;
     }
     a.op.is_literal() && !b.op.is_literal()
 }
@@ -83,7 +205,7 @@ pub fn compared(a: Term, b: Term) -> Ordering {
         return Ordering::Equal;
     }
     let own = (a.op, a.number, a.kids.len()).cmp(&(b.op, b.number, b.kids.len()));
-    let parts = a.kids.iter().zip(&b.kids).map(|(a, b)| compared(a, b));
+    let parts = a.kids.iter().zip(b.kids.iter()).map(|(a, b)| compared(a, b));
     parts.fold(own, Ordering::then)
 }
 
@@ -91,18 +213,22 @@ pub fn compared(a: Term, b: Term) -> Ordering {
 fn sorting_laws(op: Op) -> (Law, Law) {
     match op {
         Op::Mul => (laws::MUL_SWAP, laws::MUL_NEST),
+        Op::And => (laws::AND_OR, laws::AND_NEST),
+        Op::Or => (laws::AND_OR, laws::OR_NEST),
         _ => (laws::ADD_SWAP, laws::ADD_NEST),
     }
 }
 
-/// The expression; a sum or product with its terms in order, where that is aimed at: of any for the normal form, for the cheapest one of
-/// two literals or more, or of a literal before another term of a sum.
-fn in_order(aim: Aim, e: Term) -> Way {
-    let is_wanted = matches!(e.op, Op::Add | Op::Mul) && (aim.orders_all() || literals_in(e.op, e) > 1 || begins_with_literal(e));
+/// Puts the terms of a sum or product in order, where that is aimed at: of any for the normal form, for the cheapest one of two literals or
+/// more, or of a literal before another term of a sum.
+fn order_terms(aim: Aim, walk: &mut Walk) {
+    let e = walk.now;
+    let is_wanted = matches!(e.op, Op::Add | Op::Mul) && (aim.orders_all() || literals_in(e) > 1 || begins_with_literal(e));
     if is_wanted && may_nest(e) {
-        ordered(aim, e.op, e)
-    } else {
-        Way::still(e)
+        order(aim, e.op, walk);
+        if walk.now.op == Op::Mul && aim.orders_all() {
+            drop_factor(walk);
+        }
     }
 }
 
@@ -113,104 +239,104 @@ fn begins_with_literal(e: Term) -> bool {
 
 /// Whether the terms, nested to the right, are within the limits of expressions.
 fn may_nest(e: Term) -> bool {
-    let (terms, tallest) = terms_in(e.op, e);
-    terms + tallest <= tuning::MOST_NESTED
-}
-
-/// How many terms the expression has, and the height of the tallest.
-fn terms_in(op: Op, e: Term) -> (u32, u32) {
-    if e.op != op {
-        return (1, e.height);
-    }
-    let (first, second) = (terms_in(op, e.kids[0]), terms_in(op, e.kids[1]));
-    (first.0 + second.0, first.1.max(second.1))
+    let terms = links(e.op, e);
+    terms.iter().fold(0, |most, term| term.height.max(most)) + terms.len() as u32 <= tuning::MOST_NESTED
 }
 
 /// How many terms of the expression are literals.
-fn literals_in(op: Op, e: Term) -> u32 {
-    if e.op == op {
-        literals_in(op, e.kids[0]) + literals_in(op, e.kids[1])
-    } else {
-        u32::from(e.op.is_literal())
-    }
+fn literals_in(e: Term) -> usize {
+    links(e.op, e).iter().filter(|term| term.op.is_literal()).count()
 }
 
-/// The sum or product with its terms nested to the right and in order.
-fn ordered(aim: Aim, op: Op, e: Term) -> Way {
-    if e.op != op {
-        return Way::still(e);
+/// Nests the terms to the right, and puts them in order.
+fn order(aim: Aim, op: Op, walk: &mut Walk) {
+    if walk.now.op != op {
+        return;
     }
-    let mut walk = Walk::of(e);
     if walk.forward(sorting_laws(op).1) {
-        walk.follow(&ordered(aim, op, walk.now));
-        return walk.done();
+        return order(aim, op, walk);
     }
-    walk.follow_in(1, &ordered(aim, op, e.kids[1]));
-    walk.follow(&inserted(aim, walk.now));
-    walk.done()
+    walk.part(1, |rest| order(aim, op, rest));
+    insert(aim, walk);
 }
 
-/// The sum or product of a term and others that are in order, in order.
-fn inserted(aim: Aim, e: Term) -> Way {
-    let (term, rest) = (e.kids[0], e.kids[1]);
+/// Puts a term in its place among others that are in order.
+fn insert(aim: Aim, walk: &mut Walk) {
+    let (e, term, rest) = (walk.now, walk.now.kids[0], walk.now.kids[1]);
     let has_more = rest.op == e.op;
     let next = if has_more { rest.kids[0] } else { rest };
     let joined = are_one(aim, e.op, term, next);
-    let mut walk = Walk::of(e);
     if !joined && !is_after(aim, term, next) {
-        return walk.done();
+        return;
     }
     if !has_more {
-        walk.follow(&paired(e, joined));
-        return walk.done();
+        return pair_up(joined, walk);
     }
     let (_, nest) = sorting_laws(e.op);
-    let two = node(e.op, &[term, next]);
-    walk.backward(nest, node(e.op, &[two, rest.kids[1]]));
-    walk.follow_in(0, &paired(two, joined));
+    walk.backward(nest, node(e.op, &[node(e.op, &[term, next]), rest.kids[1]]));
+    walk.part(0, |two| pair_up(joined, two));
     if joined {
-        walk.follow(&inserted(aim, walk.now));
+        insert_known(aim, walk);
     } else {
         walk.forward(nest);
-        walk.follow_in(1, &inserted(aim, walk.now.kids[1]));
+        walk.part(1, |rest| insert(aim, rest));
     }
-    walk.done()
 }
 
-/// Two terms in the other order, or made one.
-fn paired(both: Term, joined: bool) -> Way {
+/// Puts what two terms were made in its place among others that are in order; leaves it out where it is 0, and the others where it decides.
+fn insert_known(aim: Aim, walk: &mut Walk) {
+    let op = walk.now.op;
+    if !walk.now.kids[0].op.is_literal() || op == Op::Mul {
+        return insert(aim, walk);
+    }
+    walk.forward(sorting_laws(op).0);
+    if op == Op::Add && !walk.forward(laws::ADD_ZERO) {
+        walk.forward(laws::ADD_SWAP);
+        insert(aim, walk);
+    }
+}
+
+/// Puts two terms in the other order, or makes them one.
+fn pair_up(joined: bool, walk: &mut Walk) {
     if joined {
-        return made_one(both);
+        make_one(walk);
+    } else {
+        walk.forward(sorting_laws(walk.now.op).0);
     }
-    Way::by(sorting_laws(both.op).0, both)
 }
 
-/// Whether two terms are made one: literals, and for the normal form those of a sum that differ in their literal factor alone.
+/// Whether two terms are made one: literals; for the normal form those of a sum that differ in their literal factor alone, and truths that
+/// are the same or of which one is the other negated.
 fn are_one(aim: Aim, op: Op, a: Term, b: Term) -> bool {
-    let are_products = a.op == Op::Mul && b.op == Op::Mul;
-    (a.op.is_literal() && b.op.is_literal()) || (aim == Aim::Normal && op == Op::Add && are_products && are_like(a, b))
+    (a.op.is_literal() && b.op.is_literal()) || (aim.orders_all() && op != Op::Mul && base(a) == base(b))
 }
 
-/// Whether both are literals, or products of the same factors before a literal.
-fn are_like(a: Term, b: Term) -> bool {
-    match (a.op, b.op) {
-        (Op::Mul, Op::Mul) => a.kids[0] == b.kids[0] && are_like(a.kids[1], b.kids[1]),
-        (a, b) => a.is_literal() && b.is_literal(),
+/// Makes two terms one.
+fn make_one(walk: &mut Walk) {
+    let (a, b) = (walk.now.kids[0], walk.now.kids[1]);
+    let is_known = laws_of(walk.now.op).iter().any(|&law| walk.forward(law));
+    if is_known || walk.now.op != Op::Add {
+        return;
+    }
+    if b.op == Op::Neg && b.kids[0] == a || a.op == Op::Neg && a.kids[0] == b {
+        walk.forward(laws::ADD_SWAP);
+        walk.forward(laws::ADD_NEG);
+    } else {
+        (0..2).for_each(|k| walk.part(k, make_multiple));
+        add_factors(walk);
+        drop_factor(walk);
     }
 }
 
-/// Two terms that are made one: of two products the first factor is taken out, as often as there is one.
-fn made_one(both: Term) -> Way {
-    let (a, b) = (both.kids[0], both.kids[1]);
-    let mut walk = Walk::of(both);
+/// Makes the sum of two products that differ in the literal factor alone one, with that of both added.
+fn add_factors(walk: &mut Walk) {
+    let (op, a, b) = (walk.now.op, walk.now.kids[0], walk.now.kids[1]);
     if a.op == Op::Mul && b.op == Op::Mul {
-        let sum = node(both.op, &[a.kids[1], b.kids[1]]);
-        walk.backward(laws::MUL_SUM, node(Op::Mul, &[a.kids[0], sum]));
-        walk.follow_in(1, &made_one(sum));
+        walk.backward(laws::MUL_SUM, node(Op::Mul, &[a.kids[0], node(op, &[a.kids[1], b.kids[1]])]));
+        walk.part(1, add_factors);
     } else {
         walk.forward(laws::COMPUTE);
     }
-    walk.done()
 }
 
 /// Whether the expression is a product of which a factor is a sum, that is to be a sum itself: for the normal form, within limits.
@@ -219,23 +345,21 @@ fn wants_multiplying(aim: Aim, e: Term) -> bool {
     if aim != Aim::Normal || (a.op != Op::Add && b.op != Op::Add) {
         return false;
     }
-    let ((m, _), (n, _)) = (terms_in(Op::Add, a), terms_in(Op::Add, b));
+    let (m, n) = (links(Op::Add, a).len() as u32, links(Op::Add, b).len() as u32);
     let terms = m.saturating_mul(n);
     let size = a.size.saturating_mul(u64::from(n)).saturating_add(b.size.saturating_mul(u64::from(m)));
     let height = a.height.saturating_add(b.height).saturating_add(terms);
     terms <= tuning::MOST_TERMS && size <= tuning::MOST_TERMS_SIZE && height <= tuning::MOST_TERMS_HEIGHT
 }
 
-/// The product, multiplied out as long as a factor is a sum; terms and factors in order.
-fn multiplied(aim: Aim, e: Term) -> Way {
-    let mut walk = Walk::of(e);
+/// Multiplies a product out as long as a factor is a sum; puts terms and factors in order.
+fn multiply(aim: Aim, walk: &mut Walk) {
+    let e = walk.now;
     if e.op == Op::Mul && e.kids[0].op == Op::Add && e.kids[1].op != Op::Add {
         walk.forward(laws::MUL_SWAP);
     }
     if walk.forward(laws::MUL_SUM) {
-        let ways = [multiplied(aim, walk.now.kids[0]), multiplied(aim, walk.now.kids[1])];
-        walk.follow_all(&ways);
+        (0..2).for_each(|k| walk.part(k, |term| multiply(aim, term)));
     }
-    walk.follow(&in_order(aim, walk.now));
-    walk.done()
+    order_terms(aim, walk);
 }

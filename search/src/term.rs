@@ -9,73 +9,6 @@ use std::hash::{Hash, Hasher};
 /// A term: a reference to its only node.
 pub type Term = &'static Node;
 
-/// The form of a term.
-#[derive(Clone, Copy, PartialEq, Eq, PartialOrd, Ord, Hash, Debug)]
-pub enum Op {
-    // Expressions, in the order in which sums and products sort them; literals come last there.
-    Input,
-    Param,
-    Pair,
-    Fst,
-    Snd,
-    Then,
-    Neg,
-    Add,
-    Sub,
-    Mul,
-    Less,
-    Equal,
-    Not,
-    And,
-    Or,
-    If,
-    NoEvent,
-    Event,
-    On,
-    List,
-    Nth,
-    Len,
-    Unit,
-    False,
-    True,
-    Int,
-    // Networks.
-    Arr,
-    Seq,
-    First,
-    Par,
-    LoopPre,
-    InitialOut,
-    InitialIn,
-    IPre,
-    Delay,
-    Hold,
-    AccumBy,
-    After,
-    Repeatedly,
-    Time,
-    Integral,
-    Switch,
-    DSwitch,
-    RSwitch,
-    DrSwitch,
-    KSwitch,
-    PSwitch,
-    RpSwitch,
-    Old,
-    // Types.
-    UnitType,
-    BoolType,
-    IntType,
-    PairType,
-    EventType,
-    ListType,
-    /// A letter of a pattern.
-    Letter,
-    /// What is in scope: a list of types.
-    Scope,
-}
-
 /// What follows a form's word in a text.
 #[derive(Clone, Copy, PartialEq, Eq, Debug)]
 pub enum Follows {
@@ -93,63 +26,87 @@ pub enum Follows {
     Column(usize, usize),
 }
 
-/// The forms that have a word, with what follows it.
-pub const FORMS: &[(&str, Op, Follows)] = &[
-    ("x", Op::Input, Follows::Children(0)),
-    ("p", Op::Param, Follows::Number(0)),
-    ("pair", Op::Pair, Follows::Children(2)),
-    ("fst", Op::Fst, Follows::Children(1)),
-    ("snd", Op::Snd, Follows::Children(1)),
-    ("then", Op::Then, Follows::Children(2)),
-    ("neg", Op::Neg, Follows::Children(1)),
-    ("add", Op::Add, Follows::Children(2)),
-    ("sub", Op::Sub, Follows::Children(2)),
-    ("mul", Op::Mul, Follows::Children(2)),
-    ("less", Op::Less, Follows::Children(2)),
-    ("equal", Op::Equal, Follows::Children(2)),
-    ("not", Op::Not, Follows::Children(1)),
-    ("and", Op::And, Follows::Children(2)),
-    ("or", Op::Or, Follows::Children(2)),
-    ("if", Op::If, Follows::Children(3)),
-    ("none", Op::NoEvent, Follows::Type),
-    ("event", Op::Event, Follows::Children(1)),
-    ("on", Op::On, Follows::Children(3)),
-    ("list", Op::List, Follows::Elements),
-    ("nth", Op::Nth, Follows::Children(3)),
-    ("len", Op::Len, Follows::Children(1)),
-    ("unit", Op::Unit, Follows::Children(0)),
-    ("false", Op::False, Follows::Children(0)),
-    ("true", Op::True, Follows::Children(0)),
-    ("arr", Op::Arr, Follows::Children(1)),
-    (">>>", Op::Seq, Follows::Children(2)),
-    ("first", Op::First, Follows::Children(1)),
-    ("parB", Op::Par, Follows::Members),
-    ("loopPre", Op::LoopPre, Follows::Children(2)),
-    ("-->", Op::InitialOut, Follows::Children(2)),
-    (">--", Op::InitialIn, Follows::Children(2)),
-    ("iPre", Op::IPre, Follows::Children(1)),
-    ("delay", Op::Delay, Follows::Number(1)),
-    ("hold", Op::Hold, Follows::Children(1)),
-    ("accumBy", Op::AccumBy, Follows::Children(2)),
-    ("after", Op::After, Follows::Number(1)),
-    ("repeatedly", Op::Repeatedly, Follows::Number(1)),
-    ("time", Op::Time, Follows::Children(0)),
-    ("integral", Op::Integral, Follows::Children(0)),
-    ("switch", Op::Switch, Follows::Children(2)),
-    ("dSwitch", Op::DSwitch, Follows::Children(2)),
-    ("rSwitch", Op::RSwitch, Follows::Children(2)),
-    ("drSwitch", Op::DrSwitch, Follows::Children(2)),
-    ("kSwitch", Op::KSwitch, Follows::Children(3)),
-    ("pSwitch", Op::PSwitch, Follows::Column(1, 2)),
-    ("rpSwitchB", Op::RpSwitch, Follows::Column(0, 2)),
-    ("old", Op::Old, Follows::Number(0)),
-    ("Unit", Op::UnitType, Follows::Children(0)),
-    ("Bool", Op::BoolType, Follows::Children(0)),
-    ("Int", Op::IntType, Follows::Children(0)),
-    ("Pair", Op::PairType, Follows::Children(2)),
-    ("Event", Op::EventType, Follows::Children(1)),
-    ("List", Op::ListType, Follows::Children(1)),
-];
+use Follows::{Children, Column, Elements, Members, Number, Type};
+
+/// Makes the enumeration of all forms, and the table of them.
+macro_rules! forms {
+    ($($op:ident: $word:literal $follows:expr, $typing:literal;)*) => {
+        /// The form of a term.
+        #[derive(Clone, Copy, PartialEq, Eq, PartialOrd, Ord, Hash, Debug)]
+        pub enum Op {
+            $($op),*
+        }
+
+        /// The forms in their order: the word of each, what follows it, and how it is typed, as `types.rs` reads it.
+        pub const FORMS: &[(&str, Op, Follows, &str)] = &[$(($word, Op::$op, $follows, $typing)),*];
+    };
+}
+
+forms! {
+    // Expressions, in the order in which sums and products sort them; literals come last there.
+    Input: "x" Children(0), "i | i";
+    Param: "p" Number(0), "";
+    Pair: "pair" Children(2), "i | i -> a | i -> b | (Pair a b)";
+    Fst: "fst" Children(1), "i | i -> (Pair a b) | a";
+    Snd: "snd" Children(1), "i | i -> (Pair a b) | b";
+    Then: "then" Children(2), "i | i -> a | a -> b | b";
+    Neg: "neg" Children(1), "i | i -> Int | Int";
+    Add: "add" Children(2), "i | i -> Int | i -> Int | Int";
+    Sub: "sub" Children(2), "i | i -> Int | i -> Int | Int";
+    Mul: "mul" Children(2), "i | i -> Int | i -> Int | Int";
+    Less: "less" Children(2), "i | i -> Int | i -> Int | Bool";
+    Equal: "equal" Children(2), "i | i -> a | i -> a | Bool";
+    Not: "not" Children(1), "i | i -> Bool | Bool";
+    And: "and" Children(2), "i | i -> Bool | i -> Bool | Bool";
+    Or: "or" Children(2), "i | i -> Bool | i -> Bool | Bool";
+    If: "if" Children(3), "i | i -> Bool | i -> a | i -> a | a";
+    NoEvent: "none" Type, "i | (Event T)";
+    Event: "event" Children(1), "i | i -> a | (Event a)";
+    On: "on" Children(3), "i | i -> (Event a) | i -> b | (Pair i a) -> b | b";
+    List: "list" Elements, "i | *i -> T | (List T)";
+    Nth: "nth" Children(3), "i | i -> (List a) | i -> Int | i -> a | a";
+    Len: "len" Children(1), "i | i -> (List a) | Int";
+    Unit: "unit" Children(0), "i | Unit";
+    False: "false" Children(0), "i | Bool";
+    True: "true" Children(0), "i | Bool";
+    Int: "" Children(0), "i | Int";
+    // Networks.
+    Arr: "arr" Children(1), "i | i -> a | a";
+    Seq: ">>>" Children(2), "i | i => a | a => b | b";
+    First: "first" Children(1), "(Pair a b) | a => c | (Pair c b)";
+    Par: "parB" Members, "i | *i => a | (List a)";
+    LoopPre: "loopPre" Children(2), "i | Unit -> s | (Pair i s) => (Pair a s) | a";
+    InitialOut: "-->" Children(2), "i | Unit -> a | i => a | a";
+    InitialIn: ">--" Children(2), "i | Unit -> i | i => a | a";
+    IPre: "iPre" Children(1), "i | Unit -> i | i";
+    Delay: "delay" Number(1), "i | Unit -> i | i";
+    Hold: "hold" Children(1), "(Event a) | Unit -> a | a";
+    AccumBy: "accumBy" Children(2), "(Event a) | (Pair s a) -> s | Unit -> s | (Event s)";
+    After: "after" Number(1), "i | Unit -> a | (Event a)";
+    Repeatedly: "repeatedly" Number(1), "i | Unit -> a | (Event a)";
+    Time: "time" Children(0), "i | Int";
+    Integral: "integral" Children(0), "Int | Int";
+    Switch: "switch" Children(2), "i | i => (Pair a (Event e)) | i => a + e | a";
+    DSwitch: "dSwitch" Children(2), "i | i => (Pair a (Event e)) | i => a + e | a";
+    RSwitch: "rSwitch" Children(2), "(Pair i (Event e)) | i => a | i => a + e | a";
+    DrSwitch: "drSwitch" Children(2), "(Pair i (Event e)) | i => a | i => a + e | a";
+    KSwitch: "kSwitch" Children(3), "i | i => a | (Pair i a) => (Event e) | i => a + e + (Pair i a) | a";
+    PSwitch: "pSwitch" Column(1, 2),
+        "i | (Pair i Int) -> r | *r => a | (Pair i (List a)) => (Event e) | i => (List a) + e + (Pair r a) | (List a)";
+    RpSwitch: "rpSwitchB" Column(0, 2), "(Pair i (Event e)) | *i => a | e -> (Pair c (List f)) | i => a + f | (List a)";
+    Old: "old" Number(0), "";
+    // Types.
+    UnitType: "Unit" Children(0), "";
+    BoolType: "Bool" Children(0), "";
+    IntType: "Int" Children(0), "";
+    PairType: "Pair" Children(2), "";
+    EventType: "Event" Children(1), "";
+    ListType: "List" Children(1), "";
+    // A letter of a pattern.
+    Letter: "" Children(0), "";
+    // What is in scope: a list of types.
+    Scope: "" Children(0), "";
+}
 
 impl Op {
     /// Whether it is a form of networks.
@@ -160,6 +117,11 @@ impl Op {
     /// Whether it is a form of expressions.
     pub fn is_expr(self) -> bool {
         self <= Op::Int
+    }
+
+    /// Whether it is a form of types, or a letter.
+    pub fn is_type(self) -> bool {
+        self >= Op::UnitType
     }
 
     /// Whether it is a form of version 2.
@@ -196,6 +158,10 @@ pub struct Node {
     pub highest_stage: u32,
     /// Whether a form of version 2 is in it.
     pub has_new_form: bool,
+    /// Whether a letter is in it, so that it is a pattern.
+    pub has_letter: bool,
+    /// How many bytes its text has.
+    pub length: u64,
     /// A sum of its whole text, for terms that aren't made: see `hash_of`.
     pub hash: u64,
     id: u32,
@@ -214,6 +180,9 @@ impl Hash for Node {
         state.write_u32(self.id);
     }
 }
+
+/// The number of a form in a pattern where that is a letter.
+pub const ANY_NUMBER: i64 = -1;
 
 /// All nodes: an open table, by their hashes.
 struct Table {
@@ -287,7 +256,23 @@ fn made(op: Op, number: i64, ty: Option<Term>, kids: &[Term], hash: u64, id: u32
         _ => (1, net_height),
     };
     let has_new_form = op.is_new() || kids.iter().any(|kid| kid.has_new_form);
-    Node { op, number, ty, kids: kids.into(), size, height, net_height, stages, highest_stage, has_new_form, hash, id }
+    let is_letter = op == Op::Letter || number == ANY_NUMBER && op != Op::Int;
+    let has_letter = is_letter || kids.iter().chain(&ty).any(|kid| kid.has_letter);
+    let length = length_with(op, number, ty, kids);
+    Node { op, number, ty, kids: kids.into(), size, height, net_height, stages, highest_stage, has_new_form, has_letter, length, hash, id }
+}
+
+/// How many bytes the text of a term with these parts has.
+fn length_with(op: Op, number: i64, ty: Option<Term>, kids: &[Term]) -> u64 {
+    let (word, _, follows, _) = FORMS[op as usize];
+    let own = match follows {
+        Children(0) if op == Op::Int => number.to_string().len(),
+        Children(0) => 0,
+        Number(_) => "( )".len() + number.to_string().len(),
+        Column(..) => "()(col )".len(),
+        _ => "()".len(),
+    };
+    kids.iter().chain(&ty).fold((word.len() + own) as u64, |sum, kid| sum.saturating_add(1 + kid.length))
 }
 
 /// The term of a form with these children.

@@ -29,7 +29,7 @@ pub fn pair_of_lines(before: Term, after: Term) -> String {
 
 /// The text; a long one with two dots for each part that is too deep in brackets, as deep as a line holds; else its first word, and two dots
 /// for the rest.
-fn cut(whole: &str) -> String {
+pub fn cut(whole: &str) -> String {
     if whole.len() <= LINE {
         return whole.to_string();
     }

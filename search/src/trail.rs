@@ -97,11 +97,16 @@ impl Way {
         Way { to: e, trail: Trail::default() }
     }
 
+    /// What is made of an expression.
+    pub fn made(e: Term, make: impl FnOnce(&mut Walk)) -> Way {
+        let mut walk = Walk::of(e);
+        make(&mut walk);
+        walk.done()
+    }
+
     /// A law taken forward at the root, where it fits; else no step.
     pub fn by(law: Law, e: Term) -> Way {
-        let mut walk = Walk::of(e);
-        walk.forward(law);
-        walk.done()
+        Way::made(e, |walk| walk.perhaps(law))
     }
 
     /// The steps in their order.
@@ -133,6 +138,11 @@ impl Walk {
         after.is_some()
     }
 
+    /// Takes a law forward at the root, where it fits.
+    pub fn perhaps(&mut self, law: Law) {
+        self.forward(law);
+    }
+
     /// Takes a law backward at the root, to an expression from which it leads to this one.
     pub fn backward(&mut self, law: Law, given: Term) {
         debug_assert_eq!(forward(law, given, 0), Some(self.now));
@@ -150,17 +160,35 @@ impl Walk {
         self.now = way.to;
     }
 
+    /// Rewrites part k.
+    pub fn part(&mut self, k: usize, rewrite: impl FnOnce(&mut Walk)) {
+        let mut part = Walk::of(self.now.kids[k]);
+        rewrite(&mut part);
+        self.follow_in(k as u32, &part.done());
+    }
+
     /// Goes a way from part k.
     pub fn follow_in(&mut self, k: u32, way: &Way) {
         self.now = self.now.with_kid(k as usize, way.to);
         self.trails.push(way.trail.clone().below(&[k]));
     }
 
-    /// Goes a way from each of the parts.
-    pub fn follow_all(&mut self, ways: &[Way]) {
+    /// Goes the way that is found from part k.
+    pub fn inside(&mut self, k: usize, find: impl FnOnce(Term) -> Way) {
+        self.part(k, |part| part.then(find));
+    }
+
+    /// Goes the way that is found from here.
+    pub fn then(&mut self, find: impl FnOnce(Term) -> Way) {
+        self.follow(&find(self.now));
+    }
+
+    /// Goes the way that is found from each of the parts.
+    pub fn parts(&mut self, find: impl FnMut(Term) -> Way) {
+        let ways: Vec<Way> = self.now.kids.iter().copied().map(find).collect();
         let parts: Vec<Term> = ways.iter().map(|way| way.to).collect();
         self.now = self.now.with_kids(&parts);
-        let trails = ways.iter().zip(0..).map(|(way, k)| way.trail.clone().below(&[k]));
+        let trails = ways.into_iter().zip(0..).map(|(way, k)| way.trail.below(&[k]));
         self.trails.push(Trail::all(trails.collect()));
     }
 

@@ -1,18 +1,20 @@
 //! What the searches are tuned by: what parts of networks cost, and how much is tried.
 //!
-//! Costs are instructions of a sample, about, as they were counted by callgrind on small networks (`bench/run --improved` shows what comes of
+//! Costs are instructions of a sample, about, as they were counted by callgrind on small networks (`bench/improving` shows what comes of
 //! them).
 
 /// A path, a literal, a parameter, no event.
 pub const LEAF: u64 = 12;
-/// One `fst` or `snd` of a path.
+/// One of the first two `fst` or `snd` of a path.
 pub const PATH_STEP: u64 = 3;
+/// Another one.
+pub const LONG_PATH_STEP: u64 = 18;
 /// `fst` or `snd` of what is no path.
 pub const PART_OF_MADE: u64 = 60;
 /// Arithmetic and `less`, beside their operands.
 pub const ARITHMETIC: u64 = 15;
 /// `equal`, beside its operands.
-pub const EQUAL: u64 = 200;
+pub const EQUAL: u64 = 90;
 /// An operand that is a path, a literal or a parameter.
 pub const SIMPLE_OPERAND: u64 = 8;
 /// An operand that is arithmetic, beside what it costs itself.
@@ -68,10 +70,14 @@ pub const HELD_INPUT: u64 = 140;
 pub const STAGE: u64 = 45;
 /// `>>>` behind a chain.
 pub const STAGE_BEHIND_CHAIN: u64 = 90;
+/// Lists that an `arr` hands on to the next one: the program shares them, but C copies them.
+pub const LISTS_COPIED: u64 = 800;
 /// `first`.
 pub const FIRST: u64 = 200;
 /// `loopPre`.
 pub const LOOP: u64 = 275;
+/// `loopPre` in which another one stands, which takes the memory of its pair.
+pub const LOOP_ROUND_LOOP: u64 = 220;
 /// `-->` or `>--`.
 pub const INITIAL: u64 = 90;
 /// `parB` or `kSwitch`.
@@ -97,11 +103,21 @@ pub const MOST_COPIED: u64 = 4;
 pub const MOST_COPIES: u64 = 3;
 /// What a part costs at least that is shared.
 pub const LEAST_SHARED: u64 = 60;
+/// What is left at most of the cost of an expression of which parts are handed on beside the input.
+pub const MOST_LEFT: (u64, u64) = (3, 4);
+/// How many parts that are computed more than once are looked at.
+pub const MOST_REPEATED: usize = 24;
+/// Of how many ways to hand some on the cheapest is taken that isn't too many bytes of steps.
+pub const MOST_SHARINGS: usize = 3;
+/// How many bytes of steps that may take.
+pub const MOST_SHARING_BYTES: usize = 500_000;
 /// What each state beyond two costs more than is estimated, where loops are made one.
 pub const STATE: u64 = 250;
 /// One loop in place of others has to save one part in so many.
 pub const LEAST_SAVED: u64 = 8;
 
+/// The greatest size of an expression that an `if` or `on` is taken out of.
+pub const MOST_LIFTED: u64 = 200;
 /// Where the product of two sizes passes this, one expression isn't carried into the other: what comes of it could be too large.
 pub const MOST_PRODUCT: u64 = 100_000;
 /// Where the sum of two heights passes this, it isn't either.
@@ -127,6 +143,10 @@ pub const MOST_TERMS_HEIGHT: u32 = 240;
 
 /// How much work `improve` may take: expressions rewritten, and moves tried.
 pub const MOST_IMPROVING: u64 = 10_000_000;
+/// The most nodes of a network that is searched twice.
+pub const MOST_TWICE: u64 = 5_000;
+/// How much work normal forms may take beside that.
+pub const MOST_FORMING: u64 = 1_000_000;
 /// How deep moves are made in what moves build.
 pub const MOST_BUILT: u32 = 3;
 /// How often what moves build is improved.
@@ -139,10 +159,6 @@ pub const MOST_OPTIMISED: usize = 1_000;
 pub const MOST_JOINED_STAGES: usize = 8;
 /// The most networks that are made one loop.
 pub const MOST_JOINED_NETS: u32 = 40;
-/// The most rounds in which loops beside one another are made one, two by two.
-pub const MOST_JOINING_ROUNDS: u32 = 20;
-/// Expressions that take too many steps are cleared up in part where so large a part of the cost is left, since to check that takes long.
-pub const MOST_LEFT: (u64, u64) = (3, 4);
 /// How much work joining loops may take, beside a quarter of that before.
 pub const FEW_JOINING: u64 = 100_000;
 /// What is found for a network is kept, for others that are the same, where it has so few steps.
@@ -156,9 +172,7 @@ pub const ROOM: usize = 40;
 
 /// How many nodes each of the searches for a certificate visits.
 pub const MOST_WORK: u64 = 5_000_000;
-/// The same, where loops are made one.
-pub const MOST_LOOPING: u64 = 2_000_000;
-/// The same, where normal forms are made one.
+/// The same, between what others of these searches lead to.
 pub const MOST_BETWEEN: u64 = 1_000_000;
 /// The most steps to normal forms that are taken.
 pub const MOST_STEPS_TAKEN: usize = 100_000;
@@ -173,21 +187,17 @@ pub const MOST_LOOKS_BACK: u64 = 10_000_000;
 /// How many nodes are visited, about, where two trees are compared or a law is tried.
 pub const LOOK: u64 = 30;
 /// How deep it is looked into two trees that differ.
-pub const MOST_DEPTH: u32 = 1_000;
+pub const MOST_DEPTH: usize = 1_000;
 /// How much is tried where two differ, beside what is tried at their parts: so many steps there; with the greatest number, normal forms.
 pub const MOST_EFFORT: u32 = 4;
 /// The most pairs of stages that are compared.
 pub const MOST_STAGE_PAIRS: usize = 40_000;
-/// The most moves to a normal form.
-pub const MOST_FORMING_MOVES: u32 = 1_500;
-/// The most children of a network that are formed: of one with so many nothing is told as its normal form.
-pub const MOST_FORMED_CHILDREN: usize = 100;
-/// The most nodes of two trees of which short ways are looked for in breadth.
-pub const MOST_MET_SIZE: u64 = 600;
-/// The most trees that steps make of one then.
-pub const MOST_MET: usize = 400;
+/// The most nodes of a network, once for each step from it, where laws of networks are taken again.
+pub const MOST_TAKEN_AGAIN: u64 = 2_000_000;
 /// How many nodes are visited where steps are looked for that bring two networks nearer.
 pub const MOST_CLIMBING: u64 = 15_000_000;
+/// The same, by all laws.
+pub const FEW_CLIMBING: u64 = 3_000_000;
 /// How many pairs of networks are kept then, by the product of the sizes of the two; of larger ones none are.
 pub const WIDTHS: [(u64, usize); 4] = [(60_000, 20), (250_000, 8), (1_500_000, 4), (6_000_000, 2)];
 /// A node that only one of them has weighs as much as so many steps that have to be undone.
@@ -198,11 +208,11 @@ pub const MOST_APART: usize = 1_000_000;
 pub const MOST_IDLE: u32 = 25;
 /// In a network of so few nodes steps are tried at all places then.
 pub const FEW_NODES: u64 = 200;
-/// How many nodes are visited in all, where networks are made one loop round one chain.
-pub const MOST_SINGLE: u64 = 2_000_000;
 /// The most nodes of two networks of which that is tried.
 pub const MOST_SINGLE_SIZE: u64 = 1_500;
 /// The most steps of that.
-pub const MOST_SINGLE_STEPS: usize = 20_000;
+pub const MOST_SINGLE_STEPS: usize = 25_000;
 /// The most reductions of such a network.
 pub const MOST_REDUCTIONS: usize = 400;
+/// The most members that are made boxes behind one another.
+pub const MOST_BESIDE: usize = 8;

@@ -1,9 +1,10 @@
 //! Types of expressions and networks, within the limits, and whether a step keeps them.
 use crate::draft::Step;
+use crate::memo::{kept, Memo};
 use crate::place::Place;
-use crate::term::{node, Op, Term};
+use crate::read::{filled, fits, template, Letters};
+use crate::term::{node, Op, Term, FORMS};
 use std::cell::RefCell;
-use std::collections::HashMap;
 
 /// How many types may stand in one another.
 const MOST_TYPE_HEIGHT: u32 = 32;
@@ -44,37 +45,11 @@ impl Standing {
         let none = node(Op::Scope, &[]);
         Standing { params: none, olds: none, input }
     }
-
-    fn with_input(self, input: Term) -> Standing {
-        Standing { input, ..self }
-    }
-
-    fn with_param(self, param: Term) -> Standing {
-        Standing { params: and_more(self.params, param, 1), ..self }
-    }
-
-    fn with_olds(self, arrow: Term, count: usize) -> Standing {
-        Standing { olds: and_more(self.olds, arrow, count), ..self }
-    }
 }
 
 /// A scope with so many more of a type.
-fn and_more(scope: Term, ty: Term, count: usize) -> Term {
-    let mut kids = scope.kids.to_vec();
-    kids.resize(kids.len() + count, ty);
-    node(Op::Scope, &kids)
-}
-
-fn int_type() -> Term {
-    node(Op::IntType, &[])
-}
-
-fn bool_type() -> Term {
-    node(Op::BoolType, &[])
-}
-
-fn unit_type() -> Term {
-    node(Op::UnitType, &[])
+fn and_more(scope: Term, ty: Option<Term>, count: usize) -> Term {
+    ty.map_or(scope, |ty| node(Op::Scope, &[&scope.kids[..], &vec![ty; count]].concat()))
 }
 
 /// The type, where it is within the limits.
@@ -82,236 +57,156 @@ fn limited(ty: Term) -> Option<Term> {
     Some(ty).filter(|ty| ty.height <= MOST_TYPE_HEIGHT && ty.size <= MOST_TYPE_SIZE)
 }
 
-fn pair_type(a: Term, b: Term) -> Option<Term> {
-    limited(node(Op::PairType, &[a, b]))
+/// How a form is typed: the type of its input, its children in their order, and the type of its values or outputs. All are patterns: a letter
+/// is the same type everywhere, and `T` the type that is part of the form.
+struct Rule {
+    input: Term,
+    kids: Vec<KidRule>,
+    output: Term,
 }
 
-/// The parts of a pair's type.
-fn both(ty: Term) -> Option<(Term, Term)> {
-    match (ty.op, &*ty.kids) {
-        (Op::PairType, &[a, b]) => Some((a, b)),
+/// How a child is typed.
+struct KidRule {
+    /// Whether it stands for as many children as there are.
+    is_many: bool,
+    is_net: bool,
+    input: Term,
+    output: Term,
+    /// A parameter that is in scope there, and input and output of each frozen network that is.
+    param: Option<Term>,
+    old: Option<Term>,
+    /// Whether the form's input alone tells where it stands.
+    is_told: bool,
+}
+
+/// The rule that a row of the table of forms spells: `INPUT | CHILD | .. | OUTPUT`.
+fn rule(row: &'static str) -> Option<Rule> {
+    let parts: Vec<&str> = row.split(" | ").collect();
+    match *parts {
+        [input, ref kids @ .., output] => {
+            let input = template(input);
+            Some(Rule { input, kids: kids.iter().map(|kid| kid_rule(kid, input)).collect(), output: template(output) })
+        }
         _ => None,
     }
 }
 
-/// What stands inside a type of this form.
-fn inside(op: Op, ty: Term) -> Option<Term> {
-    Some(ty).filter(|ty| ty.op == op).and_then(|ty| ty.kid(0))
+/// The same of a child: `INPUT -> OUTPUT` of an expression, `INPUT => OUTPUT` of a network, each of as many behind `*`; then `+ PARAMETER` and
+/// `+ FROZEN`.
+fn kid_rule(row: &'static str, form_input: Term) -> KidRule {
+    let mut parts = row.trim_start_matches('*').split(" + ");
+    let arrow = if row.contains(" => ") { " => " } else { " -> " };
+    let (input, output) = parts.next().and_then(|way| way.split_once(arrow)).expect("a child's types");
+    let (input, output) = (template(input), template(output));
+    let (param, old) = (parts.next().map(template), parts.next().map(template));
+    let is_told = param.is_none() && is_made_of(input, form_input);
+    KidRule { is_many: row.starts_with('*'), is_net: arrow == " => ", input, output, param, old, is_told }
 }
 
-type Known = HashMap<(Term, Standing), Option<Term>>;
+/// Whether all letters of a pattern stand in another one.
+fn is_made_of(pattern: Term, other: Term) -> bool {
+    let stands_in = |other: Term| other == pattern || other.kids.iter().any(|part| is_made_of(pattern, part));
+    if pattern.op == Op::Letter {
+        stands_in(other)
+    } else {
+        pattern.kids.iter().all(|part| is_made_of(part, other))
+    }
+}
+
+/// Asks with the rule of a form, where it has one.
+fn with_rule<T>(op: Op, ask: impl FnOnce(&Rule) -> Option<T>) -> Option<T> {
+    thread_local! {
+        static RULES: Vec<Option<Rule>> = FORMS.iter().map(|form| rule(form.3)).collect();
+    }
+    RULES.with(|rules| rules[op as usize].as_ref().and_then(ask))
+}
+
+impl Rule {
+    /// The rule of child k of so many.
+    fn kid(&self, k: usize, count: usize) -> Option<&KidRule> {
+        let many = self.kids.iter().position(|kid| kid.is_many).unwrap_or(k);
+        self.kids.get(k.min(many).max((k + self.kids.len()).saturating_sub(count)))
+    }
+
+    /// What the letters stand for by the input and the first children, so many, each of which has to be of its types.
+    fn letters(&self, tree: Term, at: Standing, first: usize) -> Option<Letters> {
+        let mut letters: Letters = tree.ty.map(|ty| ('T', ty)).into_iter().collect();
+        let mut is_typed = fits(self.input, at.input, &mut letters);
+        for k in 0..first {
+            // What is accumulated is told by what it begins with.
+            let k = if tree.op == Op::AccumBy { 1 - k } else { k };
+            let (rule, kid) = (self.kid(k, tree.kids.len())?, tree.kids[k]);
+            let is_low = tree.op.is_expr() || kid.op.is_net() || kid.height <= MOST_EXPR_HEIGHT && kid.size <= MOST_EXPR_SIZE;
+            let ty = type_of(kid, rule.standing(tree, k, at, &letters)?)?;
+            is_typed &= is_low && kid.op.is_net() == rule.is_net && fits(rule.output, ty, &mut letters);
+        }
+        Some(letters).filter(|_| is_typed)
+    }
+
+    /// The type of a tree of the form.
+    fn output(&self, tree: Term, at: Standing) -> Option<Term> {
+        let is_many = tree.op.is_net() && self.kids.iter().any(|kid| kid.is_many);
+        if is_many && !(1..=MOST_MEMBERS).contains(&(tree.kids.len() + 1).saturating_sub(self.kids.len())) {
+            return None;
+        }
+        limited(filled(self.output, &self.letters(tree, at, tree.kids.len())?))
+    }
+}
+
+impl KidRule {
+    /// Where child k of a tree stands, which stands there, where letters stand for these.
+    fn standing(&self, tree: Term, k: usize, at: Standing, letters: &Letters) -> Option<Standing> {
+        let meant = |pattern: Option<Term>| pattern.map(|pattern| filled(pattern, letters));
+        let (params, olds) = (and_more(at.params, meant(self.param), 1), and_more(at.olds, meant(self.old), tree.olds_for(k)));
+        Some(Standing { params, olds, input: limited(filled(self.input, letters))? })
+    }
+}
+
+/// Where child k of a tree stands, which stands there.
+pub fn kid_standing(tree: Term, k: usize, at: Standing) -> Option<Standing> {
+    with_rule(tree.op, |rule| {
+        let kid = rule.kid(k, tree.kids.len())?;
+        let before = if kid.is_told { 0 } else { k.max(1) };
+        kid.standing(tree, k, at, &rule.letters(tree, at, before)?)
+    })
+}
 
 /// The type of a tree that stands there: of an expression that of its values, of a network that of its outputs; `None` where it has none
 /// within the limits. What was found once is kept.
 pub fn type_of(tree: Term, at: Standing) -> Option<Term> {
     thread_local! {
-        static KNOWN: RefCell<Known> = RefCell::new(HashMap::new());
+        static KNOWN: RefCell<Memo<(Term, Standing), Option<Term>>> = RefCell::default();
     }
-    if let Some(found) = KNOWN.with(|known| known.borrow().get(&(tree, at)).copied()) {
-        return found;
-    }
-    let found = if tree.op.is_net() { net_type(tree, at) } else { expr_type(tree, at) };
-    if !tree.kids.is_empty() {
-        KNOWN.with(|known| known.borrow_mut().insert((tree, at), found));
-    }
-    found
+    let in_scope = |scope: Term| usize::try_from(tree.number).ok().and_then(|k| scope.kid(k));
+    kept(
+        &KNOWN,
+        (tree, at),
+        || !tree.kids.is_empty(),
+        || match tree.op {
+            Op::Param => in_scope(at.params),
+            Op::Old => in_scope(at.olds).filter(|way| way.kids[0] == at.input).map(|way| way.kids[1]),
+            Op::Delay if !(1..=MOST_DELAY).contains(&tree.number) => None,
+            Op::After | Op::Repeatedly if !(i64::from(tree.op == Op::Repeatedly)..=MOST_WAIT).contains(&tree.number) => None,
+            _ => with_rule(tree.op, |rule| rule.output(tree, at)),
+        },
+    )
 }
 
-/// Tests that a tree has a type.
-fn is_of(tree: Term, at: Standing, wanted: Term) -> Option<()> {
-    type_of(tree, at).filter(|&ty| ty == wanted).map(|_| ())
+/// The type of a tree, where that is known whatever its input is: its form tells it, or a part that has the same.
+pub fn told_type(tree: Term) -> Option<Term> {
+    let found = type_of(tree, Standing::alone(template("?"))).filter(|ty| !ty.has_letter);
+    found.or_else(|| form_type(tree))
 }
 
-fn expr_type(e: Term, at: Standing) -> Option<Term> {
-    let all_are = |wanted: Term| e.kids.iter().try_for_each(|part| is_of(part, at, wanted));
-    match (e.op, &*e.kids) {
-        (Op::Input, _) => limited(at.input),
-        (Op::Unit, _) => Some(unit_type()),
-        (Op::True | Op::False, _) => Some(bool_type()),
-        (Op::Int, _) => Some(int_type()),
-        (Op::Param, _) => at.params.kid(usize::try_from(e.number).ok()?).and_then(limited),
-        (Op::Neg | Op::Add | Op::Sub | Op::Mul, _) => all_are(int_type()).map(|()| int_type()),
-        (Op::Less, _) => all_are(int_type()).map(|()| bool_type()),
-        (Op::Not | Op::And | Op::Or, _) => all_are(bool_type()).map(|()| bool_type()),
-        (Op::Pair, &[a, b]) => pair_type(type_of(a, at)?, type_of(b, at)?),
-        (Op::Fst, &[a]) => both(type_of(a, at)?).map(|(first, _)| first),
-        (Op::Snd, &[a]) => both(type_of(a, at)?).map(|(_, second)| second),
-        (Op::Then, &[_, g]) => type_of(g, kid_standing(e, 1, at)?),
-        (Op::Equal, &[a, b]) => is_of(b, at, type_of(a, at)?).map(|()| bool_type()),
-        (Op::If, &[c, a, b]) => {
-            is_of(c, at, bool_type())?;
-            let ty = type_of(a, at)?;
-            is_of(b, at, ty).map(|()| ty)
+/// The type that the form of a tree tells, whatever its parts are.
+fn form_type(tree: Term) -> Option<Term> {
+    with_rule(tree.op, |rule| {
+        if is_made_of(rule.output, template("T")) {
+            return Some(filled(rule.output, &tree.ty.map(|ty| ('T', ty)).into_iter().collect::<Letters>()));
         }
-        (Op::NoEvent, _) => limited(node(Op::EventType, &[limited(e.ty?)?])),
-        (Op::Event, &[a]) => limited(node(Op::EventType, &[type_of(a, at)?])),
-        (Op::On, &[_, d, b]) => {
-            let ty = type_of(d, at)?;
-            is_of(b, kid_standing(e, 2, at)?, ty).map(|()| ty)
-        }
-        (Op::List, _) => all_are(limited(e.ty?)?).and_then(|()| limited(node(Op::ListType, &[e.ty?]))),
-        (Op::Nth, &[list, i, d]) => {
-            let element = inside(Op::ListType, type_of(list, at)?)?;
-            is_of(i, at, int_type())?;
-            is_of(d, at, element).map(|()| element)
-        }
-        (Op::Len, &[a]) => inside(Op::ListType, type_of(a, at)?).map(|_| int_type()),
-        _ => None,
-    }
-}
-
-/// The type of a whole expression of a network, within the limits.
-fn leaf_type(e: Term, at: Standing) -> Option<Term> {
-    Some(e).filter(|e| e.height <= MOST_EXPR_HEIGHT && e.size <= MOST_EXPR_SIZE).and_then(|e| type_of(e, at))
-}
-
-/// Tests that a constant is of a type.
-fn is_constant_of(c: Term, at: Standing, wanted: Term) -> Option<()> {
-    leaf_type(c, at.with_input(unit_type())).filter(|&ty| ty == wanted).map(|_| ())
-}
-
-fn net_type(net: Term, at: Standing) -> Option<Term> {
-    match (net.op, &*net.kids) {
-        (Op::Arr, &[e]) => leaf_type(e, at),
-        (Op::Seq, &[_, g]) => type_of(g, kid_standing(net, 1, at)?),
-        (Op::First, &[f]) => {
-            let (_, right) = both(at.input)?;
-            pair_type(type_of(f, kid_standing(net, 0, at)?)?, right)
-        }
-        (Op::Par, members) => list_of(members, at),
-        (Op::LoopPre, &[c, f]) => {
-            let fed = leaf_type(c, at.with_input(unit_type()))?;
-            let (output, back) = both(type_of(f, kid_standing(net, 1, at)?)?)?;
-            Some(output).filter(|_| back == fed)
-        }
-        (Op::InitialOut, &[c, f]) => {
-            let output = type_of(f, at)?;
-            is_constant_of(c, at, output).map(|()| output)
-        }
-        (Op::InitialIn, &[c, f]) => is_constant_of(c, at, at.input).and_then(|()| type_of(f, at)),
-        (Op::IPre, &[c]) => is_constant_of(c, at, at.input).map(|()| at.input),
-        (Op::Delay, &[c]) if (1..=MOST_DELAY).contains(&net.number) => is_constant_of(c, at, at.input).map(|()| at.input),
-        (Op::Hold, &[c]) => {
-            let carried = inside(Op::EventType, at.input)?;
-            is_constant_of(c, at, carried).map(|()| carried)
-        }
-        (Op::AccumBy, &[g, z]) => {
-            let start = leaf_type(z, at.with_input(unit_type()))?;
-            leaf_type(g, kid_standing(net, 0, at)?).filter(|&ty| ty == start)?;
-            limited(node(Op::EventType, &[start]))
-        }
-        (Op::After, &[c]) if (0..=MOST_WAIT).contains(&net.number) => event_of(c, at),
-        (Op::Repeatedly, &[c]) if (1..=MOST_WAIT).contains(&net.number) => event_of(c, at),
-        (Op::Time, _) => Some(int_type()),
-        (Op::Integral, _) => Some(int_type()).filter(|&ty| ty == at.input),
-        (Op::Old, _) => {
-            let (input, output) = both(at.olds.kid(usize::try_from(net.number).ok()?)?)?;
-            Some(output).filter(|_| input == at.input)
-        }
-        _ => switch_type(net, at),
-    }
-}
-
-/// The type of events of a constant.
-fn event_of(c: Term, at: Standing) -> Option<Term> {
-    limited(node(Op::EventType, &[leaf_type(c, at.with_input(unit_type()))?]))
-}
-
-/// The type of lists of what members output, which all get the input.
-fn list_of(members: &[Term], at: Standing) -> Option<Term> {
-    let output = type_of(members.first()?, at)?;
-    members.iter().try_for_each(|f| is_of(f, at, output))?;
-    Some(members).filter(|members| members.len() <= MOST_MEMBERS).and_then(|_| limited(node(Op::ListType, &[output])))
-}
-
-/// The output type of a switch.
-fn switch_type(net: Term, at: Standing) -> Option<Term> {
-    let template = net.kids.len().checked_sub(1)?;
-    let (output, started) = match (net.op, &*net.kids) {
-        (Op::Switch | Op::DSwitch, &[f, _]) => both(type_of(f, at)?).map(|(output, _)| (output, output))?,
-        (Op::RSwitch | Op::DrSwitch, &[f, _]) => type_of(f, kid_standing(net, 0, at)?).map(|output| (output, output))?,
-        (Op::KSwitch, &[f, _, _]) => type_of(f, at).map(|output| (output, output))?,
-        (Op::PSwitch, [_, members @ .., _, _]) => list_of(members, kid_standing(net, 1, at)?).map(|list| (list, list))?,
-        (Op::RpSwitch, [members @ .., _, _]) => {
-            let list = list_of(members, kid_standing(net, 0, at)?)?;
-            (list, list.kids[0])
-        }
-        _ => return None,
-    };
-    is_of(net.kids[template], kid_standing(net, template, at)?, started).map(|()| output)
-}
-
-/// Where child k of a tree stands, which stands there.
-pub fn kid_standing(tree: Term, k: usize, at: Standing) -> Option<Standing> {
-    let kids = &*tree.kids;
-    match (tree.op, k) {
-        (Op::Then, 1) => Some(at.with_input(type_of(kids[0], at)?)),
-        (Op::On, 2) => {
-            let carried = inside(Op::EventType, type_of(kids[0], at)?)?;
-            Some(at.with_input(pair_type(at.input, carried)?))
-        }
-        (Op::Seq, 1) => Some(at.with_input(type_of(kids[0], at)?)),
-        (Op::First, 0) => both(at.input).map(|(left, _)| at.with_input(left)),
-        (Op::LoopPre, 1) => {
-            let fed = leaf_type(kids[0], at.with_input(unit_type()))?;
-            Some(at.with_input(pair_type(at.input, fed)?))
-        }
-        (Op::LoopPre | Op::InitialOut | Op::InitialIn, 0) => Some(at.with_input(unit_type())),
-        (Op::IPre | Op::Delay | Op::Hold | Op::After | Op::Repeatedly, 0) | (Op::AccumBy, 1) => Some(at.with_input(unit_type())),
-        (Op::AccumBy, 0) => {
-            let start = leaf_type(kids[1], at.with_input(unit_type()))?;
-            Some(at.with_input(pair_type(start, inside(Op::EventType, at.input)?)?))
-        }
-        _ if tree.op.is_net() && tree.op >= Op::Switch => switch_kid(tree, k, at),
-        _ => Some(at),
-    }
-}
-
-/// Where child k of a switch stands.
-fn switch_kid(net: Term, k: usize, at: Standing) -> Option<Standing> {
-    let kids = &*net.kids;
-    let is_template = k + 1 == kids.len();
-    match net.op {
-        Op::Switch | Op::DSwitch if is_template => {
-            let (_, event) = both(type_of(kids[0], at)?)?;
-            Some(at.with_param(inside(Op::EventType, event)?))
-        }
-        Op::RSwitch | Op::DrSwitch | Op::RpSwitch => {
-            let (sample, event) = both(at.input)?;
-            let carried = inside(Op::EventType, event)?;
-            match net.op {
-                Op::RpSwitch if is_template => {
-                    let (_, started) = both(leaf_type(kids[k - 1], at.with_input(carried))?)?;
-                    Some(at.with_input(sample).with_param(inside(Op::ListType, started)?))
-                }
-                Op::RpSwitch if k + 2 == kids.len() => Some(at.with_input(carried)),
-                _ if is_template => Some(at.with_input(sample).with_param(carried)),
-                _ => Some(at.with_input(sample)),
-            }
-        }
-        Op::KSwitch if k > 0 => frozen_kid(net, k, at, type_of(kids[0], at)?, node(Op::PairType, &[at.input, type_of(kids[0], at)?]), 1),
-        Op::PSwitch if k == 0 => Some(at.with_input(pair_type(at.input, int_type())?)),
-        Op::PSwitch => {
-            let routed = leaf_type(kids[0], at.with_input(pair_type(at.input, int_type())?))?;
-            let members = &kids[1..kids.len() - 2];
-            if k <= members.len() {
-                return Some(at.with_input(routed));
-            }
-            let list = list_of(members, at.with_input(routed))?;
-            frozen_kid(net, k, at, list, node(Op::PairType, &[routed, list.kids[0]]), members.len())
-        }
-        _ => Some(at),
-    }
-}
-
-/// Where the watching child of a switch stands that freezes so many networks of a type, or its template.
-fn frozen_kid(net: Term, k: usize, at: Standing, output: Term, arrow: Term, count: usize) -> Option<Standing> {
-    let watching = at.with_input(pair_type(at.input, output)?);
-    if k + 2 == net.kids.len() {
-        return Some(watching);
-    }
-    let event = type_of(net.kids[net.kids.len() - 2], watching)?;
-    Some(at.with_param(inside(Op::EventType, event)?).with_olds(arrow, count))
+        let mut parts = rule.kids.iter().zip(tree.kids.iter()).filter(|(kid, _)| kid.output == rule.output);
+        parts.find_map(|(_, part)| form_type(part))
+    })
 }
 
 /// A typed network to which steps are taken as the proved program's check takes them, but for the limit of its weight.

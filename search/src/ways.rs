@@ -1,12 +1,13 @@
 //! The ways from a network to another that are tried.
 use crate::climb::{brought_nearer, Nearer};
 use crate::draft::{undone, Budget, Step};
-use crate::improve::{improved, Found};
-use crate::normal::{normal_form, Formed};
-use crate::optimise::optimised;
-use crate::places::{ways_between, Ways};
-use crate::short::Short;
+use crate::improve::{improved, Found, MOST_STEPS};
+use crate::laws::LAST_VERSION;
+use crate::lazily::lazily;
+use crate::optimise::{gathered, optimised};
+use crate::places::ways_between;
 use crate::shorten::shortened;
+use crate::single::{normal_form, Formed};
 use crate::term::Term;
 use crate::tuning;
 use crate::types::lead;
@@ -18,31 +19,29 @@ type Both = Option<(Vec<Step>, Vec<Step>)>;
 /// A way, and so few steps as are enough: where they were found, neither it nor any behind it is tried.
 type Looking = (usize, fn(&mut Search) -> Both);
 
-/// Any steps are enough.
-const ANY: usize = usize::MAX;
+/// Steps of laws up to this version are tried first: with all, the search is so broad that it finds less.
+const OLDER: u8 = 3;
 
 /// The ways in their order.
-const WAYS: [Looking; 11] = [
-    // By a few steps of both, also between children that differ alone.
-    (ANY, |search| alone(Short::near().between(search.source, search.target, 0))),
+const WAYS: [Looking; 10] = [
     // By what `optimise` makes of the source, and by what costs less than it.
-    (ANY, |search| search.of_source(Rewriting::Optimised)),
-    (ANY, |search| search.of_source(Rewriting::Cheaper)),
+    (MOST_STEPS, |search| search.of_source(Rewriting::Optimised)),
+    (MOST_STEPS, |search| search.of_source(Rewriting::Cheaper)),
     // At the places where the two differ.
-    (ANY, |search| search.at_places(false, tuning::MOST_WORK)),
+    (MOST_STEPS, |search| search.on_from((search.source, vec![]), (search.target, vec![]), tuning::MOST_WORK)),
+    // By what laws of networks alone make of both.
+    (tuning::FEW_STEPS, Search::gathered),
     // By what `optimise` makes of both, and by what costs less than both.
     (tuning::FEW_STEPS, |search| search.of_both(Rewriting::Optimised)),
     (tuning::MANY_STEPS, |search| search.of_both(Rewriting::Cheaper)),
     // By steps that bring them nearer.
-    (tuning::MANY_STEPS, Search::nearer),
+    (tuning::MANY_STEPS, |search| search.nearer(OLDER, tuning::MOST_CLIMBING)),
     // By their normal forms.
     (tuning::VERY_MANY_STEPS, Search::at_forms),
-    // At the places where they differ, with loops made one.
-    (tuning::VERY_MANY_STEPS, |search| search.at_places(true, tuning::MOST_LOOPING)),
+    // By steps that bring them nearer, of all laws.
+    (tuning::VERY_MANY_STEPS, |search| search.nearer(LAST_VERSION, tuning::FEW_CLIMBING)),
     // Where their normal forms differ.
-    (ANY, Search::behind_forms),
-    // By short ways, and as one loop round one chain.
-    (ANY, Search::short),
+    (tuning::VERY_MANY_STEPS, Search::behind_forms),
 ];
 
 /// What a network is rewritten to.
@@ -92,9 +91,18 @@ impl Search {
         best
     }
 
-    /// The steps, where they lead from the source to the target; without those that lead nowhere, where the others do too.
-    fn led(&self, steps: Vec<Step>) -> Option<Vec<Step>> {
-        [shortened(self.source, &steps), steps].into_iter().find(|steps| lead(self.input, self.source, self.target, steps))
+    /// The fewest steps of these, of them without those that lead nowhere, and of them with steps in expressions only where laws of networks
+    /// need them, that lead from the source to the target.
+    fn led(&mut self, steps: Vec<Step>) -> Option<Vec<Step>> {
+        let (source, target) = (self.source, self.target);
+        let direct = shortened(source, &steps);
+        let is_small = source.size.saturating_mul(direct.len() as u64) <= tuning::MOST_TAKEN_AGAIN;
+        let lazy = self.within(tuning::MOST_WORK, |budget| {
+            Some(budget).filter(|_| is_small).and_then(|budget| lazily(budget, source, target, &direct))
+        });
+        let mut all = [lazy.map_or(vec![], |lazy| vec![shortened(source, &lazy)]), vec![direct, steps]].concat();
+        all.sort_by_key(Vec::len);
+        all.into_iter().find(|steps| lead(self.input, source, target, steps))
     }
 
     /// Lets a search visit so many nodes at most, and counts them.
@@ -127,22 +135,26 @@ impl Search {
 
     /// The steps to what both are rewritten to.
     fn of_both(&mut self, how: Rewriting) -> Both {
-        let (net, back) = self.rewritten(how, self.target)?;
-        Some((if net == self.source { vec![] } else { self.rewritten(how, self.source)?.1 }, back))
+        let (source, target) = (self.rewritten(how, self.source)?, self.rewritten(how, self.target)?);
+        self.on_from(source, target, tuning::MOST_BETWEEN)
     }
 
-    fn at_places(&mut self, with_loops: bool, most: u64) -> Both {
-        let (source, target) = (self.source, self.target);
-        let Ways { there, back } = self.within(most, |budget| ways_between(budget, source, target, with_loops))?;
-        Some((there, back))
+    /// The steps to two networks, and on to where these are one, at the places where they differ, which visits so many nodes at most.
+    fn on_from(&mut self, first: Found, second: Found, most: u64) -> Both {
+        let ways = self.within(most, |budget| ways_between(budget, first.0, second.0, 0))?;
+        Some(([first.1, ways.there].concat(), [second.1, ways.back].concat()))
+    }
+
+    fn gathered(&mut self) -> Both {
+        let (first, second) = (gathered(self.input, self.source)?, gathered(self.input, self.target)?);
+        self.on_from(first, second, tuning::MOST_BETWEEN)
     }
 
     /// The steps to the nearest two networks that are found, and on to one, at the places where these differ.
-    fn nearer(&mut self) -> Both {
+    fn nearer(&mut self, version: u8, most: u64) -> Both {
         let (source, target) = (self.source, self.target);
-        let Nearer { first, second, there, back } = self.within(tuning::MOST_CLIMBING, |budget| brought_nearer(budget, source, target))?;
-        let ways = self.within(tuning::MOST_BETWEEN, |budget| ways_between(budget, first, second, false))?;
-        Some(([there, ways.there].concat(), [back, ways.back].concat()))
+        let Nearer { first, second, there, back } = self.within(most, |budget| brought_nearer(budget, source, target, version))?;
+        self.on_from((first, there), (second, back), tuning::MOST_BETWEEN)
     }
 
     /// The steps to the normal forms of both, where these are one; else the forms are kept.
@@ -157,20 +169,9 @@ impl Search {
         None
     }
 
-    /// The steps to two forms, and on to where these are one: at the places where they differ, then with loops made one there.
     fn behind_forms(&mut self) -> Both {
-        let forms = self.forms.as_ref().filter(|(there, back)| there.steps.len() + back.steps.len() <= tuning::MOST_STEPS_TAKEN);
-        let (first, second) = forms.map(|(there, back)| (there.net, back.net))?;
-        let mut between = |with_loops| self.within(tuning::MOST_BETWEEN, |budget| ways_between(budget, first, second, with_loops));
-        let ways = between(false).or_else(|| between(true))?;
-        let (there, back) = self.forms.as_ref()?;
-        Some(([there.steps.clone(), ways.there].concat(), [back.steps.clone(), ways.back].concat()))
-    }
-
-    fn short(&mut self) -> Both {
-        let mut short = Short::whole();
-        let found = short.between(self.source, self.target, 0);
-        self.nodes += short.nodes;
-        alone(found)
+        let (there, back) = self.forms.as_ref().filter(|(there, back)| there.net.size.max(back.net.size) <= tuning::MOST_SINGLE_SIZE)?;
+        let (there, back) = ((there.net, there.steps.clone()), (back.net, back.steps.clone()));
+        self.on_from(there, back, tuning::MOST_BETWEEN)
     }
 }

@@ -5,51 +5,63 @@
 //! and of which what stands there is made: the steps that make it, undone, lead there.
 use crate::draft::{joined, Budget, Draft};
 use crate::exprs::{normal, pair, then};
-use crate::joining::{is_loop, join_loops, places as places_of};
 use crate::laws;
 use crate::read::{filled, of, template};
 use crate::single::{chain_of, flat, go_back, is_closed, part, single, turn, Form};
 use crate::sums::compared;
 use crate::term::{node, put, Op, Term};
 use crate::tuning::MOST_REDUCTIONS;
+use std::ops::Range;
 
 /// The number of the input's wire; those of the states come behind it.
-const WIRE: i64 = 1_000_000;
+pub const WIRE: i64 = 1_000_000;
 /// The numbers of boxes' wires begin here.
 const BOXED: i64 = 1 << 32;
 
 /// A state of the loop: a part of what it starts with that is no pair.
-struct State {
+pub struct State {
     /// Where it stands in the whole state.
-    place: Term,
+    pub place: Term,
     /// What it is at first.
-    start: Term,
+    pub start: Term,
     /// What it is next.
-    next: Term,
+    pub next: Term,
 }
 
 /// A network as a graph.
-struct Graph {
-    form: Form,
-    /// The wire of each stage, and what its box gets.
-    wires: Vec<Term>,
-    inputs: Vec<Term>,
-    shown: Term,
-    states: Vec<State>,
+pub struct Graph {
+    /// The network.
+    pub form: Form,
+    /// The wires of the input and of the states, as they stand before the first stage.
+    base: Term,
+    /// The wire of each stage.
+    pub wires: Vec<Term>,
+    /// What the box of each stage gets.
+    pub inputs: Vec<Term>,
+    /// What the last `arr` outputs.
+    pub out: Term,
+    /// What of that isn't fed back.
+    pub shown: Term,
+    /// The parts of the state.
+    pub states: Vec<State>,
     /// What is needed of what is shown.
-    live: Vec<Term>,
+    pub live: Vec<Term>,
+    /// What is needed of that and of the state.
+    read: Vec<Term>,
 }
 
-fn wire(number: i64) -> Term {
+/// The wire of this number.
+pub fn wire(number: i64) -> Term {
     put(Op::Param, number, None, &[])
 }
 
-fn composed(budget: &Budget, f: Term, g: Term) -> Term {
+/// The normal form of g behind f.
+pub fn composed(budget: &Budget, f: Term, g: Term) -> Term {
     normal(budget, then(f, g)).to
 }
 
 /// The wires that a content reads, in the order of their first place.
-fn reads(e: Term, found: &mut Vec<Term>) {
+pub fn reads(e: Term, found: &mut Vec<Term>) {
     if e.op == Op::Param && e.number >= WIRE {
         if !found.contains(&e) {
             found.push(e);
@@ -59,13 +71,74 @@ fn reads(e: Term, found: &mut Vec<Term>) {
     e.kids.iter().for_each(|kid| reads(kid, found));
 }
 
+/// The expression over wires with others in place of its parts.
+pub fn replaced(e: Term, new: &[(Term, Term)]) -> Term {
+    match new.iter().find(|(old, _)| *old == e) {
+        Some((_, part)) => part,
+        None => e.with_kids(&e.kids.iter().map(|kid| replaced(kid, new)).collect::<Vec<Term>>()),
+    }
+}
+
+/// The expression over wires with paths in place of these of its parts; nothing where a wire is left, or is behind a `then`.
+pub fn written(e: Term, paths: &[(Term, Term)]) -> Option<Term> {
+    if let Some((_, path)) = paths.iter().find(|(part, _)| *part == e) {
+        return Some(path);
+    }
+    if e.op == Op::Param && e.number >= WIRE {
+        return None;
+    }
+    let inside = |path: Term| node(Op::Then, &[template("(fst x)"), path]);
+    let parts: Option<Vec<Term>> = (e.kids.iter().enumerate())
+        .map(|(k, kid)| match (e.op, k) {
+            (Op::On, 2) => written(kid, &paths.iter().map(|&(part, path)| (part, inside(path))).collect::<Vec<_>>()),
+            (Op::Then, 1) => written(kid, &[]),
+            _ => written(kid, paths),
+        })
+        .collect();
+    Some(e.with_kids(&parts?))
+}
+
+/// Adds where the wires stand in pairs of them that are found at a path.
+fn add_places(env: Term, path: Term, found: &mut Vec<(Term, Term)>) {
+    if env.op == Op::Pair {
+        add_places(env.kids[0], node(Op::Fst, &[path]), found);
+        add_places(env.kids[1], node(Op::Snd, &[path]), found);
+    } else {
+        found.push((env, path));
+    }
+}
+
+/// Where the wires stand in pairs of them.
+fn places_in(env: Term) -> Vec<(Term, Term)> {
+    let mut found = vec![];
+    add_places(env, template("x"), &mut found);
+    found
+}
+
 impl Graph {
-    fn of(budget: &Budget, form: Form) -> Option<Graph> {
+    /// The wires that are there before a stage.
+    fn env(&self, stage: usize) -> Term {
+        self.wires[..stage].iter().fold(self.base, |env, own| pair(own, env))
+    }
+
+    /// The chain of some stages, where these wires are there before them, and what comes out.
+    fn chain(&self, env: Term, stages: Range<usize>, out: Term) -> Option<Term> {
+        let (mut env, mut all) = (env, vec![]);
+        for i in stages {
+            all.push((written(self.inputs[i], &places_in(env))?, self.form.stages[i].1));
+            env = pair(self.wires[i], env);
+        }
+        Some(chain_of(&all, node(Op::Arr, &[written(out, &places_in(env))?])))
+    }
+
+    /// The graph of such a network.
+    pub fn of(budget: &Budget, form: Form) -> Option<Graph> {
         let mut env = wire(WIRE);
         let found = form.init.map_or(vec![], states_of);
         if let Some(init) = form.init {
             env = pair(env, with_states(init, &mut (1..=found.len() as i64).map(|k| wire(WIRE + k))));
         }
+        let base = env;
         let (mut wires, mut inputs) = (vec![], vec![]);
         for &(e, b) in &form.stages {
             let input = composed(budget, env, e);
@@ -81,8 +154,10 @@ impl Graph {
             let next = part(budget, Op::Snd, out);
             states = found.into_iter().map(|(place, start)| State { place, start, next: composed(budget, next, place) }).collect();
         }
-        let mut graph = Graph { form, wires, inputs, shown, states, live: vec![] };
+        let mut graph = Graph { form, base, wires, inputs, out, shown, states, live: vec![], read: vec![] };
         graph.live = graph.needed(&[shown])?;
+        let roots: Vec<Term> = std::iter::once(shown).chain(graph.states.iter().map(|state| state.next)).collect();
+        graph.read = graph.needed(&roots)?;
         Some(graph)
     }
 
@@ -104,24 +179,30 @@ impl Graph {
         Some(found)
     }
 
-    /// What a state is at first, beside what it is after one sample, whatever boxes output.
-    fn sign(&self, budget: &Budget, k: usize) -> Term {
-        let state = &self.states[k];
-        pair(state.start, normal(budget, self.at_first(state.next)).to)
+    /// What the states are at first, after one sample and after two, whatever boxes output.
+    fn signs(&self, budget: &Budget) -> Vec<Term> {
+        let mut now: Vec<Term> = self.states.iter().map(|state| state.start).collect();
+        let mut signs = now.clone();
+        for sample in 0..2 {
+            now = self.states.iter().map(|state| normal(budget, self.with_states(state.next, &now)).to).collect();
+            now = now.iter().map(|e| replaced(e, &[(wire(WIRE), wire(WIRE - 1 - sample))])).collect();
+            signs = signs.iter().zip(&now).map(|(sign, e)| pair(sign, e)).collect();
+        }
+        signs
     }
 
-    /// An expression with what the states are at first in place of their wires.
-    fn at_first(&self, e: Term) -> Term {
+    /// An expression with these in place of the wires of the states.
+    fn with_states(&self, e: Term, now: &[Term]) -> Term {
         match e.op {
             Op::Param if e.number >= BOXED => wire(BOXED),
-            Op::Param if e.number > WIRE => self.states[(e.number - WIRE - 1) as usize].start,
-            _ => e.with_kids(&e.kids.iter().map(|kid| self.at_first(kid)).collect::<Vec<Term>>()),
+            Op::Param if e.number > WIRE => now[(e.number - WIRE - 1) as usize],
+            _ => e.with_kids(&e.kids.iter().map(|kid| self.with_states(kid, now)).collect::<Vec<Term>>()),
         }
     }
 }
 
 /// Where each part of a constant that is no pair stands in it, and what it is, from left to right.
-fn states_of(start: Term) -> Vec<(Term, Term)> {
+pub fn states_of(start: Term) -> Vec<(Term, Term)> {
     let mut todo = vec![(template("x"), start)];
     let mut all = vec![];
     while let Some((place, start)) = todo.pop() {
@@ -136,7 +217,7 @@ fn states_of(start: Term) -> Vec<(Term, Term)> {
 }
 
 /// The pairs of a constant, with these in place of what is no pair.
-fn with_states(start: Term, parts: &mut impl Iterator<Item = Term>) -> Term {
+pub fn with_states(start: Term, parts: &mut impl Iterator<Item = Term>) -> Term {
     if start.op == Op::Pair {
         let first = with_states(start.kids[0], parts);
         return pair(first, with_states(start.kids[1], parts));
@@ -144,33 +225,28 @@ fn with_states(start: Term, parts: &mut impl Iterator<Item = Term>) -> Term {
     parts.next().unwrap_or(start)
 }
 
-/// Reduces all loops round one `arr`, and joins those that come to stand beside one another.
-pub fn reduce_loops(d: &mut Draft) -> Option<()> {
-    for way in places_of(d)?.iter().rev() {
-        if is_loop(d.at(way)?) {
-            reduce(d, way)?;
-        }
-    }
-    join_loops(d).map(|_| ())
-}
+/// A change of the network at a path, of which this is the graph, at a stage or a state of this number.
+type Reduction = fn(&mut Draft, &[u32], &Graph, usize) -> Option<()>;
+
+/// The reductions, in their order.
+const REDUCTIONS: [Reduction; 6] = [dead_stage, twins, narrow_delay, restate, exchange, dead_state];
 
 /// Reduces the network at a path, which is one loop round one chain: dead stages, constant or doubled parts of delays and of the state, and
 /// dead states are dropped, and neighbours are put in order.
 pub fn reduce(d: &mut Draft, path: &[u32]) -> Option<()> {
     for _ in 0..MOST_REDUCTIONS {
         let graph = Graph::of(&d.budget, Form::read(d.at(path)?)?)?;
-        let tries: [Reduction; 5] = [dead_stage, constant_delay, restated, exchanged, dead_state];
-        if tries.iter().all(|reduction| attempted(d, |d| reduction(d, path, &graph)).is_none()) {
+        let places = 0..graph.wires.len().max(graph.states.len());
+        let mut tries = REDUCTIONS.iter().flat_map(|reduction| places.clone().map(move |i| (reduction, i)));
+        if !tries.any(|(reduction, i)| attempted(d, |d| reduction(d, path, &graph, i)).is_some()) {
             return Some(());
         }
     }
     Some(())
 }
 
-type Reduction = fn(&mut Draft, &[u32], &Graph) -> Option<()>;
-
 /// Tries a reduction; where it fails the draft is as before.
-fn attempted(d: &mut Draft, reduction: impl FnOnce(&mut Draft) -> Option<()>) -> Option<()> {
+pub fn attempted(d: &mut Draft, reduction: impl FnOnce(&mut Draft) -> Option<()>) -> Option<()> {
     let mark = d.mark();
     let done = reduction(d);
     if done.is_none() {
@@ -179,42 +255,20 @@ fn attempted(d: &mut Draft, reduction: impl FnOnce(&mut Draft) -> Option<()>) ->
     done
 }
 
-/// From what is there without some things to what is there with them: the left part kept, `more` done behind it.
-fn under(budget: &Budget, more: Term) -> Term {
-    normal(budget, of("(pair (fst x) (then (snd x) m))", &[('m', more)])).to
-}
-
-/// Stages and what comes out, where `more` stands between what is there and what they expect; and what then stands there.
-fn behind_more(budget: &Budget, stages: &[(Term, Term)], out: Term, more: Term) -> (Vec<(Term, Term)>, Term) {
-    let mut more = more;
-    let mut rest = vec![];
-    for &(e, b) in stages {
-        rest.push((composed(budget, more, e), b));
-        more = under(budget, more);
+/// Drops a stage that nobody reads.
+fn dead_stage(d: &mut Draft, path: &[u32], graph: &Graph, i: usize) -> Option<()> {
+    if graph.read.contains(graph.wires.get(i)?) {
+        return None;
     }
-    (rest, composed(budget, more, out))
-}
-
-fn ended(stages: &[(Term, Term)], out: Term) -> Term {
-    chain_of(stages, node(Op::Arr, &[out]))
-}
-
-/// Drops the last stage that nobody reads.
-fn dead_stage(d: &mut Draft, path: &[u32], graph: &Graph) -> Option<()> {
-    let roots: Vec<Term> = std::iter::once(graph.shown).chain(graph.states.iter().map(|state| state.next)).collect();
-    let live = graph.needed(&roots)?;
-    let i = (0..graph.wires.len()).rev().find(|&i| !live.contains(&graph.wires[i]))?;
-    let form = &graph.form;
-    let (rest, out) = behind_more(&d.budget, &form.stages[i + 1..], form.out, template("(pair unit x)"));
-    let tail = of("(>>> (arr (snd x)) n)", &[('n', ended(&rest, out))]);
-    go_back(d, path, form.upto(i + 1, tail))?;
-    drop_box(d, &form.way_to(path, i))?;
+    let rest = graph.chain(graph.env(i), i + 1..graph.wires.len(), graph.out)?;
+    go_back(d, path, graph.form.upto(i + 1, of("(>>> (arr (snd x)) n)", &[('n', rest)])))?;
+    drop_box(d, &graph.form.way_to(path, i))?;
     single(d, path)
 }
 
 /// At `(>>> (arr z) (>>> (first b) (>>> (arr (snd x)) t)))`: without b.
 fn drop_box(d: &mut Draft, way: &[u32]) -> Option<()> {
-    turn(d, &joined(way, &[1, 1, 0, 0]), template("(then LEFT((then unit unit)) (snd x))"))?;
+    turn(d, &joined(way, &[1, 1, 0, 0]), template("(then LEFT(then unit unit) (snd x))"))?;
     d.back(laws::FUSE_FRONT, &joined(way, &[1, 1]))?;
     d.back(laws::FIRST_ARR, &joined(way, &[1, 1, 0]))?;
     d.back(laws::NEST, &joined(way, &[1]))?;
@@ -230,7 +284,7 @@ fn common(a: Term, b: Term, parts: &mut Vec<(Term, Term)>) -> Term {
         return a;
     }
     if a.is_like(b) && matches!(a.op, Op::Pair | Op::Event | Op::List) {
-        let kids: Vec<Term> = a.kids.iter().zip(&b.kids).map(|(a, b)| common(a, b, parts)).collect();
+        let kids: Vec<Term> = a.kids.iter().zip(b.kids.iter()).map(|(a, b)| common(a, b, parts)).collect();
         return a.with_kids(&kids);
     }
     let k = parts.iter().position(|&other| other == (a, b)).unwrap_or_else(|| {
@@ -241,7 +295,7 @@ fn common(a: Term, b: Term, parts: &mut Vec<(Term, Term)>) -> Term {
 }
 
 /// Where each of so many things stands in pairs nested to the right that hold them from here on.
-fn places(count: usize, from: Term) -> Vec<Term> {
+pub fn places(count: usize, from: Term) -> Vec<Term> {
     let mut from = from;
     let mut all = vec![];
     for k in 0..count {
@@ -252,19 +306,14 @@ fn places(count: usize, from: Term) -> Vec<Term> {
 }
 
 /// These in pairs nested to the right.
-fn nested(parts: &[Term]) -> Option<Term> {
+pub fn nested(parts: &[Term]) -> Option<Term> {
     let (last, others) = parts.split_last()?;
     Some(others.iter().rev().fold(*last, |all, part| pair(part, all)))
 }
 
 /// A delay of parts that never change, or are twice there: only the others are delayed.
-fn constant_delay(d: &mut Draft, path: &[u32], graph: &Graph) -> Option<()> {
-    let mut delays = (0..graph.form.stages.len()).filter(|&i| graph.form.stages[i].1.op == Op::Delay);
-    delays.find_map(|i| attempted(d, |d| narrow_delay(d, path, graph, i)))
-}
-
 fn narrow_delay(d: &mut Draft, path: &[u32], graph: &Graph, i: usize) -> Option<()> {
-    let (e, b) = graph.form.stages[i];
+    let &(e, b) = graph.form.stages.get(i).filter(|stage| stage.1.op == Op::Delay)?;
     let (mut parts, c) = (vec![], b.kids[0]);
     let f = common(e, c, &mut parts);
     let names: Vec<char> = (0..parts.len() as u32).filter_map(char::from_u32).collect();
@@ -279,9 +328,8 @@ fn narrow_delay(d: &mut Draft, path: &[u32], graph: &Graph, i: usize) -> Option<
         return None;
     }
     let late = b.with_kids(&[then(c, f)]);
-    let rest = ended(&graph.form.stages[i + 1..], graph.form.out);
-    let tail = of("(>>> (arr (pair e x)) (>>> (first (>>> (arr f) d)) n))", &[('e', e), ('f', f), ('d', late), ('n', rest)]);
-    go_back(d, path, graph.form.upto(i, tail))?;
+    let tail = "(>>> (arr (pair e x)) (>>> (first (>>> (arr f) d)) n))";
+    go_back(d, path, graph.form.upto(i, of(tail, &[('e', e), ('f', f), ('d', late), ('n', graph.form.rest(i + 1))])))?;
     let way = joined(&graph.form.way_to(path, i), &[1, 0, 0]);
     d.back(laws::DELAY_PASS, &way)?;
     if parts.is_empty() {
@@ -290,25 +338,18 @@ fn narrow_delay(d: &mut Draft, path: &[u32], graph: &Graph, i: usize) -> Option<
     single(d, path)
 }
 
-/// Exchanges the first two neighbours that are out of order: what only dead states need comes last, else by numbers.
-fn exchanged(d: &mut Draft, path: &[u32], graph: &Graph) -> Option<()> {
-    let key = |wire: Term| (!graph.live.contains(&wire), wire.number);
+/// Exchanges a stage with the next one, where they are out of order: what only dead states need comes last, else by numbers.
+fn exchange(d: &mut Draft, path: &[u32], graph: &Graph, i: usize) -> Option<()> {
+    let key = |wire: &Term| (!graph.live.contains(wire), wire.number);
+    if key(graph.wires.get(i)?) <= key(graph.wires.get(i + 1)?) {
+        return None;
+    }
     let form = &graph.form;
-    let others = template("(pair (fst (snd x)) (pair (fst x) (snd (snd x))))");
-    let budget = d.budget.clone();
-    let is_better = |i: usize| {
-        let (rest, out) = behind_more(&budget, &form.stages[i + 2..], form.out, others);
-        ended(&rest, out).id() < ended(&form.stages[i + 2..], form.out).id()
-    };
-    let i = (0..graph.wires.len().saturating_sub(1)).find(|&i| {
-        let (a, b) = (key(graph.wires[i]), key(graph.wires[i + 1]));
-        a > b || a == b && is_better(i)
-    })?;
     let ((a, f), (b, h)) = (form.stages[i], form.stages[i + 1]);
     let b = composed(&d.budget, template("(pair unit x)"), b);
     let tail = of(
         "(>>> (arr (pair a (pair b x))) (>>> (>>> (first f) (second (first h))) (>>> (arr (pair (fst (snd x)) (pair (fst x) (snd (snd x))))) n)))",
-        &[('a', a), ('b', b), ('f', f), ('h', h), ('n', ended(&form.stages[i + 2..], form.out))],
+        &[('a', a), ('b', b), ('f', f), ('h', h), ('n', form.rest(i + 2))],
     );
     go_back(d, path, form.upto(i, tail))?;
     d.forward(laws::HALVES, &joined(&form.way_to(path, i), &[1, 0]))?;
@@ -317,15 +358,15 @@ fn exchanged(d: &mut Draft, path: &[u32], graph: &Graph) -> Option<()> {
 
 /// Puts the state in order: constants and doubles out, the dead ones behind the others. These come as they are at first and after one sample,
 /// and where that is the same as they are asked for.
-fn restated(d: &mut Draft, path: &[u32], graph: &Graph) -> Option<()> {
-    let init = graph.form.init?;
+fn restate(d: &mut Draft, path: &[u32], graph: &Graph, i: usize) -> Option<()> {
+    let init = graph.form.init.filter(|_| i == 0)?;
     let is_constant = |state: &State| state.start == state.next && is_closed(state.next) && state.next.op != Op::Unit;
     let states = &graph.states;
     let twin = |i: usize| (0..i).find(|&j| states[j].start == states[i].start && states[j].next == states[i].next);
     let stays = |k: &usize| !is_constant(&states[*k]) && twin(*k).is_none();
     let mut asked: Vec<usize> =
         graph.live.iter().map(|wire| wire.number).filter(|n| (WIRE + 1..BOXED).contains(n)).map(|n| (n - WIRE - 1) as usize).collect();
-    let signs: Vec<Term> = (0..states.len()).map(|k| graph.sign(&d.budget, k)).collect();
+    let signs = graph.signs(&d.budget);
     asked.sort_by(|&i, &j| compared(signs[i], signs[j]));
     let dead: Vec<usize> = (0..states.len()).filter(|k| !asked.contains(k)).filter(|k| stays(k)).collect();
     let order: Vec<usize> = asked.into_iter().filter(|k| stays(k)).collect();
@@ -351,63 +392,61 @@ fn restated(d: &mut Draft, path: &[u32], graph: &Graph) -> Option<()> {
     };
     let parts: Option<Vec<Term>> = (0..states.len()).map(place).collect();
     let back = with_states(init, &mut parts?.into_iter());
-    let out = composed(&d.budget, graph.form.out, of("RIGHT(p)", &[('p', perm)]));
-    let f = ended(&graph.form.stages, out);
+    let out = composed(&d.budget, graph.form.out, of("RIGHT(g)", &[('g', perm)]));
+    let f = chain_of(&graph.form.stages, node(Op::Arr, &[out]));
     let c = composed(&d.budget, init, perm);
     go_back(d, path, of("(loopPre (then c i) (>>> f (arr RIGHT(i))))", &[('c', c), ('i', back), ('f', f)]))?;
     d.back(laws::LOOP_TURN, path)?;
     single(d, path)
 }
 
+/// Makes one of two boxes beside one another that are the same and get the same.
+fn twins(d: &mut Draft, path: &[u32], graph: &Graph, i: usize) -> Option<()> {
+    if graph.wires.get(i)? != graph.wires.get(i + 1)? {
+        return None;
+    }
+    let ((e, b), rest) = (graph.form.stages[i], graph.form.rest(i + 2));
+    let both = "(>>> (arr (pair e x)) (>>> (first (&&& b b)) (>>> (arr (pair (snd (fst x)) (pair (fst (fst x)) (snd x)))) n)))";
+    go_back(d, path, graph.form.upto(i, of(both, &[('e', e), ('b', b), ('n', rest)])))?;
+    d.backward(laws::COPIED, &joined(&graph.form.way_to(path, i), &[1, 0, 0]), of("(>>> b (arr (pair x x)))", &[('b', b)]))?;
+    single(d, path)
+}
+
 /// Drops the part of the state that nothing shown needs, with its stages.
-fn dead_state(d: &mut Draft, path: &[u32], graph: &Graph) -> Option<()> {
+fn dead_state(d: &mut Draft, path: &[u32], graph: &Graph, i: usize) -> Option<()> {
     let form = &graph.form;
-    let init = form.init?;
+    let init = form.init.filter(|_| i == 0)?;
     let lives: Vec<bool> = (0..graph.states.len()).map(|k| graph.live.contains(&wire(WIRE + 1 + k as i64))).collect();
     let all_dead = !lives.contains(&true);
     let n = graph.wires.iter().filter(|wire| graph.live.contains(wire)).count();
     if !lives.contains(&false) || !graph.wires[..n].iter().all(|wire| graph.live.contains(wire)) || !all_dead && init.op != Op::Pair {
         return None;
     }
-    let budget = d.budget.clone();
-    let choose = |of_all: &'static str, of_some: &'static str, letter: Term| of(if all_dead { of_all } else { of_some }, &[('e', letter)]);
-    let x = template("x");
-    // What is shown, without the dead part of the state and its stages.
-    let mut more = choose("(pair x unit)", "(pair (fst x) (pair (snd x) unit))", x);
-    let mut kept = vec![];
-    for &(e, b) in &form.stages[..n] {
-        kept.push((composed(&budget, more, e), b));
-        more = under(&budget, more);
-    }
-    for _ in n..form.stages.len() {
-        more = pair(template("unit"), more);
-    }
-    let shown = composed(&budget, more, choose("(fst e)", "(pair (fst e) (fst (snd e)))", form.out));
-    let start = if all_dead { init } else { init.kids[1] };
-    let small = Form { init: if all_dead { None } else { init.kid(0) }, stages: kept, out: shown };
-    let stays = normal(&budget, choose("(snd e)", "(snd (snd e))", form.out)).to == choose("(snd e)", "(snd (snd e))", x);
-    if form.stages.is_empty() && stays {
-        go_back(d, path, small.upto(0, of("(loopPre c (first (arr e)))", &[('c', start), ('e', shown)])))?;
+    // The live and the dead part of the state, of what it starts with, and of what it is next.
+    let halves = |whole: Term, next: Term| {
+        if all_dead {
+            (template("unit"), next)
+        } else {
+            (part(&d.budget, Op::Fst, whole), part(&d.budget, Op::Snd, whole))
+        }
+    };
+    let (base, next) = (graph.base.kids[1], part(&d.budget, Op::Snd, graph.out));
+    let ((live, dead), (_, start), (live_next, dead_next)) = (halves(base, base), halves(init, init), halves(next, next));
+    let small = Form { init: if all_dead { None } else { init.kid(0) }, stages: vec![], out: template("x") };
+    let env = if all_dead { graph.base.kids[0] } else { pair(graph.base.kids[0], live) };
+    let shown = if all_dead { graph.shown } else { pair(graph.shown, live_next) };
+    let within = graph.wires[..n].iter().fold(env, |env, own| pair(own, env));
+    let out = written(shown, &places_in(within))?;
+    if form.stages.is_empty() && dead_next == dead {
+        go_back(d, path, small.upto(0, of("(loopPre c (first (arr e)))", &[('c', start), ('e', out)])))?;
         d.forward(laws::LOOP_UNHEARD, &small.way_to(path, 0))?;
         return single(d, path);
     }
-    // What the dead part sees: all that is there, and its own state.
-    let mut from = template("(fst x)");
-    let mut heads = vec![];
-    for _ in 0..n {
-        heads.push(node(Op::Fst, &[from]));
-        from = node(Op::Snd, &[from]);
-    }
-    let all = heads
-        .into_iter()
-        .rev()
-        .fold(choose("(pair e (snd x))", "(pair (fst e) (pair (snd e) (snd x)))", from), |all, head| pair(head, all));
-    let next = normal(&budget, choose("(pair unit (snd e))", "(pair unit (snd (snd e)))", form.out)).to;
-    let dead = ended(&form.stages[n..], next);
-    let tail = of(
-        "(>>> (arr (pair x o)) (>>> (first (loopPre c (>>> (arr a) d))) (>>> (arr (snd x)) (arr x))))",
-        &[('o', shown), ('c', start), ('a', all), ('d', dead)],
-    );
+    let inner = graph.chain(pair(within, dead), n..graph.wires.len(), pair(template("unit"), dead_next))?;
+    let kept = graph.chain(env, 0..n, template("unit"))?;
+    let small = Form { stages: Form::read(kept)?.stages, ..small };
+    let tail =
+        of("(>>> (arr (pair x o)) (>>> (first (loopPre c d)) (>>> (arr (snd x)) (arr x))))", &[('o', out), ('c', start), ('d', inner)]);
     go_back(d, path, small.upto(n, tail))?;
     drop_box(d, &small.way_to(path, n))?;
     single(d, path)

@@ -21,7 +21,7 @@ NONE_FOUND = re.compile(r"equal on [\d,]+ samples; no certificate found\n")
 DIFFER = re.compile(r"they differ on this recording: line (\d+): (.*) and (.*)\n")
 # Why none is found: where two networks differ, with what each has there, the two as they are given where the search gave up; or how long one
 # would be.
-REASON = re.compile(r"(gave up: \d+ nodes visited\n)?\(at( \d+)*\)\n- .+\n\+ .+\n|too long: \d+ steps, \d+ bytes\n")
+REASON = re.compile(r"(gave up: \d+ nodes visited\n)?\(at( \d+)*\)\n- .+\n\+ .+\n(the first wire that differs: .+\n)?|too long: \d+ steps, \d+ bytes\n")
 
 
 class Caller:

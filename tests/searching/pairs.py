@@ -40,7 +40,7 @@ def networks():
     yield "the same, 250 stages", *[balanced(["time", "integral"] * 125)] * 2, 0
     yield "a deep network behind nothing", deep, f"(>>> (arr x) {deep})", TOO_LONG
     yield "a list of 70,001", list_with("(then x (neg x))"), list_with("(neg x)"), TOO_LONG
-    yield "lists of 1,500 inputs, one negated", inputs, tripled(1200, 1500), ("(at 0 1200)",)
+    yield "lists of 1,500 inputs, one negated", inputs, tripled(1200, 1500), ("(at 0 1200)", "gave up: (at 0 1200), ")
     yield "doubled 12 times and 16 times as much", doubled, arr("(mul x 16)"), APART
     staged = [arr("(if (less x 9) x (add x 1))")] * 14
     other = [*staged[:3], arr("(if (less x 9) x (add x 7))"), *staged[4:]]
@@ -53,7 +53,7 @@ def networks():
 
 
 def multiplied():
-    """Products of sums, and what they are multiplied out; no law makes `(mul x 1)` be `x`, or a negated sum be one of negated terms."""
+    """Products of sums, and what they are multiplied out."""
     added = "(add x 1)"
     product = f"(mul {added} (sub (neg x) 2))"
     yield "a product of sums, and one sum", arr(product), arr("(add (mul x (neg x)) (add (mul (neg x) 1) (add (mul -2 x) -2)))"), 20
@@ -61,8 +61,8 @@ def multiplied():
     yield "a difference, twice as much, and a cell", to_the_right([arr("(sub x 3)"), arr(f"(mul {added} 2)"), "(iPre 0)"]), to_the_right([arr("(add (mul 2 x) -4)"), "(iPre 0)"]), 40
     yield "twice and three times, and five times", arr("(add (mul x 2) (mul 3 x))"), arr("(mul x 5)"), 10
     yield "products before a stage, and behind", to_the_right([arr(f"(mul {added} (add x 2))"), arr("(mul x (add x 3))")]), arr(f"(mul (mul {added} (add x 2)) (add 3 (mul (add x 2) {added})))"), 250
-    yield "a factor of 1", arr("(mul x 1)"), arr("x"), APART
-    yield "a negated sum", arr(f"(neg {added})"), arr("(add (neg x) -1)"), APART
+    yield "a factor of 1", arr("(mul x 1)"), arr("x"), 1
+    yield "a negated sum", arr(f"(neg {added})"), arr("(add (neg x) -1)"), 2
     terms = [f"(if (less x {k}) {k} x)" for k in range(9)]
     whole = to_the_right(terms, "add")
     yield "a product of 81 terms", arr(f"(mul {whole} {whole})"), arr(to_the_right([f"(mul {e} {f})" for e in terms for f in terms], "add")), APART
@@ -80,7 +80,7 @@ def looped():
     yield "a controller, and one loop", controller, controlling, 240
     yield "the same in a switch", *[f"(switch (>>> {net} {arr('(pair x (if (less 9 x) (event x) (none Int)))')}) integral)" for net in (controller, controlling)], 240
     kept, summing = [f"(loopPre 0 {swapped})", "(iPre 0)"], [summed, "(>>> (iPre 0) integral)"]
-    yield "two cells, added in either order", *[to_the_right([both, f"(first {f})", f"(second {g})", added]) for f, g in ((kept[1], summed), (summed, kept[0]))], 750
+    yield "two cells, added in either order", *[to_the_right([both, f"(first {f})", f"(second {g})", added]) for f, g in ((kept[1], summed), (summed, kept[0]))], 800
     yield "two that differ", *[to_the_right([both, f"(first {kept[1]})", f"(second {net})", added]) for net in summing], APART
     heard = "(loopPre 1 (arr (pair (add (fst x) (snd x)) (fst x))))"
     yield "a state that isn't heard", "(loopPre 7 (arr (pair (fst x) (snd x))))", arr("x"), 3
@@ -91,7 +91,7 @@ def looped():
         numbers = range(count)
         stages = [stage for k in numbers for stage in (f"(iPre {k})", arr(f"(add x {k})"))]
         loops = [f"(loopPre {k} (arr (pair (add (snd x) {k}) (fst x))))" for k in numbers]
-        yield f"a chain of {count} cells, and of loops", to_the_right(stages), to_the_left(loops), 250 * count
+        yield f"a chain of {count} cells, and of loops", to_the_right(stages), to_the_left(loops), 430 * count
 
 
 def hostile():

@@ -47,7 +47,7 @@ def laws_fault(caller, net):
         return "laws: a line is too long"
     if not steps:
         return ""
-    told = caller.call("apply", net, caller.file(f"laws 3\n{steps[-1]}\n"))
+    told = caller.call("apply", net, caller.file(f"laws 4\n{steps[-1]}\n"))
     return "" if told[0] == 0 else f"laws: the last step: {told}"
 
 

@@ -37,7 +37,7 @@ def walks():
 def certificate_of(steps):
     """The text of a certificate with these steps."""
     told = [f"(step {law} forward (at{''.join(f' {k}' for k in path)}))" for law, *path in map(str.split, steps)]
-    return "\n".join(["laws 3", *told, ""])
+    return "\n".join(["laws 4", *told, ""])
 
 
 def kind_of(steps):

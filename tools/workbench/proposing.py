@@ -21,7 +21,7 @@ from typing import NoReturn
 
 from workbench.ending import REFUSED, UNREADABLE, WRONG_WORDS, Refused, Words, unreadable
 from workbench.outline import read_type
-from workbench.program import TOP, again, path
+from workbench.program import GAIN, TOP, again, path
 from workbench.streams import Recording, Streams, Wishes, stream_text
 
 SOURCES = TOP / "search"
@@ -34,15 +34,13 @@ MOST_SECONDS, MOST_MEMORY, MOST_PRINTED = 300, 3 << 30, 4 << 20
 # How many times as long it may last by the clock.
 WAITS = 4
 # What a search tells where it finds none: why.
-WHY = re.compile(rb"((gave up: \d+ nodes visited\n)?\(at( \d+)*\)\n- .+\n\+ .+\n|too long: \d+ steps, \d+ bytes\n)?")
+WIRE = rb"the first wire that differs: .+\n"
+WHY = re.compile(rb"((gave up: \d+ nodes visited\n)?\(at( \d+)*\)\n- .+\n\+ .+\n(" + WIRE + rb")?|too long: \d+ steps, \d+ bytes\n)?")
 APART = b"the normal forms differ here; `./yampa differ` tells whether the networks do\n"
 NONE_FOUND, NOT_IMPROVED = "certificate: none found", "network: not improved"
 DIFFERENT = "certificate: ends elsewhere"
 # How many random samples two networks are run on first, in recordings of at most so many, and for how many seconds at most.
 SAMPLES, LONGEST, SAMPLING = 1_000, 600, 20
-# Says what `improve` has gained, where that is asked for.
-GAIN = "YAMPA_GAIN"
-
 
 IMPROVE = """Rewrites a network by more laws than `optimise`, and prints the result.
 
@@ -68,6 +66,7 @@ from there to TGT. If it finds none, both may still output the same. It prints
   (at 0)
   - (mul x 2)
   + (add x x)
+  the first wire that differs: ..      which part of the output, or of the loop's state, it is;
   too long: 10120 steps, 902115 bytes  that there are steps, but over a certificate's limits;
   gave up: 15000000 nodes visited      or that it found no steps to a normal form, then the first
                                        position at which SRC and TGT differ, and what they have there.
@@ -123,6 +122,11 @@ def searcher() -> str:
     if not built.exists():
         build(built)
     return str(built)
+
+
+def is_built() -> bool:
+    """Whether a call of the searches doesn't build them first."""
+    return "YAMPA_SEARCH" in os.environ or (TOP / "installed").exists() or (BUILT / f"{NAME}-{sum_of_sources()}").exists()
 
 
 def sum_of_sources() -> str:

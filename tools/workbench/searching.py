@@ -1,4 +1,5 @@
 """`yampa falsify` and `yampa differ`: recordings that break what is expected, by z3 and by random tests."""
+import contextlib
 import sys
 from argparse import Namespace
 from dataclasses import replace
@@ -9,8 +10,10 @@ from workbench.batches import read_recording
 from workbench.comparing import first_difference, said
 from workbench.ending import INTERRUPTED, REFUSED, UNREADABLE, Refused, Words, stream_bytes, write
 from workbench.program import call
+from workbench.proposing import searcher
 from workbench.proving.contract import contract_of, joined
 from workbench.proving.deciding import (
+    NOT_KNOWN,
     Decision,
     Limits,
     Verdict,
@@ -26,7 +29,6 @@ from workbench.proving.explicit import by_states
 from workbench.proving.question import ALIKE, Question
 from workbench.proving.spelling import in_core
 from workbench.proving.words import (
-    NOT_KNOWN,
     Loaded,
     assumed,
     limits_of,
@@ -58,7 +60,7 @@ DIFFER = """Says whether two networks of the same types write the same bytes on 
 
   equal on every recording      status 0; by a certificate, which is a proof, or by z3, which isn't one of this project
   line 3: 2 and 1               status 1; a stream on which they differ is printed, and this line on standard error
-  not known: ..                 status 4; what was tried
+  not known: ..                 status 4; what was tried; if no recording was run, status 3
 
 `yampa certify` looks for a certificate, z3 for a recording and for a proof, and random streams are run."""
 
@@ -89,21 +91,26 @@ def falsify_main() -> None:
     what = f"{' and '.join(wrong)} {'is' if len(wrong) == 1 else 'are'} false" if wrong else "false"
     for line in told(verdict.recording, contract.loaded.given):
         print(line, file=sys.stderr)
-    print(f"yampa falsify: {what} at line {verdict.sample} ({verdict.streams():,} random streams, seed {given.seed})", file=sys.stderr)
+    print(f"yampa falsify: {what} at line {verdict.sample} ({verdict.random_streams()}, seed {given.seed})", file=sys.stderr)
     sys.exit(REFUSED)
 
 
 def told_of_none(verdict: Verdict, seed: int) -> int:
     """Says that no recording was found, where enough were tried or it holds of all, and answers the status."""
-    if verdict.holds:
-        holds = verdict.holds
-        print(f"yampa falsify: none found: it holds on every recording{holds.recordings}, by {holds.told()}: {holds.rests}", file=sys.stderr)
+    if holds := verdict.holds:
+        told = f"it holds on every recording{holds.recordings}, by {holds.told()}: {holds.rests} ({verdict.random_streams()}, seed {seed})"
+        print(f"yampa falsify: {told}", file=sys.stderr)
         return 0
-    if not verdict.streams() and not verdict.interrupted:
-        raise Refused(f"no random stream was run: {verdict.what_was_searched()}", UNREADABLE)
+    refuse_unrun(verdict)
     known = verdict.streams() >= ENOUGH
     print(f"yampa falsify: {'none found' if known else 'not known'}: {verdict.what_was_searched()} (seed {seed})", file=sys.stderr)
     return INTERRUPTED if verdict.interrupted else 0 if known else NOT_KNOWN
+
+
+def refuse_unrun(verdict: Verdict) -> None:
+    """Refuses to say anything where no recording was run."""
+    if verdict.open_status() == UNREADABLE:
+        raise Refused(f"no recording was run: {verdict.what_was_searched()}", UNREADABLE)
 
 
 def wishes_for(given: Namespace, question: Question) -> Wishes:
@@ -123,7 +130,7 @@ def recording_in(name: str, question: Question) -> Recording:
 def searched(name: str, question: Question, limits: Limits, ways: dict[str, Way], seed: int, wishes: Wishes, proving: bool = False) -> Verdict:
     """What comes of a question by the given ways, those of z3 and random ones; where z3 isn't there that is told."""
     others = {"states": by_states, **random_ways(seed, question, wishes)}
-    return Decision(question, limits, wishes).by({**ways, **ways_or_none(name, proving), **others})
+    return Decision(question, limits).by({**ways, **ways_or_none(name, proving), **others})
 
 
 def differ_main() -> None:
@@ -144,6 +151,8 @@ def differ_main() -> None:
     assuming, pace = (*keeping_to(source.given), *assumed(given.assume, source.given)), pace_of(given)
     question = Question(source.given, (source.net, target.net), ALIKE, assuming, pace=pace)
     wishes = wishes_for(given, question)
+    with contextlib.suppress(Refused):
+        searcher()  # built before the ways race, which are stopped where one has an answer
     ways = {"certify": certifying(source.name, target.name), "long": in_long_recordings(wishes)}
     verdict = searched("differ", question, limits_of(given), ways, given.seed, wishes, True)
     sys.exit(told_of_two(verdict, question, source, target, given))
@@ -166,5 +175,6 @@ def told_of_two(verdict: Verdict, question: Question, source: Loaded, target: Lo
         for line in in_core(verdict.holds.invariants) if given.show else []:
             print(line)
         return 0
+    refuse_unrun(verdict)
     print(f"not known: {verdict.what_was_searched()}")
-    return INTERRUPTED if verdict.interrupted else NOT_KNOWN
+    return verdict.open_status()

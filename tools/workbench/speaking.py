@@ -9,7 +9,7 @@ from workbench.ending import Refused, ended, write
 from workbench.faults import Files, explained
 from workbench.origin import PROGRAMS, Program, program_of
 from workbench.outline import position_in, read_type
-from workbench.program import COPIES, again, answered, answering
+from workbench.program import COPIES, GAIN, again, answered, answering
 from front.spell import shown_type
 from workbench.translated import taken_of
 
@@ -118,7 +118,7 @@ def answer(program: str, words: list) -> int:
     networks = of_haskell(files_in(words))
     is_spoken = bool(networks) and words[0] in SPOKEN
     if networks:
-        os.environ["YAMPA_GAIN"] = "1"
+        os.environ[GAIN] = "1"
     with tempfile.TemporaryFile() as output:
         to = output if is_spoken else None
         with subprocess.Popen([answering(words), *words], stdout=to, stderr=subprocess.PIPE, text=True, errors="replace") as run:
