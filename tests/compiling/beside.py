@@ -1,19 +1,26 @@
-"""Networks beside their compiled forms: those of examples/, and random ones."""
+"""Networks beside their compiled forms: those of examples/, and random ones, of which some are programs in Haskell."""
 import random
 from pathlib import Path
 
-from compiling.making import SANITIZED, Differs, Told, is_here, live
+from compiling.making import COMPILERS, ELSEWHERE, QUICK, SANITIZED, SLOW, Differs, Told, can_run, is_here, live
+from front.main import translated
 from generator.breaking import Breaker
 from generator.cases import FORM_WORDS
 from generator.making import Maker
 from model.texts import ValueFault, ValueReader, network_text, read_network, step_of
 from model.trees import NEW_FORMS, expanded, preorder, shown
 from model.typed import Scope, check_types, weight
+from whole import chance, trying
 
 TOP = Path(__file__).resolve().parents[2]
 NEARLY = 6
 STREAMS = 6
+# How many streams a random program in Haskell has, and of how many lines.
+PROGRAM_STREAMS = 3, 40
 HEAVY = 20_000
+# How random networks are compiled, in turn: by sanitizers, which find what isn't defined, without and with all optimisation, by clang, and
+# for other processors.
+WAYS = [SANITIZED, SLOW, "clang", QUICK, "i686", "gcc", "arm"]
 
 
 def examples():
@@ -34,10 +41,13 @@ def example(bench, net):
     for by in ("g++", "clang", "clang++"):
         if is_here(by) and (by == "clang" or rng.random() < 0.3):
             bench.same(bench.built(f"by-{by}", [source], by), net, stream)
+    for processor in filter(can_run, ELSEWHERE):
+        if processor == "arm" or rng.random() < 0.3:
+            bench.same(bench.elsewhere(processor, [source]), net, stream)
 
 
 def random_network(bench, seed, number):
-    """A random network on random streams; every eighth with sanitizers, which find what isn't defined."""
+    """A random network on random streams, by one compiler after the other."""
     rng = random.Random(f"{seed} {number}")
     maker, breaker = Maker(rng, 1 + number % 2), Breaker(rng)
     given, net = network_of(maker, number)
@@ -48,13 +58,34 @@ def random_network(bench, seed, number):
     if most and rng.random() < 0.3:
         most = rng.randint(1, most)
     source = bench.source("net.c", file, *(["--most", most] if most else []))
-    built = bench.built("by-gcc", [source], SANITIZED if number % 8 == 0 else None)
+    built = built_by_turns(bench, [source], number // 2)
     for stream in streams:
         fault = fault_of(stream, given, most)
         if fault:
             same_up_to(bench, built, file, stream, *fault)
         else:
             bench.same(built, file, stream)
+
+
+def random_program(bench, seed, number):
+    """A random program in Haskell on random streams, by one compiler after the other."""
+    rng = random.Random(f"program {seed} {number}")
+    text, streams = program_of(bench, rng)
+    file = bench.file("net", text)
+    built = built_by_turns(bench, [bench.source("net.c", file)], number)
+    for stream in [*streams, Breaker(rng).broken(streams[0])]:
+        bench.same(built, file, stream)
+    bench.tally["programs in Haskell"] += 1
+
+
+def built_by_turns(bench, sources, turn):
+    """A program of these sources by one of the ways; by gcc where that one isn't here."""
+    way = WAYS[turn % len(WAYS)]
+    if isinstance(way, list):
+        return bench.built("by-gcc", sources, way)
+    if way in ELSEWHERE and can_run(way):
+        return bench.elsewhere(way, sources)
+    return bench.built("by-gcc", sources, way if way in COMPILERS and is_here(way) else "gcc")
 
 
 COUNTED = [*NEW_FORMS, "switch", "dSwitch", "rSwitch", "kSwitch", "pSwitch", "old", "delay"]
@@ -70,6 +101,12 @@ def network_of(maker, number):
         if weight(net) <= HEAVY:
             check_types(given, net)
             return given, net
+
+
+def program_of(bench, rng):
+    """The network of a random program in Haskell, and streams for it. No list is in its input."""
+    file = bench.file("Chance.hs", chance.Maker(rng.randrange(10**9)).module("Chance"))
+    return translated(str(file)).network.text.encode(), [stream.encode() for stream in trying.random_streams(file, *PROGRAM_STREAMS)]
 
 
 def stream_of(maker, breaker, given):

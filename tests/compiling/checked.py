@@ -30,6 +30,44 @@ three behind the end 2
 none 1
 two 0
 """
+# Steps of 1, 3, 0 and 3 without tests: at 0 the network starts anew. Then two lists of three, where two have room.
+UNCHECKED = b"""
+#include <stdio.h>
+#include <string.h>
+#include "sums.h"
+#include "lists.h"
+
+int main(void)
+{
+    static const int64_t steps[] = {1, 3, 0, 3};
+    const sums_input five = 5;
+    struct sums_state sum;
+    struct lists_state list;
+    lists_input input;
+    sums_init(&sum);
+    lists_init(&list);
+    memset(&input, 0, sizeof input);
+    input.n = 3;
+    for (int i = 0; i < 4; i++) {
+        sums_output output;
+        sums_step(&sum, steps[i], &five, &output);
+        printf("%d %d\\n", (int)output.a, (int)output.b);
+    }
+    for (int i = 0; i < 2; i++) {
+        lists_output output;
+        lists_step(&list, 1, &input, &output);
+        printf("%d\\n", (int)output);
+    }
+    return 0;
+}
+"""
+UNTESTED = b"""0 0
+15 3
+0 0
+15 3
+7
+3
+"""
 COLUMNS = 100
 LONG = "(>>> (arr (add x 1)) " * 40 + "(arr x)" + ")" * 40
 
@@ -38,13 +76,13 @@ def words_of(name, *words):
     return ["--name", name, *(["--most", "2"] if name == "lists" else []), *words]
 
 
-def sources(bench):
+def sources(bench, *words):
     """The two networks' C and headers."""
     found = []
     for name, text in NETWORKS.items():
         net = bench.file(f"{name}-net", text)
-        found.append(bench.source(f"{name}.c", "--no-main", *words_of(name), net))
-        bench.source(f"{name}.h", "--header", *words_of(name), net)
+        found.append(bench.source(f"{name}.c", "--no-main", *words_of(name, *words), net))
+        bench.source(f"{name}.h", "--header", *words_of(name, *words), net)
     return found
 
 
@@ -67,14 +105,15 @@ def steps(bench):
 
 def unchecked(bench):
     """With `--unchecked` a step returns nothing, and tests nothing."""
-    net = bench.file("lists-net", NETWORKS["lists"])
     for words, type_ in (([], "bool"), (["--unchecked"], "void")):
-        source = bench.source("step.c", "--no-main", *words_of("lists", *words), net)
-        text = source.read_text() + f"extern {type_} (*pointed)(struct lists_state *, int64_t, const lists_input *, lists_output *);\n"
+        found = sources(bench, *words)
+        text = "#include \"lists.h\"\nextern %s (*pointed)(struct lists_state *, int64_t, const lists_input *, lists_output *);\n" % type_
         text += f"{type_} (*pointed)(struct lists_state *, int64_t, const lists_input *, lists_output *) = lists_step;\n"
-        bench.built("step.o", [bench.file("step.c", text)], None, "-c")
-        if ("_fits_" in text, "dt < 1" in text) != (not words, not words):
-            raise Differs(f"compile {' '.join(words)} prints other tests")
+        bench.built("step.o", [bench.file("step.c", text)], None, "-c", "-I.")
+    told = bench.ran([bench.built("unchecked", [bench.file("unchecked.c", UNCHECKED), *found], None, "-I.")])
+    if (told.output, told.error, told.status) != (UNTESTED, b"", 0):
+        raise Differs(f"unchecked steps tell {told.output.decode()}")
+    bench.tally["unchecked steps"] += UNTESTED.count(b"\n")
 
 
 def stale(bench):

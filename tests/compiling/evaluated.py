@@ -2,27 +2,27 @@
 import random
 import re
 
-from compiling.beside import most_words, network_of, stream_of
+from compiling.beside import most_words, network_of, program_of, stream_of
 from compiling.making import Differs
 from compiling.meaning import Meaning, Undefined
 from compiling.reading import Unread, read
 from generator.breaking import Breaker
 from generator.making import Maker
-from model.texts import ValueReader, network_text
-from model.typed import weight
+from model.texts import ValueReader, network_text, read_network
+from model.trees import expanded
+from model.typed import check_types, weight
 
 # Networks up to this weight, state and length of lists, each on so many streams of so many samples: some 30 processor seconds in all.
 NETWORKS, HEAVY, STATE, MOST, STREAMS, LONGEST = 200, 400, 40_000, 8, 4, 40
 
 
 def random_network(bench, seed, number):
-    """A random network on random streams, as far as `run` takes them."""
+    """A random network, each fifth of a program in Haskell, on random streams, as far as `run` takes them."""
     rng = random.Random(f"evaluated {seed} {number}")
-    maker, breaker = Maker(rng, 1 + number % 2), Breaker(rng)
     while True:
-        given, net = network_of(maker, number)
-        streams = [b"".join(stream_of(maker, breaker, given).splitlines(True)[:LONGEST]) for _ in range(STREAMS)]
-        text = network_text(given, net).encode()
+        text, streams = program_of(bench, rng) if number % 5 == 4 else random_case(rng, number)
+        net = read_network(text)[1]
+        streams = [b"".join(stream.splitlines(True)[:LONGEST]) for stream in streams]
         words = most_words(text, streams)
         if weight(net) > HEAVY or words and words[1] > MOST:
             continue
@@ -30,10 +30,23 @@ def random_network(bench, seed, number):
         if not told.status and int(re.search(rb"The state has at most (\d+) bytes", told.output)[1]) <= STATE:
             break
     bench.file("net.c", told.output)
-    held(bench, given, told.output.decode("latin-1"), streams)
+    held(bench, typed(bench.folder / "net"), told.output.decode("latin-1"), streams)
 
 
-def held(bench, given, text, streams):
+def typed(file):
+    """The types of a network's file, of its input and of its output."""
+    given, net = read_network(file.read_bytes())
+    return given, check_types(given, expanded(net)).output
+
+
+def random_case(rng, number):
+    """A random network's text, and streams."""
+    maker, breaker = Maker(rng, 1 + number % 2), Breaker(rng)
+    given, net = network_of(maker, number)
+    return network_text(given, net).encode(), [stream_of(maker, breaker, given) for _ in range(STREAMS)]
+
+
+def held(bench, types, text, streams):
     """Holds the meaning of a text to what `run` tells of streams."""
     try:
         meaning = Meaning(read(text))
@@ -41,7 +54,7 @@ def held(bench, given, text, streams):
         raise Differs(f"the printed C isn't read: {why}") from None
     for stream in streams:
         lines = bench.run("net", stream).output.decode().splitlines()
-        found = list(outputs(meaning, given, stream, len(lines)))
+        found = list(outputs(meaning, types, stream, len(lines)))
         if found != lines:
             bench.file("stream", stream)
             at = next((number for number, pair in enumerate(zip(found, lines)) if pair[0] != pair[1]), len(found))
@@ -49,18 +62,17 @@ def held(bench, given, text, streams):
         bench.tally["lines by meaning"] += len(lines)
 
 
-def outputs(meaning, given, stream, count):
-    """What the C outputs on so many samples of a stream."""
-    functions, structs = meaning.program.functions, meaning.program.structs
-    output = functions["net_step"].parameters[3][0][1]
-    frame = [meaning.fresh(("struct", "net_state")), None, meaning.fresh(output)]
+def outputs(meaning, types, stream, count):
+    """What the C of a network between these types outputs on so many samples of a stream."""
+    _, _, (input_type, _), (output_type, _) = meaning.program.functions["net_step"].parameters
+    frame = [meaning.fresh(("struct", "net_state")), None, meaning.fresh(output_type[1])]
     state, into, out = ((frame, number, (id(frame), number)) for number in range(3))
     try:
         meaning.call("net_init", [state])
-        for step, value in samples(given, stream, count):
-            frame[1] = object_of(value, functions["net_step"].parameters[2][0][1], meaning)
+        for step, value in samples(types[0], stream, count):
+            frame[1] = object_of(value, types[0], meaning.fresh(input_type[1]))
             meaning.call("net_step", [state, step, into, out])
-            yield spelt(frame[2], output, structs)
+            yield spelt(frame[2], types[1])
     except Undefined as why:
         yield f"no result: {why}"
 
@@ -77,35 +89,30 @@ def samples(given, stream, count):
         yield step, before
 
 
-def object_of(value, type_, meaning):
-    """A value as an object of a type: what an event or a list doesn't have is not set."""
-    if type_ == "bool":
-        return value == "true"
+def object_of(value, type_, into):
+    """A value of a type as an object, whose parts have the places of the table in docs/C.md, into one in which nothing is set: what an event
+    or a list doesn't have stays so."""
     if isinstance(type_, str):
-        return 0 if type_ == "u8" else value
-    types = meaning.program.structs[type_[1]]
-    if "a" in types:
-        return [object_of(part, of, meaning) for part, of in zip(value[1:], types.values())]
-    if "is" in types:
-        return [value != "none", meaning.fresh(types["v"]) if value == "none" else object_of(value[1], types["v"], meaning)]
-    made = [object_of(one, types["e"][1], meaning) for one in value[1:]]
-    return [len(made), made + [meaning.fresh(types["e"][1]) for _ in range(types["e"][2] - len(made))]]
+        return {"Unit": 0, "Bool": value == "true"}.get(type_, value)
+    if type_[0] == "Pair":
+        return [object_of(*one) for one in zip(value[1:], type_[1:], into)]
+    if type_[0] == "Event":
+        return [value != "none", into[1] if value == "none" else object_of(value[1], type_[1], into[1])]
+    count = len(value) - 1
+    return [count, [object_of(one, type_[1], place) for one, place in zip(value[1:], into[1])] + into[1][count:]]
 
 
-def spelt(found, type_, structs):
-    """An object as a stream spells it."""
+def spelt(found, type_):
+    """An object of a type as a stream spells it."""
     if found is None:
         raise Undefined("a scalar of the output is not set")
-    if type_ == "bool":
-        return "true" if found else "false"
     if isinstance(type_, str):
-        return "unit" if type_ == "u8" else str(found)
-    types = structs[type_[1]]
-    if "a" in types:
-        return f"(pair {spelt(found[0], types['a'], structs)} {spelt(found[1], types['b'], structs)})"
-    if "is" in types:
-        return f"(event {spelt(found[1], types['v'], structs)})" if found[0] else "none"
-    return " ".join(["(list", *[spelt(one, types["e"][1], structs) for one in found[1][: found[0]]]]) + ")"
+        return {"Unit": "unit", "Bool": str(found).lower()}.get(type_, str(found))
+    if type_[0] == "Pair":
+        return f"(pair {spelt(found[0], type_[1])} {spelt(found[1], type_[2])})"
+    if type_[0] == "Event":
+        return f"(event {spelt(found[1], type_[1])})" if found[0] else "none"
+    return " ".join(["(list", *[spelt(one, type_[1]) for one in found[1][: found[0]]]]) + ")"
 
 
 # ---- planted faults
@@ -130,13 +137,13 @@ def planted(bench):
     """Each planted fault is found, on a stream on which the C without it does as `run` does."""
     for name, (net, pattern, instead) in PLANTED.items():
         file = bench.file("net", f"yampa 1 input Int {net}")
-        text = bench.compile("--no-main", "--name", "net", file).output.decode()
-        held(bench, "Int", text, [RISING])
+        text, types = bench.compile("--no-main", "--name", "net", file).output.decode(), typed(file)
+        held(bench, types, text, [RISING])
         changed, count = re.subn(pattern, instead, text, count=1)
         if count != 1:
             raise Differs(f"{name}: nothing is there to be changed")
         try:
-            held(bench, "Int", changed, [RISING])
+            held(bench, types, changed, [RISING])
         except Differs:
             bench.tally["planted faults that were found"] += 1
             continue

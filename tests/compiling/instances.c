@@ -1,6 +1,8 @@
-/* Two instances each of the networks `sums` and `held`, in turn; one of `sums` starts anew at sample 12. A line an output. */
+/* Two instances each of the networks `sums` and `held`, in turn; one of `sums` starts anew at sample 12, and at sample 7 the states of both
+   go on from copies. A line an output. */
 #include <inttypes.h>
 #include <stdio.h>
+#include <string.h>
 
 #ifndef IN_ONE_FILE
 #include "sums.h"
@@ -26,6 +28,15 @@ int main(void)
             sample.b.v = 100 * i + n;
             if (n == 12 && i == 1) {
                 sums_init(&sums[i]);
+            }
+            if (n == 7) {
+                const struct sums_state saved_sums = sums[i];
+                struct held_state saved_held;
+                memcpy(&saved_held, &held[i], sizeof saved_held);
+                memset(&sums[i], 1, sizeof sums[i]);
+                memset(&held[i], 1, sizeof held[i]);
+                sums[i] = saved_sums;
+                held[i] = saved_held;
             }
             sums_step(&sums[i], i + 1, &number, &sum);
             held_step(&held[i], 3 - i, &sample, &answer);

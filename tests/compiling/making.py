@@ -14,8 +14,26 @@ COMPILERS = {
     "clang": ["clang", "-std=c99", "-O1", *STRICT],
     "clang++": ["clang++", "-x", "c++", "-std=c++11", "-O1", *STRICT],
 }
+# Compilers for processors of 32 bits, and what runs their programs.
+ELSEWHERE = {
+    "i686": (["i686-linux-gnu-gcc", "-static", "-std=c99", "-O2"], "qemu-i386"),
+    "arm": (["arm-linux-gnueabihf-gcc", "-static", "-std=c99", "-O2"], "qemu-arm"),
+}
+# Debian's packages of all compilers.
+PACKAGES = {
+    "gcc": ["gcc"],
+    "g++": ["g++"],
+    "clang": ["clang"],
+    "clang++": ["clang"],
+    "i686": ["gcc-i686-linux-gnu", "libc6-dev-i386-cross", "qemu-user"],
+    "arm": ["gcc-arm-linux-gnueabihf", "libc6-dev-armhf-cross", "qemu-user"],
+    "device": ["gcc-arm-none-eabi"],
+}
+SLOW = ["gcc", "-std=c99", "-O0", *STRICT]
+# With this gcc also looks at what is never reached, and warns of the places of lists there.
+QUICK = ["gcc", "-std=c99", "-O3"]
 SANITIZED = ["gcc", "-std=c99", "-O1", "-g", *STRICT, "-fsanitize=undefined,address", "-fno-sanitize-recover=all"]
-SECONDS = 300
+SECONDS = 900
 
 
 class Differs(Exception):
@@ -79,6 +97,13 @@ class Bench:
         self.tally[f"by {' '.join(command[:1])}{' with sanitizers' if command is SANITIZED else ''}"] += 1
         return self.folder / name
 
+    def elsewhere(self, processor, sources):
+        """A program for another processor of these sources, as a script that runs it."""
+        compiler, runner = ELSEWHERE[processor]
+        script = self.file(f"by-{processor}", f'#!/bin/sh\nexec {runner} {self.built(f"of-{processor}", sources, compiler)}\n')
+        script.chmod(0o755)
+        return script
+
     def same(self, built, net, stream):
         """Holds a compiled network to what `run` tells of a stream."""
         wanted, told = self.run(net, stream), self.ran([built], stream)
@@ -99,6 +124,12 @@ def holding(text):
 
 def is_here(compiler):
     return shutil.which(compiler) is not None
+
+
+def can_run(processor):
+    """Whether there is what compiles for a processor and runs its programs."""
+    compiler, runner = ELSEWHERE[processor]
+    return is_here(compiler[0]) and is_here(runner)
 
 
 def live(built, stream):

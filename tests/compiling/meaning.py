@@ -5,6 +5,7 @@ A pointer is a place with its path: the local and the members on the way, where 
 commands become functions of a frame, which is the list of a call's locals.
 """
 from compiling.reading import Unread
+from compiling.roots import is_steady, written
 
 RANGES = {"u8": (0, 2**8 - 1), "u32": (0, 2**32 - 1), "i64": (-(2**63), 2**63 - 1), "u64": (0, 2**64 - 1), "int": (-(2**31), 2**31 - 1)}
 # What a number of one type may become without a cast, since each number of the one is one of the other.
@@ -25,7 +26,10 @@ def in_range(number, type_):
 
 
 def arithmetic(sign, type_):
-    """A sum, difference, product or remainder of two numbers of a type: modulo 2^64 of u64; else the number itself, if the type has it."""
+    """A sum, difference, product or remainder of two numbers of a type: modulo 2^64 of u64; else the number itself, if the type has it. Those
+    of u8 would be of int."""
+    if type_ == "u8":
+        raise Unread(f"{sign} of u8")
     work = {"+": lambda a, b: a + b, "-": lambda a, b: a - b, "*": lambda a, b: a * b, "%": remainder}[sign]
     if type_ == "u64":
         return lambda a, b: work(a, b) % 2**64
@@ -106,8 +110,11 @@ class Body:
         for type_, name in function.parameters:
             self.local(type_, name)
         self.run = self.command(function.body)
+        self.is_steady = is_steady(function.body, meaning.program.functions)
 
     def __call__(self, given):
+        if not self.is_steady:
+            raise Undefined("what a pointer to const leads to is written")
         frame = [copied(one) for one in given] + [None] * (len(self.types) - len(given))
         outcome = self.run(frame)
         if outcome is None or outcome is BROKEN:
@@ -279,6 +286,9 @@ class Body:
         own, value = self.value(tree)
         return converted(type_, own, value)
 
+    def compound_value(self, tree):
+        return tree[1], self.braced(tree[1], tree[2])
+
     def braced(self, type_, trees):
         """An object of a struct or an array by its first parts; the others are zero."""
         types = list(self.meaning.program.structs[type_[1]].values()) if type_[0] == "struct" else [type_[1]] * type_[2]
@@ -345,6 +355,8 @@ class Body:
         return repeated(self.truth(test), self.command(body), lambda frame: None)
 
     def for_command(self, first, test, after, body):
+        if first[2] in written(body, self.meaning.program.functions):
+            raise Unread(f"the counter {first[2]} is written")
         self.scopes.append({})
         begin, holds, then, work = self.command(first), self.truth(test), self.command(after), self.command(body)
         self.scopes.pop()

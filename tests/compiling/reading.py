@@ -2,13 +2,14 @@
 
 A type is a word of SCALARS or `void`, or ("struct", name), ("array", of, count) or ("pointer", to, whether that is const). An expression is
 a tuple that begins with its kind: number, true or false ("truth"), name, member, at, deref, address, not, minus, cast, binary, choice,
-call, braces. A command is one too: block, declare, assign, call, zero, if, while, for, switch, return, break. What isn't one of these is
+call, braces, compound. A command is one too: block, declare, assign, call, zero, if, while, for, switch, return, break. What isn't one of these is
 refused, so that nothing is passed over.
 """
 import re
 from dataclasses import dataclass, field
 
 SCALARS = {"bool": "bool", "int64_t": "i64", "uint64_t": "u64", "uint32_t": "u32", "uint8_t": "u8", "void": "void"}
+LITERALS = {"INT64_C": "i64", "UINT64_C": "u64", "UINT32_C": "u32", "UINT8_C": "u8"}
 NAMED = {"INT64_MAX": (2**63 - 1, "i64"), "INT64_MIN": (-(2**63), "i64"), "UINT64_MAX": (2**64 - 1, "u64")}
 TOKEN = re.compile(r"\s*(?:(\d+U?(?!\w))|([A-Za-z_]\w*)|(->|\+\+|--|<=|>=|==|!=|&&|\|\||[-+*%]=|[-+*%<>=!&?:;,.(){}\[\]]))")
 LEVELS = [["||"], ["&&"], ["==", "!="], ["<", "<=", ">", ">="], ["+", "-"], ["*", "%"]]
@@ -153,7 +154,7 @@ class Reader:
 
     def function(self, result, name):
         self.want("(")
-        parameters = self.listed(self.declared, ")")
+        parameters = [one for one in self.listed(self.declared, ")") if one != ("void", "")]
         if not self.has(";"):
             self.program.functions[name] = Function(result, parameters, self.block())
 
@@ -287,7 +288,7 @@ class Reader:
             if self.begins_type():
                 type_, _ = self.declared()
                 self.want(")")
-                return ("cast", type_, self.prefix())
+                return ("compound", type_, self.initial()[1]) if self.next_is("{") else ("cast", type_, self.prefix())
             self.at -= 1
         return self.postfix()
 
@@ -318,11 +319,11 @@ class Reader:
             raise Unread(f"{word} in {' '.join(self.tokens[self.at - 8 : self.at + 8])}")
         if not self.has("("):
             return ("name", word)
-        if word in ("INT64_C", "UINT64_C"):
+        if word in LITERALS:
             sign = -1 if self.has("-") else 1
             number = sign * int(self.take())
             self.want(")")
-            return ("number", number, "i64" if word == "INT64_C" else "u64")
+            return ("number", number, LITERALS[word])
         return ("call", word, self.listed(self.expression, ")"))
 
 

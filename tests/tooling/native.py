@@ -96,9 +96,32 @@ def takes_much_stack(folder: Path, cache: Path) -> None:
     want("native --stack without gcc", found[:2] == (3, "") and "gcc" in found[2] and found[2].count("\n") == 1, found)
 
 
+def at_the_limits(folder: Path, cache: Path) -> None:
+    """The longest list of numbers that a line holds, and nearly as large a state as is printed: 31 times 2,163,224 bytes; 32 times is more
+    than 64 MiB."""
+    zeros = f"(list Int{' 0' * 64})"
+    states = {f"state{count}": f"{NUMBERS}(>>> (arr {zeros}) " + f"(>>> (delay 4096 {zeros}) " * count + "identity" + ")" * (count + 1) for count in (31, 32)}
+    lists, large, larger = in_files(folder, longest="yampa 1 input (List Int) (iPre (list Int))", **states)
+    long, settings = f"(list{' 7' * 32_765})\n", {"XDG_CACHE_HOME": str(cache)}
+    found = tool("native", lists, stream=long + "+1 (list)\n", **settings)
+    want("native of the longest list", found == (0, "(list)\n" + long, ""), found)
+    found = tool("native", large, stream="5\n+1 6\n", **settings)
+    want("native of a large state", found == (0, f"(list{' 0' * 64})\n" * 2, ""), found)
+    found = tool("native", larger, stream="5\n", **settings)
+    want("native of a larger state", found == (1, "", "network: state too large at (at 1)\n"), found)
+
+
 # What the program that steps Parts by its names prints, worked out by hand from the file's text.
 STEPPED = """11111 light 1 of 1 (1 -2) (3 4) perhaps 1 2 shape 2 side 3 at 5 plain 1 12 bell 0 shapes 2 8 before 0 0
 00101 light 0 of 1 (1 -2) (3 4) perhaps 0 -1 shape 1 side 0 at 0 plain 1 12 bell 1 shapes 2 8 before 1 2
+"""
+# Names that gcc defines, or that the first part of a header has.
+STRANGE = """module Strange where
+import Yampa.Whole
+data Mode = STATE_BYTES | Other
+data R = R { linux :: Int, unix :: Mode, while :: Bool }
+strange :: SF R Mode
+strange = arr unix
 """
 WARNINGS = "-Wall -Wextra -Wpedantic -Wconversion -Wsign-conversion -Wshadow -Werror".split()
 
@@ -124,6 +147,10 @@ def names_in_c(folder: Path) -> None:
         ran = subprocess.run([made], capture_output=True, text=True, check=False)
         want(f"steps by names, by {way[0]}", (ran.returncode, ran.stdout) == (0, STEPPED), ran)
     derived_names(folder, parts / "Parts.hs")
+    strange, = in_files(folder, **{"Strange.hs": STRANGE})
+    (folder / "strange.h").write_text(compiled("compile", "--header", "--name", "strange", strange))
+    ran = subprocess.run(["gcc", "-fsyntax-only", *WARNINGS, "-x", "c", folder / "strange.h"], capture_output=True, text=True, check=False)
+    want("names that C has", (ran.returncode, ran.stderr) == (0, ""), ran.stderr)
     plain, = in_files(folder, **{"Plain.hs": "module Plain where\nimport Yampa.Whole\nplain :: SF Int Int\nplain = iPre 0\n"})
     want("a header without names", "step_named" not in compiled("compile", "--header", plain))
 
@@ -145,4 +172,5 @@ def try_all() -> None:
         runs_as_the_program(cache)
         what_is_refused(folder, cache)
         takes_much_stack(folder, cache)
+        at_the_limits(folder, cache)
         names_in_c(folder)

@@ -31,13 +31,13 @@ CHECKED = re.compile(r"^bool \w+_step\(", re.M)
 SCALARS = {"Int": "int64_t", "Bool": "bool", "Unit": "uint8_t"}
 # What a header ends with, and a whole file doesn't.
 END = "\n#endif\n"
-# The words of C99 and of C++ that a field may have as its name.
+# The words of C99 and of C++ that a field may have as its name, and those that compilers define beside them.
 RESERVED = set(
     "alignas alignof and and_eq asm auto bitand bitor bool break catch char class compl const constexpr const_cast continue decltype default "
     "delete do double dynamic_cast else enum explicit export extern false float for friend goto if inline int long mutable namespace new "
     "noexcept not not_eq nullptr operator or or_eq private protected public register reinterpret_cast restrict return short signed sizeof "
     "static static_assert static_cast struct switch template this thread_local throw true try typedef typeid typename union unsigned using "
-    "virtual void volatile wchar_t while xor xor_eq".split()
+    "virtual void volatile wchar_t while xor xor_eq typeof i386 linux mips sparc unix".split()
 )
 
 
@@ -79,7 +79,7 @@ class NamedPart:
         # Of each data with constructors, the constants that stand for them.
         self.constants: dict[Shape, dict[str, str]] = {}
         self.tags: set[str] = set()
-        self.names: set[str] = set()
+        self.names = {f"{prefix}_STATE_BYTES"}
         self.definitions: list[str] = []
         self.copies: dict[tuple[Shape, bool], str] = {}
 
@@ -202,6 +202,8 @@ class NamedPart:
             return ["to->is = from->is;", f"if (from->is) {{ {inner} }}", "else { memset(&to->v, 0, sizeof to->v); }"]
         if shape.sort == "sum":
             return self.sum_lines(shape, is_in)
+        if shape.sort == "names":
+            return [self.moved(shape, "*to", "*from", is_in)]
         parts = self.members(shape)
         return [self.part(part, path, name, is_in) for (name, part), path in zip(parts, paths_of(len(parts)))]
 

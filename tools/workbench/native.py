@@ -26,8 +26,9 @@ of `run`; but a list of the stream that has more than N elements is refused. A C
 
 Its stack may become as large as the values ask for, where gcc compiles it and the system's hard limit
 (`ulimit -Hs`) allows it. `--stack` prints these bytes, of the longest chain of calls, and runs nothing:
-for yampa_init and yampa_step, and for main, to which some kilobytes of the C library's own come. CC may
-name another gcc with its flags, `CC="arm-none-eabi-gcc -mcpu=cortex-m4 -Os"`: it has only to compile."""
+for yampa_init and yampa_step without main, and for main, to which some kilobytes of the C library's own
+come. CC may name another gcc with its flags, `CC="arm-none-eabi-gcc -mcpu=cortex-m4 -Os"`: it has only to
+compile, without a C library."""
 
 UNWRITTEN = b"output: cannot be written\n"
 # What the stack has room for besides: the words of the call, the variables of the environment, the C library.
@@ -39,6 +40,8 @@ SUM = re.compile(r"_[0-9a-f]{16}$")
 TOO_LARGE = [b"relocation truncated", b"exceeds maximum", b"too large"]
 SHORTER = "--most makes lists shorter"
 GRAPHS = ["-fcallgraph-info=su"]
+# What the C wants of a C library.
+STRING_H = "#include <stddef.h>\nvoid *memset(void *to, int byte, size_t count);\nvoid *memcpy(void *to, const void *from, size_t count);\n"
 
 
 def main() -> None:
@@ -100,22 +103,33 @@ def compiled(command: list[str], text: bytes, folder: Path) -> tuple[Path, str]:
     for more in (GRAPHS, []):
         ran = compile_in(folder, text, [*command, *more])
         if not ran.returncode:
-            return folder / "network", told_in(folder)
+            return folder / "network", rows_of(stacks_in(folder))
     raise not_compiled(command, ran)
 
 
 def stack_of(name: str, most: str | None) -> str:
-    """What gcc tells of the stack: of `main` too, where it finds what that includes."""
+    """What gcc tells of the stack: of what a program calls, as it is without `main`; and of `main`, where it finds what that includes."""
     command = compiler()
-    for options, more in (([], GRAPHS), (["--no-main"], GRAPHS), (["--no-main"], [])):
-        with tempfile.TemporaryDirectory(prefix="yampa-") as folder:
-            ran = compile_in(Path(folder), c_of(name, most, *options), [*command, "-c", *more])
-            told = told_in(Path(folder))
-        if told:
-            return told
+    whole, _ = measured([*command, *GRAPHS], c_of(name, most))
+    text = c_of(name, most, "--no-main")
+    told, ran = measured([*command, *GRAPHS], text)
+    if not told:
+        _, ran = measured(command, text)
     if ran.returncode:
         raise not_compiled(command, ran)
-    raise Refused(f"{command[0]} tells nothing of the stack: it takes gcc (CC=gcc, Debian: apt-get install gcc)", UNREADABLE)
+    if not told:
+        raise Refused(f"{command[0]} tells nothing of the stack: it takes gcc (CC=gcc, Debian: apt-get install gcc)", UNREADABLE)
+    return rows_of({**whole, **told})
+
+
+def measured(command: list[str], text: bytes) -> tuple[dict[str, int], subprocess.CompletedProcess[bytes]]:
+    """What a compiler tells of the stack of a C text, of which it makes no program, and what else. A C library isn't wanted."""
+    with tempfile.TemporaryDirectory(prefix="yampa-") as folder:
+        beside = Path(folder) / "beside"
+        beside.mkdir()
+        (beside / "string.h").write_text(STRING_H)
+        ran = compile_in(Path(folder), text, [*command, "-c", "-idirafter", str(beside)])
+        return stacks_in(Path(folder)), ran
 
 
 def compile_in(folder: Path, text: bytes, command: list[str]) -> subprocess.CompletedProcess[bytes]:
@@ -133,10 +147,13 @@ def not_compiled(command: list[str], ran: subprocess.CompletedProcess[bytes]) ->
     return Refused(f"{command[0]} doesn't compile the network: {why}", UNREADABLE)
 
 
-def told_in(folder: Path) -> str:
-    """What gcc left in a folder of the stack, or nothing."""
+def stacks_in(folder: Path) -> dict[str, int]:
+    """What gcc left in a folder of the stack, by functions."""
     graphs = list(folder.glob("*.ci"))
-    taken = {SUM.sub("", name): size for name, size in (deepest(graphs[0].read_text()) if graphs else {}).items()}
+    return {SUM.sub("", name): size for name, size in (deepest(graphs[0].read_text()) if graphs else {}).items()}
+
+
+def rows_of(taken: dict[str, int]) -> str:
     return "".join(f"{name} {taken[name]}\n" for name in TOLD if name in taken)
 
 

@@ -21,6 +21,7 @@ from front.shapes import Made
 from front.spell import has_fields, named, parts_of, shape_of, shown_type
 from workbench.cache import cache_folder, keep
 from workbench.ending import UNREADABLE, Refused
+from workbench.native import STRING_H
 from workbench.program import answered
 
 PACKAGES = {"clang": "clang", "wasm-ld": "lld"}
@@ -35,7 +36,6 @@ LETTERS = {"Unit": "u", "Bool": "b", "Int": "i", "Pair": "p", "Event": "e", "Lis
 PLAIN = {"Unit": 1, "Bool": 1, "Int": 8}
 
 # What the C wants of a C library: instructions of WebAssembly.
-STRING_H = "#include <stddef.h>\nvoid *memset(void *to, int byte, size_t count);\nvoid *memcpy(void *to, const void *from, size_t count);\n"
 STRING_C = """#include "string.h"
 void *memset(void *to, int byte, size_t count) { return __builtin_memset(to, byte, count); }
 void *memcpy(void *to, const void *from, size_t count) { return __builtin_memcpy(to, from, count); }
