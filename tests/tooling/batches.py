@@ -63,10 +63,23 @@ def compiled_runs_are_counted(folder: Path) -> None:
     other = folder / "other"
     other.write_text('#!/bin/sh\nwhile [ "$1" != -o ]; do shift; done\nprintf "#!/bin/sh\\nexec cat\\n" > "$2"\nchmod +x "$2"\n')
     other.chmod(0o755)
+    lists_of_lists(folder, cache)
     told = tool("batch", "--native", net, folder / "given", CC=str(other), **cache)
     want("batch --native, another program", told == (3, "", "yampa batch: the compiled network doesn't do on r0000 what `run` does\n"), told)
     told = tool("batch", "--native", net, folder / "given", CC="none", XDG_CACHE_HOME=str(folder / "empty"))
     want("batch --native, no compiler", told[0] == 3 and told[1] == "" and "there is no C compiler none" in told[2], told)
+
+
+def lists_of_lists(folder: Path, cache: dict[str, str]) -> None:
+    """Of which a compiled network has room only where it is said how long they are."""
+    net, short, long = in_files(folder, lists="yampa 1 input (List (List Int)) (iPre (list (List Int)))", short="(list (list 1 2))\n+1 =\n", long="(list)\n+1 (list (list 1 2 3))\n")
+    told = tool("batch", "--native", net, short, **cache)
+    want("batch --native, lists of lists", told == (1, "", "network: state too large at (at): give --most\n"), told)
+    told = tool("batch", "--native", "--most", 2, net, short, long, **cache)
+    rows = told[1].splitlines()
+    want("batch --native --most", told[0] == 1 and rows[0].startswith("short\t2 samples\tstatus 0\t") and rows[1].endswith("\tstream: line 2: too many elements at 16"), told)
+    told = tool("batch", "--most", 2, net, short, **cache)
+    want("batch --most alone", told[0] == 2 and told[2].splitlines()[-1].endswith("--most: for --native alone"), told)
 
 
 def faults_are_told(folder: Path) -> None:

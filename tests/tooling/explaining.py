@@ -144,6 +144,9 @@ CERTIFICATE_MISTAKES = [
     (DOUBLED, AT_ONCE, "laws 1 (step L99 forward (at))", "unknown law L99"),
     (DOUBLED, AT_ONCE, "laws 1 (step L43 forward (at))", "L43 is a law of version 2"),
     (DOUBLED, AT_ONCE, "laws 2 (step L47 forward (at))", "L47 is a law of version 3"),
+    (DOUBLED, AT_ONCE, "laws 3 (step E27 forward (at))", "E27 is a law of version 4"),
+    (DOUBLED, AT_ONCE, "laws 4 (step E49 forward (at 0 0))", "E49: (O .. (if c a b) ..) = (if c (O .. a ..) (O .. b ..)), where O is one of those of E4"),
+    (DOUBLED, AT_ONCE, "laws 4 (step L56 forward (at))", "the first difference is at (at 0 0) in it: (pair (then (fst x) h) (snd x)) is wanted, and (add x 1) stands there"),
     (DOUBLED, AT_ONCE, DOUBLED, "this is a network, and a certificate is wanted"),
     (DOUBLED, AT_ONCE, "laws 1 (step L4 forward (at 65536))", "this number is from 0 to 65535"),
     (DOUBLED, AT_ONCE, "laws 1 (step L1 backward (at) " + "(>>> time " * 600, "the 601st parenthesis"),
@@ -201,15 +204,15 @@ def laws_are_the_pages() -> None:
     page = (TOP / "docs/LAWS.md").read_text(encoding="utf-8")
     told = {}
     for names, left, right in re.findall(r"^\| ([EL][0-9, EL]*) \| (.*?) \| (.*?) \|", page, re.M):
-        for name, switch in zip(names.split(", "), ("switch", "dSwitch")):
+        for name, switch in zip(names.split(", "), ("rSwitch", "drSwitch") if names == "L56, L57" else ("switch", "dSwitch")):
             told[name] = [re.sub(r"\bS\b", switch, side.replace("`", "")) for side in (left, right)]
     remarks = dict(re.findall(r"\bIn (E\d+), (.*?)\.", page.replace("`", "")))
     table = [line.split("\t") for line in (TOP / "tools/workbench/laws.tsv").read_text(encoding="utf-8").splitlines()]
-    want("the laws of the page", len(told) == 77 and [name for name, *_ in table] == list(told), len(told))
+    want("the laws of the page", len(told) == 120 and [name for name, *_ in table] == list(told), len(told))
     for name, left, right, *note in table:
         said = [f"{left}, {note[0].replace(' is ', ' ', 1)}" if note and name not in remarks else left, right]
         want(f"{name} of the page", told[name] == said and (name not in remarks or note == [remarks[name]]), (told[name], said))
-    meanings = re.findall(r"\b([A-Z]{2,}(?:\(g\))?)(?: is)? `([^`]+)`", re.search(r"^SWAP is .*$", page, re.M).group())
+    meanings = re.findall(r"\b([A-Z_]{2,}(?:\(g\))?)(?: is)? `([^`]+)`", re.search(r"^SWAP is .*$", page, re.M).group())
     want("the words of the page", dict(meanings) == MEANINGS, meanings)
 
 

@@ -1,6 +1,7 @@
 """`yampa prove` on observers of which it is known whether they hold: none is told wrong, and nearly all are decided; what it rests on that some
 hold is checked by another solver."""
 import os
+import re
 import shlex
 import subprocess
 import time
@@ -22,20 +23,21 @@ STATUS = {"true": 0, "false": 1}
 
 
 def observers():
-    """Each one's name, with its truth, options and network."""
+    """Each one's name, with its truth, options, network and, of a false one, the first sample at which it can be."""
     found = {}
     for paragraph in ROWS.read_text().split("\n\n"):
         lines = [line for line in paragraph.splitlines() if not line.startswith(";")]
         if lines:
             name, truth, *options = shlex.split(lines[0])
-            found[name] = truth, options, "\n".join(lines[1:]) + "\n"
+            least = int(options.pop(0)) if truth == "false" else 0
+            found[name] = truth, options, "\n".join(lines[1:]) + "\n", least
     return found
 
 
 def asked(name, *words):
     """What `prove` says of an observer, in how many seconds, and the certificate where one was asked for."""
     every = observers()
-    _, options, net = every[name]
+    _, options, net, _ = every[name]
     with own_folder() as folder:
         in_files(folder, net=net, **{option: every[option][2] for option in options if option in every})
         begun = time.monotonic()
@@ -53,7 +55,9 @@ def truths_are_told():
         if status == 4:
             open_.append(name)
             continue
-        want(f"observer {name}", status == STATUS[observers()[name][0]], told)
+        truth, *_, least = observers()[name]
+        at = re.match(r"false at sample (\d+):", told)
+        want(f"observer {name}", status == STATUS[truth] and (not least or at and int(at[1]) == least), f"{least} {told}")
         want(f"observer {name} in time", seconds < (SECONDS + 10) * patience(), seconds)
     want("observers that stay open", len(open_) <= OPEN, open_)
 

@@ -10,10 +10,10 @@ from itertools import product
 
 from generator.breaking import Breaker
 from generator.making import UNIT_SCOPE, Maker
-from model.texts import TextFault, network_text, read_network, read_stream
+from model.texts import TextFault, network_text, read_network
 from model.trees import GREATEST, expanded, is_form, shown
 from model.typed import TypeFault, check_types, weight
-from workbench.batches import Observer, read_recording
+from workbench.batches import Observer
 from workbench.ending import Refused
 from workbench.program import call, kept
 from workbench.streams import Streams, Value, Wishes, stream_text
@@ -109,7 +109,7 @@ def numbers_of(given, net, recording):
 
 def random_recordings(question, rng, count):
     """Recordings by the numbers of the networks, and short ones of few values."""
-    from workbench.proving.deciding import allowed
+    from workbench.proving.deciding import asked_part
 
     pace = question.pace
     streams = Streams(question.given, question.numbers, rng, Wishes(LONGEST, pace.steps, pace.most or GREATEST, pace.lists, pace.ints))
@@ -120,7 +120,7 @@ def random_recordings(question, rng, count):
     for _ in range(count - count // 2):
         values = [Value(value, shown(value)) for value in (small(question.given, rng, streams.numbers, pace.lists) for _ in range(3))]
         found.append([(rng.choice(steps), rng.choice(values)) for _ in range(rng.randint(1, 7))])
-    return list(filter(allowed(pace), found))
+    return list(map(asked_part(question), found))
 
 
 def small(type_, rng, numbers, lists):
@@ -146,6 +146,7 @@ def told_of(question):
 
 def told_by(question, name):
     """What a way of proof tells that ends the search, in a process of its own; a fault of its own is told as text."""
+    from workbench.proving import search  # noqa: F401  # read here, once for all processes
     from workbench.proving.told import Holds, Unfair, Wrong
 
     ours, theirs = multiprocessing.Pipe(duplex=False)
@@ -168,14 +169,13 @@ def told_by(question, name):
 def prove(question, name, pipe):
     """Runs a way of proof within so many seconds of a processor, and ends."""
     try:
+        from workbench.proving.deciding import Decision, Limits
         from workbench.proving.explicit import by_states
         from workbench.proving.search import PROVING
         from workbench.proving.told import Search
 
         resource.setrlimit(resource.RLIMIT_CPU, (SECONDS, SECONDS))
-        observer = Observer(question.observer())
-        ways = {**PROVING, "states": by_states}
-        confirmed = lambda stream: observer.first(recording_in(stream, question)) is not None  # noqa: E731
+        ways, confirmed = {**PROVING, "states": by_states}, Decision(question, Limits()).confirmed
         ways[name](Search(question, time.monotonic() + 60, 30, confirmed, tell=pipe.send))
     except Refused:
         pass
@@ -183,10 +183,6 @@ def prove(question, name, pipe):
         pipe.send(traceback.format_exc())
     finally:
         os._exit(0)
-
-
-def recording_in(stream, question):
-    return read_recording(read_stream(stream, question.given)[0])
 
 
 def passed(found):

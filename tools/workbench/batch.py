@@ -98,9 +98,9 @@ def interpreted(net: str) -> Command:
 
 
 @contextlib.contextmanager
-def compiled(net: str) -> Iterator[Command]:
+def compiled(net: str, most: str | None) -> Iterator[Command]:
     """A network's own program."""
-    with program_of(c_of(net, None)) as (program, stack):
+    with program_of(c_of(net, most)) as (program, stack):
         yield Command([0], [program], room_of(stack))
 
 
@@ -288,10 +288,13 @@ def arguments():
     words.add_argument("--expect", metavar="FOLDER", type=Path, help="compares each output with the file of that name there")
     words.add_argument("--jobs", metavar="N", type=int, default=len(os.sched_getaffinity(0)), help="how many run at once, each on a processor")
     words.add_argument("--native", action="store_true", help="runs the network as a compiled program")
+    words.add_argument("--most", metavar="N", help="how many elements a list of a recording may have there (32765)")
     words.add_argument("--cluster", metavar="ADDRESS", help="the Dask scheduler whose workers run them, such as 127.0.0.1:8786")
     given = words.parse_args()
     if given.jobs < 1:
         words.error("--jobs: at least 1 is wanted")
+    if given.most is not None and not given.native:
+        words.error("--most: for --native alone")
     return given
 
 
@@ -299,7 +302,7 @@ def main() -> None:
     given = arguments()
     recordings, net = recordings_of(given.recordings), again(given.net)
     answered(["types", net])
-    how = compiled(net) if given.native else contextlib.nullcontext(interpreted(net))
+    how = compiled(net, given.most) if given.native else contextlib.nullcontext(interpreted(net))
     with how as command, tempfile.TemporaryDirectory(prefix=".yampa-batch-", dir=made(given.out)) as name:
         folder = Path(name)
         if given.native:

@@ -25,7 +25,7 @@ def accepted(words: list[str], stream: bytes = b"") -> Told:
     """What the program tells; where it refuses, or ends otherwise, that is the refusal."""
     told = call(words, stream)
     if told.status:
-        raise Refused(told.fault() or f"the program ended with status {told.status}", told.status if told.status in (1, 2, 3) else 3)
+        raise Refused(told.fault() or f"the program ended with status {told.status}", told.refused_with())
     return told
 
 

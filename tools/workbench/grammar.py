@@ -130,6 +130,22 @@ class Reader:
             return node
         raise self.unknown(token, sort)
 
+    def any_tree(self, wanted):
+        """A word, a number, or what stands between parentheses, whatever it means."""
+        if self.peek() == ")":
+            self.end()
+        token = self.take(wanted)
+        if token.text == "(":
+            parts = []
+            while self.peek() != ")":
+                parts.append(self.any_tree("a parenthesis that closes it"))
+            self.take("")
+            return tuple(parts)
+        if not re.fullmatch(r"-?[0-9]+", token.text):
+            return token.text
+        self.read -= 1
+        return self.number("literal").word
+
     def form(self, sort, forms, opened):
         token = self.take("the word of a form")
         word = token.text
@@ -280,7 +296,7 @@ class Reader:
         if token.text in self.missing:
             version = next(version for version, laws in LAWS_SINCE.items() if token.text in laws)
             return SyntaxFault(token.at, f"{token.text} is a law of version {version}", f"write `laws {version}` in the first line", length=len(token.text))
-        ranges = " and ".join(f"{kind}1 to {kind}{last}" for kind, last in LAST_LAWS["3"].items())
+        ranges = " and ".join(f"{kind}1 to {kind}{last}" for kind, last in LAST_LAWS[max(LAST_LAWS)].items())
         return SyntaxFault(token.at, f"unknown law {token.text}", f"laws are {ranges}", length=len(token.text))
 
     def word(self, word, mend):

@@ -19,6 +19,8 @@ TOP = Path(__file__).resolve().parents[2]
 SECONDS = 600
 # The commands that searches beside the program answer, by its word.
 SEARCHES = ("improve", "certify")
+# The variable by which `improve` is asked to say what it has gained.
+GAIN = "YAMPA_GAIN"
 # The names of what was copied, by the paths of the copies.
 COPIES: dict[str, str] = {}
 UNPROVED = "yampa: unproved, with run-time checks; ./yampa --prove proves it"
@@ -80,6 +82,10 @@ class Told:
         name = files_in(self.words).names.get(line.partition(": ")[0])
         return f"{COPIES.get(name, name)}: {line}" if name and fault == line else fault
 
+    def refused_with(self):
+        """The status of a refusal: the program's, or that of an error where it told nothing of its own, as one that can't start."""
+        return self.status if self.line()[:1] not in ("", "=") and self.status in (1, 2, 3) else UNREADABLE
+
     def line(self):
         """The one line of a refusal as the program tells it; what the wrapper says besides is left out."""
         lines = [line for line in self.error.splitlines() if line and not line.startswith("yampa: ")]
@@ -125,7 +131,7 @@ def answered(words, stream=b""):
     """What the program prints where it accepts; else its own line is the refusal."""
     told = call(words, stream)
     if told.status:
-        raise Refused(told.refusal() or f"the program ended with status {told.status}", told.status if told.status in (1, 2, 3) else 3)
+        raise Refused(told.refusal() or f"the program ended with status {told.status}", told.refused_with())
     return told.output
 
 

@@ -3,18 +3,29 @@ import sys
 import time
 from argparse import Namespace
 from dataclasses import replace
-from typing import Any
+from functools import cached_property
+from typing import Any, Optional
 
-from workbench.ending import INTERRUPTED, REFUSED, Refused, Words, read, write
+from workbench.ending import INTERRUPTED, REFUSED, UNREADABLE, Refused, Words, read, write
 from workbench.program import again
 from workbench.proving.contract import Contract, Said, contract_of, joined
-from workbench.proving.deciding import Decision, Verdict, Way, at_random, breaks, in_long_recordings, ways_of_z3, ways_or_none, wishes_of
+from workbench.proving.deciding import (
+    NOT_KNOWN,
+    Decision,
+    Verdict,
+    Way,
+    at_random,
+    breaks,
+    in_long_recordings,
+    ways_of_z3,
+    ways_or_none,
+    wishes_of,
+)
 from workbench.proving.explicit import by_states
 from workbench.proving.question import OUTPUT, Question
 from workbench.proving.rows import Rows, counted, counted_covers
 from workbench.proving.vacuous import condition_of
 from workbench.proving.words import (
-    NOT_KNOWN,
     assumed,
     limits_of,
     loaded,
@@ -39,7 +50,7 @@ PROVE = """Says whether OBSERVER, a network that outputs Bool, outputs true at e
   holds on every recording ..   status 0; by z3 and an encoding of the network, or by a search of all states of the
                                 compiled network: no proofs of this project
   false at sample 8: FILE       status 1; FILE has a recording on which the program outputs false there
-  not known: ..                 status 4; what was tried
+  not known: ..                 status 4; what was tried; if no recording was run, status 3
 
 A file of Haskell may state what it assumes of its input, what it guarantees of the pair of its input and its
 output, what helps to prove that, and what should be true at some sample; each guarantee has a row, and each cover.
@@ -106,16 +117,22 @@ class Proof:
             self.use(name, again(name))
         goals, covers = self.decide_goals(), self.decide_covers()
         if goals and self.goals[0].name:
-            print(counted(goals, self.question(self.goals[0].net)))
+            print(counted(goals, self.question_of(self.goals)))
         if covers:
-            print(counted_covers(covers))
+            print(counted_covers(covers, self.question_of(self.covers)))
         if self.given.certificate:
             self.write_certificate()
         found = [status_of(one, bool(one.recording)) for one in goals] + [status_of(one, bool(one.holds)) for one in covers]
-        return next((status for status in (REFUSED, INTERRUPTED, NOT_KNOWN) if status in found), 0)
+        worst = next((status for status in (REFUSED, INTERRUPTED, UNREADABLE, NOT_KNOWN) if status in found), 0)
+        if worst == UNREADABLE:
+            raise Refused("no recording was run", UNREADABLE)
+        return worst
 
     def question(self, net: Any) -> Question:
         return replace(self.contract.question(net, self.pace, self.assumed, self.lemmas), hints=self.hints)
+
+    def question_of(self, every: list[Said]) -> Question:
+        return self.question(joined([one.net for one in every]))
 
     def decided(self, net: Any, seconds: float) -> Verdict:
         question = self.question(net)
@@ -167,8 +184,8 @@ class Proof:
                 break
         for number, one in enumerate(left):
             begun = time.monotonic()
-            alone = searched if searched.interrupted else self.decided(one.net, max(LEAST, until - begun) / (len(left) - number))
-            self.tell(one, alone.after(searched), begun)
+            alone = searched if searched.interrupted else self.decided(one.net, max(LEAST, until - begun) / (len(left) - number)).after(searched)
+            self.tell(one, alone, begun)
             found.append(alone)
             searched = alone if alone.interrupted else searched
             if alone.holds and not alone.holds.bounded:
@@ -176,19 +193,29 @@ class Proof:
         return found
 
     def together(self, goals: list[Said], until: float) -> tuple[Verdict, list[Said]]:
-        """Asks whether all of some goals hold, for half of the time that is left; and which of them that decides."""
+        """Asks whether all of some goals hold, for half of the time that is left; and which of them that decides: none where it needs a
+        bound that one alone may do without."""
         begun = time.monotonic()
         verdict = self.decided(joined([one.net for one in goals]), (until - begun) / 2)
-        decided = goals if verdict.holds else [one for one in goals if verdict.recording and breaks(self.question(one.net), verdict)]
+        of_all = verdict.holds and not verdict.holds.bounded
+        decided = goals if of_all else [one for one in goals if verdict.recording and breaks(self.question(one.net), verdict)]
         for one in decided:
             self.tell(one, verdict, begun, one is decided[-1])
         return verdict, decided
 
     def tell(self, one: Said, verdict: Verdict, begun: float, last: bool = True) -> None:
-        verdict = replace(verdict, condition=self.condition(one.net) if verdict.holds else "")
+        verdict = replace(self.with_longest(verdict), condition=self.condition(one.net) if verdict.holds else "")
         if last:
             self.certify(one.name or "the observer", verdict)
         self.rows.of_goal(one.name, verdict, self.question(one.net), time.monotonic() - begun, last)
+
+    def with_longest(self, verdict: Verdict) -> Verdict:
+        """What holds, with how long a recording can keep to what is assumed, if that isn't long."""
+        return replace(verdict, unfair=self.longest) if verdict.holds and verdict.unfair is None else verdict
+
+    @cached_property
+    def longest(self) -> Optional[int]:
+        return Decision(self.question(("arr", "true")), limits_of(self.given)).longest()
 
     def condition(self, net: Any) -> str:
         """Looks for a while whether the condition of what holds ever comes about; what is to be said of that."""
@@ -211,7 +238,7 @@ class Proof:
             begun, net = time.monotonic(), (">>>", one.net, ("arr", ("not", "x")))
             found.append(self.decided(net, max(LEAST, until - begun) / (len(self.covers) - number)))
             self.certify(f"{one.name} is never true", found[-1])
-            self.rows.of_cover(one.name, found[-1], self.question(net), time.monotonic() - begun)
+            self.rows.of_cover(one.name, self.with_longest(found[-1]), self.question(net), time.monotonic() - begun)
         return found
 
     # ---- what it rests on
@@ -232,4 +259,4 @@ class Proof:
 def status_of(verdict: Verdict, refused: bool) -> int:
     if refused:
         return REFUSED
-    return 0 if verdict.holds or verdict.recording else INTERRUPTED if verdict.interrupted else NOT_KNOWN
+    return 0 if verdict.holds or verdict.recording else verdict.open_status()

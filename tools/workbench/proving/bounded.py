@@ -71,7 +71,7 @@ class Unrolling:
         self.samples: list = []
         self.bounds: list = []
         self.broken: list = []
-        self.fair: Leaf = True
+        self.fair: list[Leaf] = []
 
     def extend(self, count: int, until: float) -> None:
         while len(self.samples) < count:
@@ -81,9 +81,10 @@ class Unrolling:
             frame = self.system.step(self.state, step, sample)
             self.state = frame.state
             self.bounds += bounds
-            fair = all_of([self.fair, frame.fair, frame.inside, negation(frame.doubtful)])
-            self.broken.append(both(self.fair, frame.wrong) if self.strict else both(fair, negation(frame.good)))
-            self.fair = fair
+            before = self.fair[-1] if self.fair else True
+            fair = all_of([before, frame.fair, frame.inside, negation(frame.doubtful)])
+            self.broken.append(both(before, frame.wrong) if self.strict else both(fair, negation(frame.good)))
+            self.fair.append(fair)
             self.samples.append((step, sample))
 
     def search(self, first: int, count: int, until: float) -> Optional[bytes]:
@@ -110,7 +111,7 @@ class Unrolling:
         """Whether there is a recording of so many samples on which all that is assumed holds."""
         self.extend(count, until)
         solver = self.solver(until)
-        solver.add(formula(self.fair))
+        solver.add(formula(self.fair[count - 1]))
         return satisfied(solver)
 
     def solver(self, until: float) -> z3.Solver:
@@ -129,7 +130,14 @@ class Unrolling:
 
 def fair_samples(system: System, most: int, until: float) -> int:
     """How many samples a recording on which all that is assumed holds can have, at most so many."""
-    for count in range(most, 0, -1):
-        if Unrolling(system).is_fair(count, until):
-            return count
-    return 0
+    unrolling, fair = Unrolling(system), 0
+    for depth in depths(most):
+        if not unrolling.is_fair(depth, until):
+            break
+        fair = depth
+    else:
+        return most
+    while fair + 1 < depth:
+        middle = (fair + depth) // 2
+        fair, depth = (middle, depth) if unrolling.is_fair(middle, until) else (fair, middle)
+    return fair

@@ -1,5 +1,6 @@
 """What comes of a question: the ways race, the program confirms a recording, and the recording is made short."""
 import contextlib
+import io
 import os
 import random
 import sys
@@ -10,7 +11,7 @@ from typing import Any, Callable, Iterator, Optional
 from model.texts import read_stream
 from model.trees import GREATEST
 from workbench.batches import Observer, Shortening, read_recording
-from workbench.ending import UNREADABLE, Refused, defect, missing
+from workbench.ending import INTERRUPTED, REFUSED, UNREADABLE, Refused, defect, missing
 from workbench.program import call
 from workbench.proving.question import Pace, Question
 from workbench.proving.race import raced
@@ -18,6 +19,10 @@ from workbench.proving.told import Hindered, Holds, Search, Searched, Tried, Unf
 from workbench.streams import Recording, Streams, Wishes, stream_text
 
 SHORTENING, LEAST, CERTIFYING, BATCH, CONTRADICTING = 8.0, 5.0, 10.0, 4_000, 100
+# For how many seconds it is looked whether what is assumed can hold.
+FAIR = 5.0
+# The status of a question that isn't decided.
+NOT_KNOWN = 4
 # The ways that decide most questions, and soon.
 FIRST = ("states", "narrow", "induction", "spacer", "certify")
 Way = Callable[[Search], None]
@@ -35,7 +40,6 @@ class Verdict:
     searched: dict[str, str] = field(default_factory=dict)
     tried: dict[str, int] = field(default_factory=dict)
     hindered: dict[str, str] = field(default_factory=dict)
-    ways: int = 0
     found_after: float = 0.0
     condition: str = ""
     interrupted: bool = False
@@ -63,15 +67,25 @@ class Verdict:
     def why_nothing_was_tried(self) -> str:
         """Where no way to an answer worked, the reasons; else nothing."""
         decided = self.holds or self.recording or self.certified or self.unfair is not None or self.interrupted
-        return "" if decided or len(self.hindered) < self.ways else "; ".join(dict.fromkeys(self.hindered.values()))
+        tried = decided or self.searched or self.streams()
+        return "" if tried else "; ".join(dict.fromkeys(self.hindered.values()))
+
+    def open_status(self) -> int:
+        """The status of a question that isn't decided: an error where no recording was run."""
+        return INTERRUPTED if self.interrupted else NOT_KNOWN if self.streams() else UNREADABLE
 
     def after(self, other: "Verdict") -> "Verdict":
-        """The verdict with what was searched before."""
-        return replace(self, searched={**other.searched, **self.searched}, tried={**{f"before {way}": count for way, count in other.tried.items()}, **self.tried})
+        """The verdict with what was found and searched before."""
+        tried = {**{f"before {way}": count for way, count in other.tried.items()}, **self.tried}
+        holds = None if self.recording else self.holds or other.holds
+        return replace(self, holds=holds, searched={**other.searched, **self.searched}, tried=tried)
+
+    def random_streams(self) -> str:
+        count = self.streams()
+        return f"{count:,} random stream{'s' * (count != 1)}"
 
     def what_was_searched(self) -> str:
-        count = self.streams()
-        return "; ".join([*self.searched.values(), f"{count:,} random stream{'s' * (count != 1)}", *dict.fromkeys(self.hindered.values())])
+        return "; ".join([*self.searched.values(), self.random_streams(), *dict.fromkeys(self.hindered.values())])
 
 
 @dataclass
@@ -88,35 +102,43 @@ def breaks(question: Question, verdict: Verdict) -> bool:
     return Observer(question.observer()).first(verdict.recording) == verdict.sample
 
 
-def allowed(pace: Pace, wishes: Optional[Wishes] = None) -> Callable[[Recording], bool]:
-    """Whether a recording has the steps that are asked for."""
-    steps = pace.steps or (wishes.steps if wishes else None)
+def asked_part(question: Question) -> Callable[[Recording], Recording]:
+    """Of a recording the samples up to the first that isn't asked about: one with another step, or behind too many ticks or samples."""
+    pace = question.pace
 
-    def holds(recording: Recording) -> bool:
-        later = [step for step, _ in recording[1:]]
-        inside = all((not steps or step in steps) and (not pace.most or step <= pace.most) for step in later)
-        return inside and (pace.total is None or sum(later) <= pace.total)
+    def part(recording: Recording) -> Recording:
+        total = 0
+        for number, (step, _) in enumerate(recording[1:], 1):
+            total += step
+            inside = (not pace.steps or step in pace.steps) and (not pace.most or step <= pace.most)
+            if number == pace.samples or not inside or pace.total is not None and total > pace.total:
+                return recording[:number]
+        return recording
 
-    return holds
+    return part
 
 
 def wishes_of(pace: Pace) -> Wishes:
     """Random recordings of this pace."""
-    return Wishes(steps=pace.steps, most_step=pace.most or GREATEST, lists=pace.lists)
+    return Wishes(steps=pace.steps, most_step=pace.most or GREATEST, lists=pace.lists, ints=pace.ints)
 
 
 class Decision:
     """A question that is looked at from all sides until it is decided or the time is over."""
 
-    def __init__(self, question: Question, limits: Limits, wishes: Optional[Wishes] = None):
+    def __init__(self, question: Question, limits: Limits):
         self.question, self.limits = question, limits
         self.observer = Observer(question.observer())
-        self.allowed = allowed(question.pace, wishes)
+        self.asked_part = asked_part(question)
         self.until = time.monotonic() + limits.seconds
         self.verdict = Verdict()
 
     def confirmed(self, stream: bytes) -> bool:
         return self.first(self.read(stream)) is not None
+
+    def allowed(self, recording: Recording) -> bool:
+        """Whether it is asked about the whole recording."""
+        return len(self.asked_part(recording)) == len(recording)
 
     def read(self, stream: bytes) -> Recording:
         return read_recording(read_stream(stream, self.question.given)[0])
@@ -130,7 +152,6 @@ class Decision:
             self.question.parts  # found here, and once for all ways
         search = Search(self.question, self.until, self.limits.depth, self.confirmed, self.limits.obliged)
         running = {name: guarded(way, search) for name, way in ways.items()}
-        self.verdict.ways = len(ways)
         try:
             for name, told in raced(running, FIRST, self.limits.seconds):
                 if isinstance(told, Holds) and name != "certify":
@@ -166,7 +187,7 @@ class Decision:
     def contradicted(self) -> Optional[Wrong]:
         """A recording on which the program outputs false, of some random ones that are run where z3 says that there is none."""
         streams = Streams(self.question.given, self.question.numbers, random.Random(1), wishes_of(self.question.pace))
-        recordings = list(filter(self.allowed, (streams.recording() for _ in range(CONTRADICTING))))
+        recordings = [self.asked_part(streams.recording()) for _ in range(CONTRADICTING)]
         found = zip(recordings, self.observer.firsts(recordings))
         return next((Wrong(stream_text(recording[:first])) for recording, first in found if first is not None), None)
 
@@ -194,12 +215,26 @@ class Decision:
         if len(best) == 1 or until <= time.monotonic():
             return None
         with contextlib.suppress(Refused, KeyboardInterrupt):
-            way = guarded(shorter_than(len(best)), Search(self.question, until, self.limits.depth, self.confirmed))
-            for _, told in raced({"least": way}, ("least",), until - time.monotonic()):
+            for told in self.told_by(shorter_than(len(best)), until, self.limits.depth):
                 if isinstance(told, Wrong):
                     recording = self.read(told.recording)
                     return recording[: self.first(recording)]
         return None
+
+    def longest(self) -> Optional[int]:
+        """How many samples a recording has at most that keeps to what is assumed, if z3 is there and finds that these are few in a while."""
+        if self.question.observed:
+            with contextlib.suppress(Refused, KeyboardInterrupt):
+                for told in self.told_by(fair_ones(), time.monotonic() + FAIR, self.limits.depth):
+                    if isinstance(told, Unfair):
+                        return told.samples
+        return None
+
+    def told_by(self, way: Way, until: float, depth: int) -> Iterator[Any]:
+        """What a way by itself tells until then."""
+        search = Search(self.question, until, depth, self.confirmed)
+        for _, told in raced({"": guarded(way, search)}, ("",), until - time.monotonic()):
+            yield told
 
 
 def guarded(way: Way, search: Search) -> Callable:
@@ -223,15 +258,14 @@ def guarded(way: Way, search: Search) -> Callable:
 
 
 def tried_at_random(search: Search, seed: str, numbers: list[int], wishes: Wishes) -> Iterator[Recording]:
-    """Random recordings on which it is false, up to there; many are tried in each run of the program."""
+    """Random recordings on which it is false, up to there; many are tried in each run of the program, first of all those that are wished."""
     observer = Observer(search.question.observer())
     streams = Streams(search.question.given, numbers, random.Random(seed), wishes)
-    fits, tried, size = allowed(search.question.pace, wishes), 0, BATCH // 16
+    part, tried, size = asked_part(search.question), 0, BATCH // 16
     while search.left() > 0:
-        batch: list[Recording] = []
+        batch: list[Recording] = [] if tried else [part(recording) for recording in wishes.recordings]
         while sum(map(len, batch)) < size:
-            batch.append(streams.recording())
-        batch = [recording for recording in batch if fits(recording)]
+            batch.append(part(streams.recording()))
         for recording, first in zip(batch, observer.firsts(batch)):
             if first is not None:
                 yield recording[:first]
@@ -268,10 +302,12 @@ def certifying(source: str, target: str) -> Way:
     def way(search: Search) -> None:
         told = call(["certify", source, target])
         steps = told.output.count(b"(step ")
-        if told.status == 0:
-            search.tell(Holds(f"a certificate of {steps:,} steps, which `yampa certify` prints and `yampa check` accepts", ""))
-        else:
+        if told.status not in (0, REFUSED):
+            raise Refused(f"`yampa certify`: {told.line() or f'status {told.status}'}")
+        if told.status:
             search.tell(Searched("certify", "`yampa certify` finds no certificate"))
+        else:
+            search.tell(Holds(f"a certificate of {steps:,} steps, which `yampa certify` prints and `yampa check` accepts", ""))
 
     return way
 
@@ -287,6 +323,14 @@ def shorter_than(count: int) -> Way:
     return search.shorter_than(count)
 
 
+def fair_ones() -> Way:
+    """The way to recordings that keep to what is assumed. Refused where z3 isn't there."""
+    ways_of_z3(False)
+    from workbench.proving.search import FAIR as found
+
+    return found
+
+
 def ways_or_none(name: str, proving: bool) -> dict[str, Way]:
     """Those of z3; where it isn't there that is told, and there are none."""
     try:
@@ -299,11 +343,14 @@ def ways_or_none(name: str, proving: bool) -> dict[str, Way]:
 
 
 def ways_of_z3(proving: bool) -> dict[str, Way]:
-    """Refused where z3 isn't there."""
+    """Refused where z3 isn't there, or can't be loaded: of that it tells on standard output, at length."""
     try:
-        import z3  # noqa: F401
+        with contextlib.redirect_stdout(io.StringIO()):
+            import z3  # noqa: F401
     except ImportError as error:
         raise missing("python3-z3", error) from None
+    except Exception as error:  # pylint: disable=broad-exception-caught
+        raise Refused(f"z3 can't be loaded: {error}", UNREADABLE) from None
     from workbench.proving.search import PROVING, REFUTING
 
     return PROVING if proving else REFUTING

@@ -9,19 +9,26 @@ import select
 import subprocess
 import tempfile
 import time
+from dataclasses import replace
 from itertools import product
 from pathlib import Path
-from typing import Any, Iterator, Optional
+from typing import Any, Iterator, Optional, Sequence
 
-from model.trees import shown
+from model.texts import read_network
+from model.trees import expanded, shown
 from workbench.ending import Refused
 from workbench.native import compiler
 from workbench.program import call, kept
+from workbench.proposing import is_built
 from workbench.proving.intervals import Ranges, ranges_of
-from workbench.proving.question import Question
-from workbench.proving.told import Holds, Search, Searched, Wrong
+from workbench.proving.question import TIMED, Pace, Question, words_in
+from workbench.proving.told import Holds, Search, Searched, Unfair, Wrong
 
-MOST_INPUTS, MOST_STEPS, MOST_STATES = 4096, 64, 2_000_000
+MOST_INPUTS, MOST_STEPS, MOST_STATES = 4096, 1024, 2_000_000
+# How many pairs of an input and a step are tried at each sample.
+MOST_TRIED = 2**18
+# The forms whose state may grow as long as time goes on.
+GROWING = ("time", "integral")
 DRIVER = Path(__file__).with_name("states.c")
 RESTS = "so say the C that `compile` prints, the C compiler and a driver, of which this project proves the first alone"
 FLAGS = ["-O1", "-w", "-std=gnu99"]
@@ -63,16 +70,22 @@ def few(count: int) -> None:
         raise TooMany
 
 
-def steps_of(question: Question) -> tuple[list[int], bool]:
-    """The steps that are tried, and whether these are all that a recording may have."""
-    pace = question.pace
-    if not question.timed:
-        return [pace.step or 1], True
+def steps_of(pace: Pace, timed: bool, inputs: int) -> tuple[list[int], bool]:
+    """The steps that are tried, and whether these are all that a recording may have; where steps don't matter the shortest is enough."""
+    if not timed:
+        return [min(pace.steps or [1])], True
     if pace.steps:
         return pace.steps, True
-    if pace.most and pace.most <= MOST_STEPS:
-        return list(range(1, pace.most + 1)), True
+    most = min(filter(None, (pace.most, pace.total)), default=None)
+    if most and most <= MOST_STEPS and most * inputs <= MOST_TRIED:
+        return list(range(1, most + 1)), True
     return [1], False
+
+
+def most_total(question: Question, steps: list[int]) -> int:
+    """The bound of the steps' sum, where one of these may pass it before there is no room for more states; else 0."""
+    total = question.pace.total
+    return total if total and total < max(steps) * MOST_STATES else 0
 
 
 # ---- as C
@@ -132,25 +145,42 @@ def each(type_: str, field: str, count: str) -> str:
     return f"canonical_{type_}(&s->{field});"
 
 
-def samples_text(text: str, inputs: list, steps: list[int], given: Any) -> str:
-    rows = ",\n    ".join(as_c(value, given) for value in inputs)
+def samples_text(text: str, inputs: list, steps: list[int], question: Question) -> str:
+    rows = ",\n    ".join(as_c(value, question.given) for value in inputs)
     return (
         f"#include <inttypes.h>\n#define MOST_STATES {MOST_STATES}\n"
+        f"#define MOST_SAMPLES {question.pace.samples or 0}\n#define MOST_TOTAL UINT64_C({most_total(question, steps)})\n"
         f"enum {{ INPUT_COUNT = {len(inputs)}, STEP_COUNT = {len(steps)} }};\n"
         f"static const observed_input INPUTS[] = {{\n    {rows}\n}};\n"
         f"static const int64_t STEPS[] = {{{', '.join(f'INT64_C({step})' for step in steps)}}};\n" + canonical(text)
     )
 
 
-def compiled(search: Search, inputs: list, steps: list[int], folder: Path) -> Optional[Path]:
+def observer_of(question: Question) -> str:
+    """The observer of a question, but for the samples, which the driver counts. Where time grows in it, or a sum of it, it is improved by
+    steps that the program accepts, if the searches are built: what nothing reads is gone then."""
+    text = replace(question, pace=replace(question.pace, samples=None)).observer()
+    if not has(text, GROWING) or not is_built():
+        return text
+    with kept(text) as name:
+        told = call(["improve", name])
+    return text if told.status else told.output.decode()
+
+
+def has(text: str, words: Sequence[str]) -> bool:
+    """Whether one of these forms stands in a network."""
+    return any(word in words for word in words_in(expanded(read_network(text.encode())[1])))
+
+
+def compiled(search: Search, observer: str, inputs: list, steps: list[int], folder: Path) -> Optional[Path]:
     """The program that searches the states, or None where the time is over."""
-    with kept(search.question.observer()) as name:
+    with kept(observer) as name:
         told = call(["compile", "--no-main", "--name", "observed", "--most", str(max(1, search.question.pace.lists)), name])
     if told.status:
         raise Refused(told.line())
     text = told.output.decode()
     (folder / "observed.c").write_text(text)
-    (folder / "samples.h").write_text(samples_text(text, inputs, steps, search.question.given))
+    (folder / "samples.h").write_text(samples_text(text, inputs, steps, search.question))
     command = [*compiler(), *FLAGS, "-I", str(folder), "-o", str(folder / "states"), str(DRIVER)]
     try:
         ran = subprocess.run(command, capture_output=True, timeout=max(0.1, search.left()), check=False)
@@ -174,9 +204,10 @@ def by_states(search: Search) -> None:
         inputs = inputs_of(question.given, ranges, question.pace.lists)
     except TooMany:
         return
-    steps, all_steps = steps_of(question)
+    observer = observer_of(question)
+    steps, all_steps = steps_of(question.pace, has(observer, TIMED), len(inputs))
     with tempfile.TemporaryDirectory(prefix="yampa-") as place:
-        program = compiled(search, inputs, steps, Path(place))
+        program = compiled(search, observer, inputs, steps, Path(place))
         if program:
             follow(search, program, inputs, "" if all_steps else " with steps of 1")
 
@@ -213,6 +244,8 @@ def hear(search: Search, word: str, samples: int, states: int, told_steps: str) 
     if word == "all" and not told_steps:
         told = f"a search of all states: all {states:,} seen" if states > 1 else "a search of all states: one seen"
         search.tell(Holds(told, search.question.told(), rests=RESTS))
+    elif word == "short" and not told_steps:
+        search.tell(Unfair(samples))
     elif samples:
         search.tell(Searched("states", f"none up to {samples:,} sample{'s' * (samples != 1)}{told_steps}, of {states:,} states"))
 

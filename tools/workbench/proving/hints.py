@@ -1,11 +1,11 @@
 """Invariants as `--show` prints them of a core network, of x and of cells: those that a file gives are tried as those that are guessed."""
-import re
-from typing import Any, Iterator, Optional
+from typing import Any, Optional
 
 from model.texts import TextFault, read_network
 from model.trees import expanded, shown
 from model.typed import TypeFault, check_types
 from workbench.ending import Refused, read
+from workbench.grammar import Reader
 from workbench.proving.induction import Candidate
 from workbench.proving.question import Question, words_in
 from workbench.proving.saying import leaf_at, with_leaves
@@ -14,29 +14,21 @@ from workbench.proving.system import System
 from workbench.proving.terms import Terms
 from workbench.proving.told import Cell
 from workbench.proving.views import named_leaves
-from workbench.written import tokens_of
+from workbench.written import SyntaxFault
 
 Tree = Any
-NUMBER, OPEN = re.compile(r"0|-?[1-9]\d{0,18}"), 600
 
 
 def hints_in(name: str) -> tuple[Tree, ...]:
     """The trees of a file, one behind the other."""
-    words, depth, deepest = [token.text for token in tokens_of(read(name))[0]], 0, 0
-    for word in words:
-        depth += (word == "(") - (word == ")")
-        deepest = max(deepest, depth if depth >= 0 else OPEN + 1)
-    if depth or deepest > OPEN:
-        raise Refused(f"{name}: its parentheses don't fit, or over {OPEN} are open at once")
-    return tuple(trees_in(iter(words)))
-
-
-def trees_in(words: Iterator[str]) -> Iterator[Tree]:
-    """The trees up to the parenthesis that closes what they stand in."""
-    for word in words:
-        if word == ")":
-            return
-        yield tuple(trees_in(words)) if word == "(" else int(word) if NUMBER.fullmatch(word) else word
+    data = read(name)
+    reader, found = Reader(data), []
+    try:
+        while not reader.ended():
+            found.append(reader.any_tree("a truth"))
+    except SyntaxFault as fault:
+        raise Refused(fault.line(name, data)) from None
+    return tuple(found)
 
 
 def hinted(system: System) -> list[Candidate]:

@@ -7,10 +7,11 @@ from typing import Any, Iterator
 
 import z3
 
+from model.trees import GREATEST
 from workbench.proving.induction import Candidate
 from workbench.proving.saying import leaf_at
 from workbench.proving.system import System
-from workbench.proving.terms import Leaf, Terms, formula, is_truth, negation
+from workbench.proving.terms import LEAST, Leaf, Terms, formula, is_truth, negation
 from workbench.proving.told import Foreign
 from workbench.proving.values import Tree
 
@@ -123,11 +124,13 @@ OPERATIONS = {
 
 
 def said_by(term: z3.ExprRef, count: int) -> Tree:
-    """What a term says of so many variables, the last of which is the state's first leaf: an expression, but for what is foreign."""
+    """What a term says of so many variables, the last of which is the state's first leaf: an expression, but for what is foreign, as are
+    numbers of more than 64 bits."""
     if z3.is_var(term):
         return leaf_at(count - 1 - z3.get_var_index(term))
     if z3.is_int_value(term):
-        return term.as_long()
+        number = term.as_long()
+        return number if LEAST <= number <= GREATEST else Foreign(str(number), ())
     if z3.is_true(term) or z3.is_false(term):
         return str(term).lower()
     if not z3.is_app(term):

@@ -25,7 +25,7 @@ class Ranges:
 
 
 def ranges_of(assumed: tuple, everywhere: Optional[tuple[int, int]]) -> Ranges:
-    """The bounds that these observers of the input state, where each is an `arr` of comparisons that are joined by `and`."""
+    """The bounds that these observers of the input state, where each is an `arr` of comparisons."""
     found = Ranges(everywhere or (LEAST, GREATEST))
     for net in assumed:
         if isinstance(net, tuple) and net[0] == "arr":
@@ -41,6 +41,10 @@ def narrow(found: Ranges, test: Any, given: Any, truth: bool) -> None:
         case (("and" | "or"), left, right) if truth == (test[0] == "and"):
             narrow(found, left, given, truth)
             narrow(found, right, given, truth)
+        case (("and" | "or"), left, right):
+            narrow_by_one(found, [[(left, truth)], [(right, truth)]], given)
+        case ("if", condition, left, right):
+            narrow_by_one(found, [[(condition, True), (left, truth)], [(condition, False), (right, truth)]], given)
         case ("less", left, right):
             compared(found, seen(left, given), seen(right, given), truth)
         case ("equal", left, right) if truth:
@@ -54,6 +58,18 @@ def narrow(found: Ranges, test: Any, given: Any, truth: bool) -> None:
             place = seen(event, given)
             if is_place(place):
                 narrow(found, body, ("pair", given, ("at", (*place[1], "event"))), truth)
+
+
+def narrow_by_one(found: Ranges, cases: list[list[tuple[Any, bool]]], given: Any) -> None:
+    """Takes in that all tests of one of two cases have their truths: the bounds that both of them state, where both can be."""
+    possible = [case for case in cases if ("false", True) not in case and ("true", False) not in case]
+    sides = [Ranges() for _ in possible]
+    for side, case in zip(sides, possible):
+        for test, truth in case:
+            narrow(side, test, given, truth)
+    for path in set.intersection(*[{*side.of} for side in sides]) if sides else ():
+        bounds = [side.of[path] for side in sides]
+        found.narrow(path, min(least for least, _ in bounds), max(most for _, most in bounds))
 
 
 def compared(found: Ranges, left: Any, right: Any, truth: bool) -> None:

@@ -1,5 +1,5 @@
 """A question that is asked of networks: whether something holds of all their recordings."""
-from dataclasses import dataclass, field
+from dataclasses import dataclass, field, replace
 from functools import cached_property
 from typing import Any, Iterator, Optional
 
@@ -30,7 +30,7 @@ class Pace:
     fallback: Optional[int] = SAMPLES
 
     def most_samples(self) -> Optional[int]:
-        """How many samples may come behind the first, where that is bounded, also by the sum of the steps."""
+        """How many samples may come behind the first of what isn't timed, where that is bounded, also by the sum of the steps."""
         by_total = [self.total // min(self.steps or [1])] if self.total not in (None, TOTAL) else []
         by_count = [self.samples - 1] if self.samples else []
         return min(by_total + by_count, default=None)
@@ -43,11 +43,10 @@ class Pace:
     def told(self, timed: bool, listed: bool) -> str:
         """Which recordings these are, in words."""
         words = [f"of at most {power(self.total)} ticks"] if self.total and (timed or self.total != TOTAL) else []
+        words += [f"of at most {self.samples:,} samples"] if self.samples else []
         if timed:
             few = " or ".join(map(str, self.steps or []))
             words += [f"with steps of {few}"] if few else [f"with steps of at most {self.most}"] if self.most else []
-        elif self.samples:
-            words.append(f"of at most {self.samples:,} samples")
         words += [f"with lists of at most {self.lists} elements"] if listed else []
         words += [f"with numbers from {self.ints[0]} to {self.ints[1]}"] if self.ints else []
         return "".join(f" {word}" for word in words)
@@ -73,9 +72,18 @@ class Question:
 
     @cached_property
     def observed(self) -> tuple:
-        """All observers of the input that hold on the recordings that are asked of: what is assumed, and the span of the numbers."""
+        """All observers of the input that hold on the recordings that are asked of: what is assumed, the span of the numbers, and where
+        steps matter the number of samples."""
         tests = within(self.given, "x", self.pace.ints, self.pace.lists) if self.pace.ints else []
-        return (*self.assumed, ("arr", all_hold(tests))) if tests else self.assumed
+        span = [("arr", all_hold(tests))] if tests else []
+        count = [at_most(self.pace.samples)] if self.timed and self.pace.samples else []
+        return (*self.assumed, *span, *count)
+
+    @cached_property
+    def of_any_length(self) -> "Question":
+        """The same of recordings that last as long as time can be counted."""
+        total = self.pace.total and max(self.pace.total, TOTAL)
+        return replace(self, pace=replace(self.pace, total=total, samples=None))
 
     @cached_property
     def output(self) -> Any:
@@ -97,7 +105,8 @@ class Question:
     @cached_property
     def timed(self) -> bool:
         """Whether the steps matter to what the networks output."""
-        return any(word in TIMED for part in self.parts for word in words_in(part.places[()].tree))
+        nets = (*self.nets, self.goal, *self.lemmas, *self.assumed)
+        return any(word in TIMED for net in nets for word in words_in(expanded(net)))
 
     @cached_property
     def numbers(self) -> list[int]:
@@ -116,6 +125,11 @@ class Question:
         for assumed in self.observed:
             fair = (">>>", ("&&&", fair, assumed), ("arr", ("and", ("fst", "x"), ("snd", "x"))))
         return network_text(self.given, expanded(("&&&", fair, goal)))
+
+
+def at_most(samples: int) -> Any:
+    """The observer that so many samples have come."""
+    return (">>>", ("loopPre", 0, ("arr", ("pair", ("snd", "x"), ("add", ("snd", "x"), 1)))), ("arr", ("less", "x", samples)))
 
 
 def within(type_: Any, place: Any, ints: tuple[int, int], lists: int) -> list:

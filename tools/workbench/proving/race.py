@@ -1,4 +1,5 @@
 """Ways to look for one answer, side by side, each in a process of its own, until one has it or the time is over."""
+import contextlib
 import multiprocessing
 import os
 import resource
@@ -61,8 +62,12 @@ class Race:
         return max((processor_seconds(child.pid) for child in self.children.values() if child.is_alive()), default=0.0)
 
     def stop(self) -> None:
+        """Ends what still runs, with all that it has started."""
         for child in self.children.values():
-            child.kill()
+            if child.is_alive():
+                child.kill()
+                with contextlib.suppress(ProcessLookupError):
+                    os.killpg(child.pid, signal.SIGKILL)
             child.join()
 
 
@@ -103,9 +108,13 @@ def limit_memory() -> None:
 
 
 def alone(way: Callable[[Tell], None], pipe: Connection, nice: int, folder: str) -> None:
-    """Runs a way in its process, with its files in the folder, which outlives it; one that fails tells nothing more."""
+    """Runs a way in its process, in a group with all that it starts, with their files in the folder, which outlives them; one that fails
+    tells nothing more, nor does a library whose threads can't start."""
+    os.setpgid(0, 0)
     os.nice(nice)
-    tempfile.tempdir = folder
+    with open(os.devnull, "wb") as nowhere:
+        os.dup2(nowhere.fileno(), 2)
+    tempfile.tempdir = os.environ["TMPDIR"] = folder
     signal.signal(signal.SIGINT, signal.SIG_IGN)
     for number in (signal.SIGTERM, signal.SIGHUP):
         signal.signal(number, signal.SIG_DFL)

@@ -50,7 +50,7 @@ class Rows:
         """The recording in the words of the file, where it has some; what a verdict is worth; what it rests on, if that is asked for."""
         lines = told(verdict.recording, question.given) if verdict.recording else []
         if verdict.unfair:
-            lines.append(f"no recording of more than {verdict.unfair} samples keeps to what is assumed")
+            lines.append(f"no recording of more than {verdict.unfair} sample{'s' * (verdict.unfair != 1)} keeps to what is assumed")
         if verdict.condition:
             lines.append(verdict.condition)
         if self.given.show and verdict.holds and last:
@@ -88,12 +88,17 @@ def recording_name(given: Namespace, name: str, what: str) -> Optional[str]:
 def counted(goals: list[Verdict], question: Question) -> str:
     """How many guarantees are false, aren't known and hold, and what all of that is said of."""
     holds, wrong = sum(bool(one.holds) for one in goals), sum(bool(one.recording) for one in goals)
-    keeps = " that keeps to what is assumed" if question.assumed else ""
-    rests = " and ".join(dict.fromkeys(one.holds.rests for one in goals if one.holds))
-    resting_on = f", on every recording{keeps}{question.told()}: {rests}" if holds else ""
-    return f"{wrong} false, {len(goals) - holds - wrong} not known, {holds} hold{'s' * (holds == 1)}{resting_on}"
+    return f"{wrong} false, {len(goals) - holds - wrong} not known, {holds} hold{'s' * (holds == 1)}{said_by('every', goals, question)}"
 
 
-def counted_covers(covers: list[Verdict]) -> str:
+def counted_covers(covers: list[Verdict], question: Question) -> str:
+    """The same of what should come about."""
     seen, never = sum(bool(one.recording) for one in covers), sum(bool(one.holds) for one in covers)
-    return f"{seen} covered, {never} never, {len(covers) - seen - never} not known"
+    return f"{seen} covered, {never} never, {len(covers) - seen - never} not known{said_by('no', covers, question)}"
+
+
+def said_by(which: str, verdicts: list[Verdict], question: Question) -> str:
+    """Of which recordings something holds, and who says so; nothing where nothing does."""
+    rests = " and ".join(dict.fromkeys(one.holds.rests for one in verdicts if one.holds))
+    keeps = " that keeps to what is assumed" if question.assumed else ""
+    return f", on {which} recording{keeps}{question.told()}: {rests}" if rests else ""

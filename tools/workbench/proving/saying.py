@@ -47,6 +47,21 @@ def rest_is(tree: Tree, power: int, rest: int) -> Tree:
     return ("equal", ("mul", LEAST if factor == -LEAST else factor, ("sub", tree, rest) if rest else tree), 0)
 
 
+def plainer(tree: Tree) -> Tree:
+    """The same in fewer words."""
+    if isinstance(tree, Foreign):
+        return Foreign(tree.word, tuple(map(plainer, tree.parts)))
+    match (tree[0], *map(plainer, tree[1:])) if isinstance(tree, tuple) else tree:
+        case ("not", ("not", part)):
+            return part
+        case ("mul", -1, part):
+            return ("neg", part)
+        case ("add", left, ("neg", part)):
+            return ("sub", left, part)
+        case found:
+            return found
+
+
 def with_leaves(tree: Tree, leaves: list[Tree]) -> Tree:
     """The same with what the leaves are."""
     if isinstance(tree, Foreign):

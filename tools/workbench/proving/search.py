@@ -45,11 +45,25 @@ def looked_into(search: Search, system: System, until: float, told: str, most: O
         if found:
             return found
         if system.terms.width == 64 and search.question.observed and not unrolling.is_fair(depth, until):
-            search.tell(Unfair(fair_samples(system, depth, until)))
+            tell_unfair(search, depth, until)
             return None
         clear = depth
         search.tell(Searched(told, f"none up to {clear} sample{'s' * (clear != 1)}{told}"))
     return None
+
+
+def tell_unfair(search: Search, most: int, until: float) -> int:
+    """How many samples a recording has at most on which all that is assumed holds, with any steps that are asked for and in any time;
+    it is told where these are fewer than so many."""
+    count = fair_samples(System(search.question.of_any_length, Terms()), most, until)
+    if count < most:
+        search.tell(Unfair(count))
+    return count
+
+
+def by_fair_recordings(search: Search) -> None:
+    """Recordings on which all that is assumed holds, ever longer, as far as there are some."""
+    tell_unfair(search, search.depth, search.until)
 
 
 def paces(search: Search) -> list[Pace]:
@@ -149,12 +163,9 @@ def keeps_to_it(search: Search) -> bool:
     if not search.question.observed:
         return True
     try:
-        count = fair_samples(System(search.question, Terms()), FIRST_SAMPLES, search.by(0.3))
+        return tell_unfair(search, FIRST_SAMPLES, search.by(0.3)) > 0
     except Unknown:
         return True
-    if count < FIRST_SAMPLES:
-        search.tell(Unfair(count))
-    return count > 0
 
 
 def proved(search: Search, system: System, states: States, until: float, given: Sequence[Candidate] = (), way: str = "") -> bool:
@@ -282,6 +293,7 @@ def unless_unknown(way: Way) -> Way:
     return run
 
 
+FAIR = unless_unknown(by_fair_recordings)
 REFUTING = {"narrow": unless_unknown(by_narrow_numbers), "bits": unless_unknown(by_all_bits), "reached": unless_unknown(by_reaching)}
 INDUCTIVE = {
     "induction": also_bounded(by_induction),

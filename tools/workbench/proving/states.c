@@ -1,8 +1,11 @@
 /* Goes breadth first over the states of an observer, `observed`, over all inputs and steps: each state once, so that what is found
  * is a shortest recording. samples.h has the inputs, the steps, and `canonical`, which gives states that go on alike the same bytes.
+ * Where all steps together are at most MOST_TOTAL, which isn't 0, a state is gone on from again if fewer ticks led to it: more can
+ * come behind it. Where MOST_SAMPLES isn't 0, a recording has no more.
  *
- * It prints a line `depth SAMPLES STATES` before each depth, and ends with `all SAMPLES STATES`, with `full SAMPLES STATES` if there
- * are more states than it has room for, or with `false` and a line `STEP INPUT` for each sample of the recording. */
+ * It prints a line `depth SAMPLES STATES` before each depth, and ends with `all SAMPLES STATES`, before which stands `short SAMPLES STATES`
+ * if no fair recording has more samples; with `full SAMPLES STATES` if there are more states than it has room for; or with `false` and a
+ * line `STEP INPUT` for each sample of the recording. */
 #include <signal.h>
 #include <stdio.h>
 #include <stdlib.h>
@@ -10,14 +13,19 @@
 #include "observed.c"
 #include "samples.h"
 
+/* How a state was reached: from which other, and, where MOST_TOTAL says so, by how many ticks from the first sample on. */
 struct origin {
     uint32_t state, step, input;
+    uint64_t total;
 };
 
 static struct observed_state *states;
 static struct origin *origins;
 static uint32_t *places;
-static uint32_t count, room = 1024;
+static uint32_t count, seen, room = 1024;
+/* Where the states of the next depth begin, and whether a recording could go on otherwise than ever deeper, or was cut. */
+static uint32_t next_depth;
+static bool lasts;
 
 static uint64_t sum_of(const struct observed_state *state)
 {
@@ -60,13 +68,15 @@ static void make_room(void)
     }
 }
 
-/* Keeps a state that wasn't seen before. */
+/* Keeps a state that wasn't reached before by as few ticks. */
 static void keep(const struct observed_state *state, struct origin origin)
 {
     uint32_t *place = place_of(state);
-    if (*place) {
+    lasts |= *place && *place - 1 < next_depth;
+    if (*place && origins[*place - 1].total <= origin.total) {
         return;
     }
+    seen += !*place;
     memcpy(&states[count], state, sizeof *state);
     origins[count] = origin;
     *place = ++count;
@@ -87,8 +97,10 @@ static void print_recording(struct origin last)
 static void go_on(uint32_t from)
 {
     for (uint32_t step = 0; step < (from ? STEP_COUNT : 1); step++) {
-        for (uint32_t input = 0; input < INPUT_COUNT; input++) {
-            struct origin origin = {from, step, input};
+        uint64_t total = MOST_TOTAL && from ? origins[from].total + (uint64_t)STEPS[step] : 0;
+        lasts |= total > MOST_TOTAL;
+        for (uint32_t input = 0; input < INPUT_COUNT && total <= MOST_TOTAL; input++) {
+            struct origin origin = {from, step, input, total};
             static struct observed_state state;
             static observed_output output;
             memcpy(&state, &states[from], sizeof state);
@@ -112,19 +124,23 @@ int main(void)
     make_room();
     static struct observed_state start;
     observed_init(&start);
-    keep(&start, (struct origin){0, 0, 0});
+    keep(&start, (struct origin){0, 0, 0, 0});
     uint32_t depth = 0;
-    for (uint32_t at = 0, end = 1; at < end; end = count, depth++) {
-        printf("depth %" PRIu32 " %" PRIu32 "\n", depth, count);
+    for (uint32_t at = 0, end = 1; at < end && !(MOST_SAMPLES && depth == MOST_SAMPLES); end = count, depth++) {
+        printf("depth %" PRIu32 " %" PRIu32 "\n", depth, seen);
         fflush(stdout);
+        next_depth = end;
         for (; at < end; at++) {
             if (count > MOST_STATES) {
-                printf("full %" PRIu32 " %" PRIu32 "\n", depth, count);
+                printf("full %" PRIu32 " %" PRIu32 "\n", depth, seen);
                 return 0;
             }
             go_on(at);
         }
     }
-    printf("all %" PRIu32 " %" PRIu32 "\n", depth, count);
+    if (!lasts && depth != MOST_SAMPLES) {
+        printf("short %" PRIu32 " %" PRIu32 "\n", depth - 1, seen);
+    }
+    printf("all %" PRIu32 " %" PRIu32 "\n", depth, seen);
     return 0;
 }

@@ -128,7 +128,7 @@ class System:
         if first:
             return 0, tree, bounds
         if not self.timed:
-            return self.pace.step or 1, tree, bounds
+            return min(self.pace.steps or [1]), tree, bounds
         if self.pace.step:
             return self.pace.step, tree, bounds
         step = self.terms.variable(f"step.{name}", False)

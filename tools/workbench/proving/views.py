@@ -3,7 +3,7 @@ from typing import Any, Iterator
 
 from workbench.proving.induction import Candidate
 from workbench.proving.machines import Machine
-from workbench.proving.saying import with_leaves
+from workbench.proving.saying import plainer, with_leaves
 from workbench.proving.system import System
 from workbench.proving.terms import Terms, is_known
 from workbench.proving.told import Cell, Path
@@ -13,7 +13,7 @@ from workbench.proving.values import Tree, is_leaf
 def viewed(system: System, candidates: list[Candidate]) -> list[Tree]:
     """What candidates say, of x, the pair of the input and the output at the sample that led to a state, and of cells."""
     named = named_leaves(System(system.question, Terms(system.terms.width), system.pace))
-    return list(dict.fromkeys(with_leaves(one.says, named) for one in candidates))
+    return list(dict.fromkeys(plainer(with_leaves(one.says, named)) for one in candidates))
 
 
 def named_leaves(system: System) -> list[Tree]:

@@ -11,8 +11,7 @@ from workbench.proving.deciding import Limits
 from workbench.proving.question import SAMPLES, TOTAL, Pace
 from workbench.recording import types_of
 
-NOT_KNOWN = 4
-SAMPLES_TOLD = """at most N samples, or `any` number, where steps don't matter; by default any, and else the million that `run` takes"""
+SAMPLES_TOLD = """at most N samples, or `any` number; by default any, and where steps don't matter, else the million that `run` takes"""
 
 
 class Loaded(NamedTuple):
