@@ -3,12 +3,14 @@ import os
 import signal
 import subprocess
 import time
+from itertools import product
+from pathlib import Path
 
 from model.texts import network_text
 from workbench.outline import network_of
 from workbench.program import call, path
 
-from tooling.common import EXAMPLES, NUMBERS, TOP, each, in_files, in_folder, own_folder, tool, want
+from tooling.common import EXAMPLES, NUMBERS, TOP, each, in_files, in_folder, own_folder, patience, tool, want, written
 
 NEEDS = ["z3"]
 # The searches are held to the clock: no other module runs beside this one.
@@ -57,7 +59,9 @@ def observers_are_falsified(folder):
     (file,) = in_files(folder, net=net)
     told_false = call(["run", str(file)], stream.encode()).output.endswith(b"false\n")
     want("falsify", status == 1 and "false at line" in error and told_false, stream + error)
-    want("nothing to falsify", in_folder(("falsify", "net", "--seconds", "5"), net=NUMBERS + "(arr (equal x x))")[:2] == (0, ""))
+    status, output, error = in_folder(("falsify", "net", "--seconds", "20"), net=NUMBERS + "(arr (equal x x))")
+    told = "it holds on every recording" in error and "none found" not in error and "random stream" in error
+    want("nothing to falsify", (status, output) == (0, "") and told, output + error)
     want("no observer", "an observer outputs Bool" in in_folder(("falsify", "net"), net=NUMBERS + "(arr x)")[2])
 
 
@@ -83,6 +87,15 @@ def random_streams_find_them():
             want(f"without z3: {net}", "install python3-z3" in error and "so without z3" in error, error)
 
 
+def recordings_are_tried_as_they_are(folder):
+    """Two networks differ only where 40 samples are just so; one such recording is given, and no z3."""
+    source = HARD.replace("(arr (less x 100000))", "(arr (if (less x 40) 0 1))")
+    right = "\n+1 ".join(str(7 * number) for number in range(45)) + "\n"
+    in_files(folder, source=source, target=source.replace("40", "41"), right=right, **{"z3.py": "raise ImportError(name='z3')"})
+    status, output, error = tool("differ", "source", "target", "--from", "right", "--seconds", "30", folder=folder, PYTHONPATH=str(folder))
+    want("a recording that is given", status == 1 and "line 40: 1 and 0" in error and right.startswith(output.rstrip("\n")), output + error)
+
+
 def nothing_is_passed_that_never_ran():
     """What the program refuses to run is told, and isn't passed."""
     rows = [" ".join(f"(arr (less x {64 * row + column}))" for column in range(64)) for row in range(64)]
@@ -101,23 +114,45 @@ def what_fails_is_told():
     with own_folder() as folder:
         (net,) = in_files(folder, net=HARD)
         dying = folder / "dying"
-        dying.write_text(f'#!/bin/sh\n[ "$1" = run ] && [ "$2" != "{net}" ] && kill -9 $$\nexec "{path()}" "$@"\n')
+        dying.write_text(f'#!/bin/sh\ncase "$1 $2" in "run {folder}/"*) ;; "run "*) kill -9 $$ ;; esac\nexec "{path()}" "$@"\n')
         dying.chmod(0o755)
         status, output, error = tool("falsify", net, "--seconds", "5", YAMPA=str(dying))
         want("falsify by a program that dies", status == 3 and not output and "0 random streams" in error, error)
+        for says in ("", "==1==ReserveShadowMemoryRange failed"):
+            silent = written(folder / "silent", f"#!/bin/sh\necho '{says}' >&2\nexit 1\n")
+            for words in (("falsify", net), ("prove", net), ("differ", net, net)):
+                status, output, error = tool(*words, "--seconds", "5", YAMPA=str(silent))
+                want(f"{words[0]} by a program that can't start", status == 3 and not output and error.count("\n") == 1, error)
         status, output, error = tool("falsify", net, "--seconds", "0.01")
         want("falsify without time", status in (3, 4) and "none found" not in error and "random stream" in error, error)
-        status, output, error = tool("prove", net, "--seconds", "20", YAMPA=str(dying))
-        want("prove by a program that dies", status in (3, 4) and "holds" not in output and "ended with status -9" in output + error, output + error)
+        (other,) = in_files(folder, other=HARD.replace("100000", "100001"))
+        for words in (("prove", net), ("differ", net, other)):
+            status, output, error = tool(*words, "--seconds", "20", YAMPA=str(dying))
+            want(f"{words[0]} by a program that dies", status == 3 and "holds" not in output and "no recording was run" in error, output + error)
+
+
+# A process's soft and hard limits of memory, and what a search makes of them.
+LIMIT = """import resource
+from workbench.proving.race import limit_memory
+resource.setrlimit(resource.RLIMIT_AS, {})
+limit_memory()
+print(resource.getrlimit(resource.RLIMIT_AS))"""
+GIB = 1 << 30
+LIMITS = [((-1, -1), (4 * GIB, -1)), ((2 * GIB, -1), (2 * GIB, -1)), ((3 * GIB, 3 * GIB), (3 * GIB, 3 * GIB)), ((6 * GIB, 8 * GIB), (4 * GIB, 8 * GIB))]
 
 
 def limits_of_memory_are_kept(folder):
-    """A soft limit that is there is kept, and no limit is raised; nothing is left of what was stopped."""
-    (net,) = in_files(folder, net=NUMBERS + "(arr (less x 4))")
-    for limit in ("-S", "-H"):
-        call_of = f'ulimit {limit} -v 2000000; exec "$0" falsify "{net}" --seconds 20'
-        ran = subprocess.run(["bash", "-c", call_of, str(TOP / "tools/tool")], capture_output=True, text=True, check=False)
-        want(f"falsify under ulimit {limit}", ran.returncode == 1 and "Traceback" not in ran.stderr, ran.stderr)
+    """No limit is raised, and under one there is an answer, or it is told that nothing ran."""
+    for limit, wanted in LIMITS:
+        ran = subprocess.run(["/usr/bin/python3", "-c", LIMIT.format(limit)], cwd=TOP / "tools", capture_output=True, text=True, check=False)
+        want(f"the limit {limit}", ran.stdout == f"{wanted}\n", ran.stdout + ran.stderr)
+    net, holds = in_files(folder, net=NUMBERS + "(arr (less x 4))", holds=NUMBERS + "(arr (equal x x))")
+    for kibibytes, words, statuses in ((2_000_000, ("falsify", net), (1,)), (2_000_000, ("prove", holds), (0,)), (40_000, ("falsify", holds), (0, 3, 4)), (40_000, ("prove", holds), (3, 4))):
+        call_of = f'ulimit -v {kibibytes} && exec "$0" "$@" --seconds {20 * patience()}'
+        ran = subprocess.run(["bash", "-c", call_of, str(TOP / "tools/tool"), *map(str, words)], capture_output=True, text=True, check=False)
+        told = ran.stdout + ran.stderr
+        want(f"{words[0]} under {kibibytes} KiB", ran.returncode in statuses and "defect" not in told and "Traceback" not in told, told)
+        want(f"what {words[0]} tells under {kibibytes} KiB", ran.returncode in (1, 3) or "random streams" in told or "holds on" in told, told)
 
 
 def nothing_is_found(folder):
@@ -144,15 +179,35 @@ EQUAL = ("(loopPre 0 (arr (then (add (fst x) (snd x)) (pair x x))))", "(loopPre 
 
 def nothing_is_left_behind(folder):
     """Of a search that is stopped by a signal."""
-    (net,) = in_files(folder, net=HARD)
-    for number in (signal.SIGINT, signal.SIGTERM):
+    net, other = in_files(folder, net=HARD, other=HARD.replace("100000", "100001"))
+    for number, words in product((signal.SIGINT, signal.SIGTERM), (["falsify", net], ["prove", net], ["differ", net, other])):
         with own_folder() as place:
-            child = subprocess.Popen([str(TOP / "tools/tool"), "falsify", str(net), "--seconds", "60"], env={**os.environ, "TMPDIR": str(place)}, stderr=subprocess.DEVNULL)
-            time.sleep(6)
+            command = [str(TOP / "tools/tool"), *map(str, words), "--seconds", "60"]
+            child = subprocess.Popen(command, env={**os.environ, "TMPDIR": str(place)}, stdout=subprocess.DEVNULL, stderr=subprocess.DEVNULL)
+            time.sleep(4 * patience())
             child.send_signal(number)
-            child.wait(30)
+            child.wait(30 * patience())
             left = [path.name for path in place.iterdir()]
-            want(f"what is left behind by signal {int(number)}", not left and child.returncode == 128 + number, f"{left} {child.returncode}")
+            want(f"what {words[0]} leaves behind by signal {int(number)}", not left and child.returncode == 128 + number, f"{left} {child.returncode}")
+
+
+def what_was_started_is_ended(folder):
+    """A search for a certificate, which is a program of its own, ends with who asked for it."""
+    net, other = in_files(folder, net=HARD, other=HARD.replace("100000", "100001"))
+    told = folder / "process"
+    slow = written(folder / "slow", f"#!/bin/sh\necho $$ > {told}\nexec sleep 600\n")
+    child = subprocess.Popen([str(TOP / "tools/tool"), "differ", net, other], env={**os.environ, "YAMPA_SEARCH": str(slow), "TMPDIR": str(folder)})
+    until = time.monotonic() + 60 * patience()
+    while not (told.exists() and told.read_text()) and time.monotonic() < until:
+        time.sleep(0.1)
+    child.terminate()
+    child.wait(30 * patience())
+    process = Path(f"/proc/{told.read_text().strip()}")
+    until = time.monotonic() + 30 * patience()
+    while process.exists() and time.monotonic() < until:
+        time.sleep(0.1)
+    left = [path.name for path in folder.iterdir() if path not in (net, other, slow, told)]
+    want("what differ has started", not process.exists() and not left, f"{process} {process.exists()} {left}")
 
 
 def equal_networks_are_told():
@@ -165,6 +220,7 @@ def try_all() -> None:
     with own_folder() as folder:
         planted_faults_are_found(folder)
         random_streams_find_them()
+        recordings_are_tried_as_they_are(folder)
         nothing_is_passed_that_never_ran()
         equal_networks_are_told()
         observers_are_falsified(folder)
@@ -172,3 +228,5 @@ def try_all() -> None:
         limits_of_memory_are_kept(folder)
         nothing_is_left_behind(folder)
         nothing_is_found(folder)
+    with own_folder() as folder:
+        what_was_started_is_ended(folder)
