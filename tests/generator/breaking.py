@@ -10,7 +10,7 @@ WORDS = (
     "( ) x unit true false none time integral identity edge arr >>> first second parB col list pair event fst snd then "
     "neg add if on nth len p old 0 1 -1 007 -0 - 65535 65536 4097 9223372036854775807 9223372036854775808 "
     "-9223372036854775809 4611686018427387905 Int Bool Unit Pair Event List yampa input laws step forward backward at "
-    "E1 E18 E19 E26 E27 L0 L1 L42 L43 L46 L47 L51 L52 L01 2 3 4 switch kSwitch pSwitch delay after repeatedly never now --> >-- drSwitch "
+    "E1 E18 E19 E26 E27 E55 E56 L0 L1 L42 L43 L46 L47 L51 L52 L65 L66 L01 2 3 4 5 switch kSwitch pSwitch delay after repeatedly never now --> >-- drSwitch "
     "rpSwitchB , []"
 ).split()
 

@@ -341,17 +341,24 @@ class Case:
             return
         found = difference(*forms)
         wanted = APART + difference_text(*found).encode() if found else b""
-        if not found or told.output != wanted:
+        if not found or re.sub(rb"the first wire that differs: .+\n", b"", told.output) != wanted:
             raise Find(Command("certify", files), "the normal forms differ elsewhere", told, wanted)
 
     def normal_form(self, text, stream):
-        """The normal form of a network, which does what the network does: all of it is told where the target is `time`, if it fits into a line, and else None."""
+        """The normal form of a network, which does what the network does: all of it is told where the target is `time`, if it fits into a line and has
+        another form at its root, and else None."""
         given = typed_of(text).input
         told = self.program.searched(Command("certify", [text, network_text(given, "time").encode()]))
         if b".." in told.output:
             self.tally["normal forms", "too long for a line"] += 1
             return None
         net = whole_of(told.output) if told.status else "time"
+        if net is None and re.match(rb"gave up: \d+ nodes visited\n|too long: \d+ steps, \d+ bytes\n", told.output):
+            self.tally["normal forms", "search gave up"] += 1
+            return None
+        if net is None and re.match(rb"\(at( \d+)+\)\n- .+\n\+ .+\n", told.output):
+            self.tally["normal forms", "differ from that of `time` within"] += 1
+            return None
         if net is None:
             raise Find(Command("certify", [text]), "a normal form other than `time` isn't told", told)
         form = network_text(given, net).encode()
@@ -483,7 +490,7 @@ def text_of(typed):
 def whole_of(output):
     """The network that is told as what the first of two normal forms has at its root, or None."""
     lines = output.split(b"\n")
-    if len(lines) != 4 or lines[0] != b"(at)" or not lines[1].startswith(b"- "):
+    if len(lines) not in (4, 5) or lines[0] != b"(at)" or not lines[1].startswith(b"- "):
         return None
     try:
         _, net = read_network(b"yampa 2 input Int " + lines[1][2:])

@@ -172,4 +172,4 @@ class Limits:
 
     def inputs(self):
         texts = [network(given, ("arr", "unit")) for given in self.rng.choices(["Int", "Bool", pair("Int", "Int")], k=2)]
-        return Command("check", [*texts, self.rng.choice([b"laws 1", b"laws 2", b"laws 3", b"laws 1 (step E1 forward (at 0))"])])
+        return Command("check", [*texts, self.rng.choice([b"laws 1", b"laws 2", b"laws 3", b"laws 4", b"laws 5", b"laws 1 (step E1 forward (at 0))"])])

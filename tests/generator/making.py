@@ -464,9 +464,10 @@ class Maker:
     def spaced(self, text):
         """The text of a file with other space between its tokens, and comments; sometimes of a later version than it needs."""
         if self.version == 2 and self.chance(0.2):
-            text = text.replace("yampa 1", "yampa 2", 1).replace("laws 1", "laws 2", 1)
-            if self.chance(0.5):
-                text = text.replace("laws 2", "laws 3", 1)
+            text = text.replace("yampa 1", "yampa 2", 1)
+            for version in "123":
+                if self.chance(0.7):
+                    text = text.replace(f"laws {version}", f"laws {int(version) + 1}", 1)
         if self.chance(0.5):
             return text.encode()
         gaps = [" ", " ", " ", "\n", "\t", "\r\n", "  ", " ; a comment ( \n", ";\n"]

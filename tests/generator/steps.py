@@ -3,12 +3,15 @@ from model.laws import (
     ASSOC,
     DISTRIBUTED,
     FOLDED,
+    LIFTING,
     SWITCH_LAWS,
     StepFault,
     accumulated,
     arr,
     forward,
     laws_by_word,
+    left,
+    lifted,
     mapped,
     right,
     seq,
@@ -65,9 +68,9 @@ class LeftSides:
         made, out = self.form(word, between, output)
         return given, ("then", self.e(given, between), made), out
 
-    def form(self, word, given, output):
-        """An expression that begins with this word, and its type."""
-        t = self.t()
+    def form(self, word, given, output, make=None):
+        """An expression that begins with this word, its parts by this function, and its type."""
+        t, make = self.t(), make or self.e
         shapes = {
             "pair": ([output[1], output[2]] if is_form("Pair", output) else [t, output], None),
             "fst": ([pair(output, t)], output),
@@ -85,7 +88,7 @@ class LeftSides:
             "list": ([self.element(output)] * self.rng.randint(1, 3), None),
         }
         wanted, out = shapes.get(word, (["Int", "Int"], "Int"))
-        parts = [self.e(given, type_) for type_ in wanted]
+        parts = [make(given, type_) for type_ in wanted]
         if word == "list":
             return ("list", wanted[0], *parts), list_of(wanted[0])
         return (word, *parts), out or (pair(*wanted) if word == "pair" else event(wanted[0]))
@@ -129,7 +132,51 @@ class LeftSides:
         condition = {"E10": "true", "E11": "false"}.get(law) or self.e(given, "Bool")
         if law == "E25":
             condition = ("not", condition)
+        if law == "E44":
+            return given, ("if", condition, "true", "false"), "Bool"
+        if law in ("E47", "E48"):
+            inner = ("if", condition, self.e(given, output), f)
+            return given, ("if", condition, *((inner, e) if law == "E47" else (e, inner))), output
         return given, ("if", condition, e, e if law == "E12" else f), output
+
+    def lifted_side(self, _law, given, output):
+        word, between, carried, made, out = self.rng.choice(list(LIFTING)), self.t(), self.t(), None, output
+        while lifted(made) is None:
+            if word == "then":
+                made = ("then", self.perhaps_if(given, between), self.perhaps_if(between, output))
+            elif word == "on":
+                last = self.perhaps_if(pair(given, carried), output)
+                made = ("on", self.perhaps_if(given, event(carried)), self.perhaps_if(given, output), last)
+            else:
+                made, out = self.form(word, given, output, self.perhaps_if)
+            made = expanded(made)
+        return given, made, out
+
+    def perhaps_if(self, given, output):
+        """An expression, as often as not an `if`."""
+        e = self.e(given, output, 1)
+        return ("if", self.e(given, "Bool", 1), e, self.e(given, output, 1)) if self.maker.chance(0.5) else e
+
+    def nested_side(self, law, given, output):
+        carried, other, between = self.t(), self.t(), self.t()
+        e = self.e(given, event(carried))
+
+        def on(out):
+            return ("on", e, self.e(given, out), self.e(pair(given, carried), out))
+
+        if law == "E50":
+            return given, ("on", on(event(other)), self.e(given, output), self.e(pair(given, other), output)), output
+        if law == "E51":
+            return given, ("on", e, ("none", carried), ("event", ("snd", "x"))), event(carried)
+        if law == "E52":
+            d = self.e(given, output)
+            return given, ("on", e, d, ("then", ("fst", "x"), d)), output
+        if law == "E53":
+            return given, ("then", on(between), self.e(between, output)), output
+        both = output if is_form("Pair", output) else pair(output, other)
+        if law == "E54":
+            return given, ("pair", on(both[1]), self.e(given, both[2])), both
+        return given, ("pair", self.e(given, both[1]), on(both[2])), both
 
     def folded_side(self, _law, given, output):
         word = self.rng.choice(FOLDED[4:] if output == "Bool" else FOLDED)
@@ -139,6 +186,37 @@ class LeftSides:
             kind = "Bool" if word in ("not", "and", "or") else "Int"
         parts = [self.maker.value(kind) for _ in range(1 if word in ("neg", "not") else 2)]
         return given, (word, *parts), "Int" if word in ("neg", "add", "sub", "mul") else "Bool"
+
+    def number_side(self, law, given, _output):
+        a, b = self.e(given, "Int"), self.e(given, "Int")
+        sides = {
+            "E27": ("add", a, 0),
+            "E28": ("mul", a, 1),
+            "E29": ("mul", a, 0),
+            "E30": ("neg", ("neg", a)),
+            "E31": ("neg", ("add", a, b)),
+            "E32": ("neg", ("mul", a, b)),
+            "E33": ("add", a, ("neg", a)),
+            "E34": ("less", a, a),
+        }
+        return given, sides[law], "Bool" if law == "E34" else "Int"
+
+    def truth_side(self, law, given, _output):
+        a, b, c = [self.e(given, "Bool") for _ in range(3)]
+        sides = {
+            "E35": ("and", a, a),
+            "E36": ("or", a, a),
+            "E37": ("and", ("and", a, b), c),
+            "E38": ("or", ("or", a, b), c),
+            "E39": ("and", a, ("not", a)),
+            "E40": ("or", a, ("not", a)),
+            "E41": ("not", ("and", a, b)),
+            "E42": ("not", ("or", a, b)),
+            "E43": ("and", a, ("or", b, c)),
+            "E45": ("and", a, b),
+            "E46": ("or", a, b),
+        }
+        return given, sides[law], "Bool"
 
     def sum_side(self, law, given, _output):
         a, b = self.e(given, "Int"), self.e(given, "Int")
@@ -179,6 +257,10 @@ class LeftSides:
         }
         return given, sides[law](), output
 
+    def copied_side(self, _law, given, output):
+        part = output[1] if is_form("Pair", output) else output
+        return given, seq(self.n(given, part), arr(("pair", "x", "x"))), pair(part, part)
+
     def first_side(self, law, given, output):
         other, d = self.t(), self.t()
         both, out = pair(given, other), pair(output, other)
@@ -198,15 +280,21 @@ class LeftSides:
         made = seq(("first", ("first", self.n(given, output))), arr(ASSOC))
         return pair(both, d), made, pair(output, pair(other, d))
 
-    def pair_cell_side(self, _law, given, _output):
+    def pair_cell_side(self, law, given, _output):
         both = given if is_form("Pair", given) else pair(given, self.t())
-        return both, ("iPre", ("pair", self.c(both[1]), self.c(both[2]))), both
+        cell = ("iPre",) if law == "L12" else ("delay", self.rng.randint(1, 4))
+        return both, (*cell, ("pair", self.c(both[1]), self.c(both[2]))), both
 
     def cell_side(self, law, given, output):
         if law == "L49":
             return given, ("iPre", self.c(given)), given
         if law == "L50":
             return event(output), ("hold", self.c(output)), output
+        if law == "L53":
+            source, z = self.carried(given), self.c(output)
+            return event(source), seq(("accumBy", self.e(pair(output, source), output), z), ("hold", z)), output
+        if law == "L63":
+            return given, seq(arr(("then", "unit", 1)), "integral"), "Int"
         source, kept = self.carried(given), self.carried(output)
         loop = ("loopPre", self.c(kept), arr(accumulated(self.e(pair(kept, source), kept), kept)))
         return event(source), loop, event(kept)
@@ -263,23 +351,43 @@ class LeftSides:
         if law in ("L31", "L32"):
             never = seq(self.n(given, output), arr(("pair", "x", ("none", value_type))))
             return given, (s, never, self.n(given, output, inner)), output
+        if law in ("L64", "L65"):
+            e = self.e(given, output)
+            return given, (s, arr(("pair", e, self.e(given, event(value_type)))), arr(e)), output
         parts = [self.n(given, pair(output, event(value_type))), self.n(given, output, inner)]
         return pair(given, other), ("first", (s, *parts)), pair(output, other)
 
     def recurring_side(self, law, given, output):
         value_type, between = self.t(), self.t()
         inner = self.scope.with_param(value_type)
-        if law == "L35":
-            ready = arr(("pair", self.e(given, between), ("none", value_type)))
-            return given, seq(ready, ("rSwitch", self.n(between, output), self.n(between, output, inner))), output
         both = pair(given, event(value_type))
+        if law in ("L35", "L54"):
+            ready = arr(("pair", self.e(given, between), ("none", value_type)))
+            s = "rSwitch" if law == "L35" else "drSwitch"
+            return given, seq(ready, (s, self.n(between, output), self.n(between, output, inner))), output
+        if law in ("L56", "L57"):
+            parts = [self.n(between, output), self.n(between, output, inner)]
+            return both, seq(arr(left(self.e(given, between))), (SWITCH_LAWS[law], *parts)), output
         parts = [self.n(given, between), self.n(given, between, inner)]
         return both, seq(("rSwitch" if law == "L36" else "drSwitch", *parts), arr(self.e(between, output))), output
 
     def opening_side(self, law, given, output):
         if law == "L43":
             return given, ("-->", self.c(output), ("-->", self.c(output), self.n(given, output))), output
-        return given, (">--", self.c(given), arr(self.e(given, output))), output
+        if law == "L44":
+            return given, (">--", self.c(given), arr(self.e(given, output))), output
+        if law == "L61":
+            return given, ("-->", self.c(given), ("iPre", self.c(given))), given
+        if law == "L62":
+            carried = self.carried(output)
+            return given, ("-->", ("event", self.c(carried)), arr(("none", carried))), event(carried)
+        between = self.t()
+        chain = seq(self.n(given, between), self.n(between, output))
+        if law == "L58":
+            return given, ("-->", self.c(output), chain), output
+        if law == "L59":
+            return given, (">--", self.c(given), chain), output
+        return given, seq(("-->", self.c(between), chain[1]), chain[2]), output
 
     def freezing_side(self, law, given, output):
         value_type = self.t()
@@ -326,24 +434,29 @@ EXPRESSION_SIDES = sides(
     on_side="E5 E13 E14",
     constant_side="E6",
     pair_side="E7 E8 E9",
-    if_side="E10 E11 E12 E25",
+    if_side="E10 E11 E12 E25 E44 E47 E48",
     folded_side="E15",
     sum_side="E16 E17",
     nth_side="E18",
     product_side="E19 E20 E21 E22",
     logic_side="E23 E24 E26",
+    number_side="E27 E28 E29 E30 E31 E32 E33 E34",
+    truth_side="E35 E36 E37 E38 E39 E40 E41 E42 E43 E45 E46",
+    lifted_side="E49",
+    nested_side="E50 E51 E52 E53 E54 E55",
 )
 NETWORK_SIDES = sides(
     arrow_side="L1 L2 L3 L4 L10 L11 L25 L26",
     first_side="L5 L6 L7 L8 L9 L47 L48",
-    pair_cell_side="L12",
-    cell_side="L49 L50 L51",
+    copied_side="L52",
+    pair_cell_side="L12 L55",
+    cell_side="L49 L50 L51 L53 L63",
     loop_side="L13 L14 L15 L16 L17",
     event_side="L18 L19 L20 L21 L22",
     mapped_side="L23 L24",
-    switch_side="L27 L28 L29 L30 L31 L32 L33 L34",
-    recurring_side="L35 L36 L45",
-    opening_side="L43 L44",
+    switch_side="L27 L28 L29 L30 L31 L32 L33 L34 L64 L65",
+    recurring_side="L35 L36 L45 L54 L56 L57",
+    opening_side="L43 L44 L58 L59 L60 L61 L62",
     freezing_side="L37 L38",
     members_side="L39 L40 L41 L42 L46",
 )
@@ -356,7 +469,7 @@ class StepMaker:
         self.maker, self.rng = maker, maker.rng
         self.expression_growths = EXPRESSION_GROWTHS + NEW_GROWTHS * (maker.version == 2)
         self.laws_by_word = laws_by_word([law for law in LAWS if maker.version == 2 or law not in NEW_LAWS])
-        self.network_growths = NETWORK_GROWTHS + ["L43", "L44", "L46"] * (maker.version == 2)
+        self.network_growths = NETWORK_GROWTHS + NEW_NETWORK_GROWTHS * (maker.version == 2)
 
     def with_left_side(self, typed, law):
         """A network with a left side of the law at a random place of this one, and the position of that side.
@@ -478,7 +591,9 @@ class StepMaker:
             case "E26", "true":
                 a = e(t)
                 return ("equal", a, a)
-        return self.grown_network(law, tree, place, e, t)
+        if is_network(tree):
+            return self.grown_network(law, tree, place, e, t)
+        return grown_anywhere(law, tree, place.output, e, t) or grown_form(law, tree, place.output, e)
 
     def grown_network(self, law, tree, place, e, t):
         inner = place.scope.with_param(t)
@@ -508,9 +623,9 @@ class StepMaker:
             case ("L31" | "L32"), _:
                 never = seq(tree, arr(("pair", "x", ("none", t))))
                 return (SWITCH_LAWS[law], never, n(scope=inner))
-            case "L35", (">>>", ("arr", f), g):
-                between = output_of(f, place)
-                return between and seq(arr(("pair", f, ("none", t))), ("rSwitch", g, n(given=between, scope=inner)))
+            case ("L35" | "L54"), (">>>", ("arr", f), g):
+                between, s = output_of(f, place), "rSwitch" if law == "L35" else "drSwitch"
+                return between and seq(arr(("pair", f, ("none", t))), (s, g, n(given=between, scope=inner)))
             case "L37", _:
                 frozen = inner.with_olds([(place.input, place.output)])
                 return ("kSwitch", tree, arr(("none", t)), n(scope=frozen))
@@ -530,7 +645,11 @@ class StepMaker:
                 m = ("pair", ("list", "Int", self.maker.number()), ("list", t))
                 started = between and n(given=between, output=place.output[1], scope=inner)
                 return between and seq(arr(("pair", f, ("none", "Int"))), ("rpSwitchB", ("col", *members), m, started))
-        return None
+            case "L61", ("iPre", c):
+                return ("-->", c, ("iPre", self.maker.constant(place.output, place.scope)))
+            case ("L64" | "L65"), ("arr", f):
+                return (SWITCH_LAWS[law], arr(("pair", f, e(event(t)))), tree)
+        return grown_opening(law, tree, place.output)
 
     def ill_typed_step(self, typed):
         """A step backward that matches, to a tree with a part that has hardly ever a type."""
@@ -559,6 +678,7 @@ class StepMaker:
                 "E11": ("if", "false", ill, tree),
                 "E12": ("if", ill, tree, tree),
                 "E13": ("on", ("none", t), tree, ill),
+                "E52": ("on", ill, tree, ("then", ("fst", "x"), tree)),
                 "E18": ("nth", ("list", t, tree), 0, tree),
             }
         law = self.rng.choice(list(trees))
@@ -590,6 +710,73 @@ class StepMaker:
             return None
 
 
+def grown_anywhere(law, tree, output, e, t):
+    """A left side of a law of version 4 that has as its right side any tree of the type, or this literal, or None."""
+    number, truth = e("Int"), e("Bool")
+    sides = {"E52": ("on", e(event(t)), tree, ("then", ("fst", "x"), tree))}
+    if is_form("Event", output):
+        sides["E51"] = ("on", tree, ("none", output[1]), ("event", ("snd", "x")))
+    if output == "Int":
+        sides |= {"E27": ("add", tree, 0), "E28": ("mul", tree, 1), "E30": ("neg", ("neg", tree))}
+    if output == "Bool":
+        sides |= {"E35": ("and", tree, tree), "E36": ("or", tree, tree), "E44": ("if", tree, "true", "false")}
+    if tree == 0:
+        sides |= {"E29": ("mul", number, 0), "E33": ("add", number, ("neg", number))}
+    if tree == "false":
+        sides |= {"E34": ("less", number, number), "E39": ("and", truth, ("not", truth))}
+    if tree == "true":
+        sides["E40"] = ("or", truth, ("not", truth))
+    return sides.get(law)
+
+
+def grown_form(law, tree, output, e):
+    """A left side of a law of version 4 whose right side is this form, or None."""
+    match law, tree:
+        case "E31", ("add", ("neg", a), ("neg", b)):
+            return ("neg", ("add", a, b))
+        case "E32", ("mul", ("neg", a), b):
+            return ("neg", ("mul", a, b))
+        case ("E37", ("and", a, ("and", b, c))) | ("E38", ("or", a, ("or", b, c))):
+            return (tree[0], (tree[0], a, b), c)
+        case "E41", ("or", ("not", a), ("not", b)):
+            return ("not", ("and", a, b))
+        case "E42", ("and", ("not", a), ("not", b)):
+            return ("not", ("or", a, b))
+        case "E43", ("or", ("and", a, b), ("and", d, c)) if a == d:
+            return ("and", a, ("or", b, c))
+        case "E45", ("if", a, b, "false"):
+            return ("and", a, b)
+        case "E46", ("if", a, "true", b):
+            return ("or", a, b)
+        case "E47", ("if", c, a, d):
+            return ("if", c, ("if", c, a, e(output)), d)
+        case "E48", ("if", c, a, d):
+            return ("if", c, a, ("if", c, e(output), d))
+        case "E53", ("on", o, ("then", d, f), ("then", b, g)) if f == g:
+            return ("then", ("on", o, d, b), f)
+        case "E54", ("on", o, ("pair", d, f), ("pair", b, ("then", ("fst", "x"), g))) if f == g:
+            return ("pair", ("on", o, d, b), f)
+        case "E55", ("on", o, ("pair", f, d), ("pair", ("then", ("fst", "x"), g), b)) if f == g:
+            return ("pair", f, ("on", o, d, b))
+    return None
+
+
+def grown_opening(law, tree, output):
+    """The same of a law of networks."""
+    match law, tree:
+        case "L58", (">>>", f, ("-->", c, g)):
+            return ("-->", c, seq(f, g))
+        case "L59", (">>>", (">--", c, f), g):
+            return (">--", c, seq(f, g))
+        case "L60", (">>>", f, (">--", c, g)):
+            return seq(("-->", c, f), g)
+        case "L62", ("after", 0, c):
+            return ("-->", ("event", c), arr(("none", output[1])))
+        case "L63", "time":
+            return seq(arr(("then", "unit", 1)), "integral")
+    return None
+
+
 def output_of(tree, place):
     """The type of an expression at the input and in the scope of a place, or None."""
     try:
@@ -612,4 +799,5 @@ def turned(step, before):
 
 NETWORK_GROWTHS = "L1 L2 L3 L5 L13 L17 L18 L20 L25 L31 L32 L35 L37 L38 L40 L42".split()
 EXPRESSION_GROWTHS = "E1 E2 E3 E6 E7 E8 E9 E10 E11 E12 E13 E14 E15 E16 E17 E18".split()
-NEW_GROWTHS = "E19 E20 E21 E22 E23 E24 E25 E26".split()
+NEW_GROWTHS = [law for law in NEW_LAWS if law[0] == "E" and law != "E49"]
+NEW_NETWORK_GROWTHS = "L43 L44 L46 L54 L58 L59 L60 L61 L62 L63 L64 L65".split()
