@@ -98,6 +98,8 @@ ROWS = [
     (INT, "    struct P_t0 r1;\n    r1.m0 = r0;\n    const struct P_t0 r2 = r1;\n    return r2.m0;\n", 7, 7),
     (INT, "    struct P_t0 r1;\n    r1.m0 = r0;\n    const struct P_t0 r2 = r1;\n    return r2.m1 ? r0 : INT64_C(0);\n", 7, NOTHING),
     (INT, "    struct P_t0 r1;\n    const int64_t r2 = P_f0(&r1);\n    return r2;\n", 7, NOTHING),
+    (INT, "    int64_t r1;\n    const struct P_t0 r2 = {r1, true};\n    return r2.m1 ? r0 : INT64_C(0);\n", 7, NOTHING),
+    (INT, "    int64_t r1;\n    r1 = r0;\n    const struct P_t0 r2 = {r1, true};\n    return r2.m1 ? r0 : INT64_C(0);\n", 7, 7),
     # structs and arrays
     (INT, "    const struct P_t0 r1 = {r0, true};\n    return r1.m1 ? r1.m0 : INT64_C(0);\n", 3, 3),
     (INT, "    struct P_t0 r1;\n    r1 = (struct P_t0){r0, false};\n    r1 = (struct P_t0){0};\n    return r1.m0;\n", 3, 0),

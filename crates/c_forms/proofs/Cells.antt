@@ -26,12 +26,12 @@ use Rattle.c_leaf.specs.Representing.{two, c_type, Represents, c_int, c_no_event
 use Rattle.c_leaf.specs.LeafC.{pair_of}
 use Rattle.c_leaf.specs.LeafCLaw.{Computes, IsConstant}
 use Rattle.c_leaf.proofs.Values.{has, zeros-represent}
-use Rattle.c_leaf.proofs.Same.{set-object}
+use Rattle.c_leaf.proofs.Same.{set-object, pair-is}
 use Rattle.c_forms.specs.Keeping.{Shape, keeps_cell, cell_type, shape_type, HoldsCell, holds_previous, holds_latest, holds_accumulator, holds_waiting, holds_over, holds_recurring, holds_time, holds_sum, Keeps, cell_kept, KeepsAt, at_start, at_step, dt_of, dt_object, MomentFits}
 use Rattle.c_forms.specs.Standing.{InScope, Steps, is_first, behind, leaf_call, constant_call, stepping}
 use Rattle.c_forms.specs.Cells.{kept_at, number_term, event_of, at_first, no_event_of, i_pre_function, hold_function, accum_function, after_function, repeatedly_function, time_function, integral_function, IPreLaw, HoldLaw, AfterLaw, RepeatedlyLaw, AccumLaw, TimeLaw, IntegralLaw}
 use Rattle.c_forms.proofs.Lines.{not-first, front-of, nothing-there, at, register-is, define-line, answer-line, write-state, constant-line, leaf-line, yes-line, no-line, first-or, whole-function}
-use Rattle.c_forms.proofs.Forms.{pair-result, beside-whole}
+use Rattle.c_forms.proofs.Forms.{beside-whole}
 
 -- a struct of one member
 pub record Single (A : CType) (o : Object) : Type 0 where
@@ -320,6 +320,10 @@ module _ (n : Bounds) (Ps : List TypeTree) (Os : List Shape) (G : ℕ → Linked
     none-answer : (V : TypeTree) (o i : Object) (d : ℕ) (rs : List Object) → Runs G (answer (no_event_of n Ps Os V)) (spot n Ps Os G g qs h o d i rs) (spot n Ps Os G g qs h o d i rs, Some (zeros (c_type n (event_ty V))))
     none-answer V o i d rs = answer-line n Ps Os G g qs h (no_event_of n Ps Os V) o (number i64 (pos d)) i rs refl (zeros-represent n (event_ty V))
 
+    event-is : (o d i : Object) (rs : List Object) (e : Term) {V : TypeTree} {v : Datum} {z : Object} → eval (at n Ps Os G g qs h o d i rs) e ≡ Some z → Represents n V v z
+        → eval (at n Ps Os G g qs h o d i rs) (event_of e) ≡ Some (two (truth true) z)
+    event-is o d i rs e k r = pair-is (at n Ps Os G g qs h o d i rs) (boolean true) e refl k refl (set-object n r)
+
     accum-comes : (U V : TypeTree) (j d : ℕ) {u x : Datum} {y i : Object} (z : Object) (e : List Datum → Datum → Datum) → Computes n Ps (pair_ty V U) V e (G j) → Represents n V u y → Represents n (event_ty U) x i
         → Comes F.AccumBy V (event_ty V) g qs h (accum-lines U V j) (more y end) i z d (cell_step (accumulating u) (d, put_in (e g.params) u x))
     accum-comes U V j d {y = y} {i = i} z e k r (c_no_event t) =
@@ -335,13 +339,14 @@ module _ (n : Bounds) (Ps : List TypeTree) (Os : List Shape) (G : ℕ → Linked
         let f : Object = number i64 (pos d) in
         let both-are : Represents n (pair_ty V U) (pair u x) (two y p) = c_pair r t in
         let one = yes-line n Ps Os G g qs h skip (answer (no_event_of n Ps Os V)) (dot (local 2) 0) (more y end) f i (z ∷ []) [] (more y end) None refl (skips G) in
-        let two-line = define-line n Ps Os G g qs h (pair_ty V U) (pair_of (kept_at 0) (dot (local 2) 1)) (more y end) f i (z ∷ []) refl both-are in
+        let two-line = define-line n Ps Os G g qs h (pair_ty V U) (pair_of (kept_at 0) (dot (local 2) 1)) (more y end) f i (z ∷ [])
+        (pair-is (at n Ps Os G g qs h (more y end) f i (z ∷ [])) (kept_at 0) (dot (local 2) 1) refl refl (set-object n r) (set-object n t)) both-are in
         let a = leaf-line n Ps Os G g qs h (pair_ty V U) V j e (behind n Ps Os 1) (more y end) f i (z ∷ two y p ∷ []) k (beside-whole n Ps Os G 1)
         (register-is n Ps Os G g qs h (more y end) f i (z ∷ two y p ∷ []) 1 (two y p) refl) both-are in
         let rs : List Object = z ∷ two y p ∷ a.0 ∷ [] in
         let four = put-line n Ps Os G g qs h (member (c_type n V) no_member) 0 (behind n Ps Os 2) (more y end) (more a.0 end) d i rs a.0 (register-is n Ps Os G g qs h (more y end) f i rs 2 a.0 refl) (set-object n a.2) refl
         (yes-and (has n r) refl) (yes-and (has n a.2) refl) in
-        let five = answer-line n Ps Os G g qs h (event_of (behind n Ps Os 2)) (more a.0 end) f i rs (ap (pair-result n Ps Os G (Some (truth true))) (register-is n Ps Os G g qs h (more a.0 end) f i rs 2 a.0 refl)) (c_event a.2) in
+        let five = answer-line n Ps Os G g qs h (event_of (behind n Ps Os 2)) (more a.0 end) f i rs (event-is (more a.0 end) f i rs (behind n Ps Os 2) (register-is n Ps Os G g qs h (more a.0 end) f i rs 2 a.0 refl) a.2) (c_event a.2) in
         record {
           state = more a.0 end;
           answer_is = two (truth true) a.0;
@@ -404,7 +409,7 @@ module _ (n : Bounds) (Ps : List TypeTree) (Os : List Shape) (G : ℕ → Linked
         let f : Object = number i64 (pos d) in
         let lt : has_type (number_type i64) (number i64 (pos left)) ≡ true = left-range left l in
         let set = put-line n Ps Os G g qs h (after-type V) 0 (boolean true) o0 o1 d i (z ∷ []) (truth true) refl refl refl (after-has V false (number i64 (pos left)) y lt (has n r)) (after-has V true (number i64 (pos left)) y lt (has n r)) in
-        let out = answer-line n Ps Os G g qs h (event_of (kept_at 2)) o1 f i (z ∷ []) refl (c_event r) in
+        let out = answer-line n Ps Os G g qs h (event_of (kept_at 2)) o1 f i (z ∷ []) (event-is g qs h o1 f i (z ∷ []) (kept_at 2) refl r) (c_event r) in
         record {
           state = o1;
           answer_is = two (truth true) y;
@@ -542,7 +547,7 @@ module _ (n : Bounds) (Ps : List TypeTree) (Os : List Shape) (G : ℕ → Linked
         let lu : has_type (number_type i64) (number i64 (pos (suc p - (d - left) % suc p))) ≡ true = left-range (suc p - (d - left) % suc p) (omega arith) in
         let set = put-line n Ps Os G g qs h (left-type V) 0 (next-left (suc p)) o0 o1 d i (z ∷ []) (number i64 (pos (suc p - (d - left) % suc p))) (next-left-is p left d i z y (le-yes left d e) m s) refl refl
         (left-has V (number i64 (pos left)) y lt (has n r)) (left-has V (number i64 (pos (suc p - (d - left) % suc p))) y lu (has n r)) in
-        let out = answer-line n Ps Os G g qs h (event_of (kept_at 1)) o1 f i (z ∷ []) refl (c_event r) in
+        let out = answer-line n Ps Os G g qs h (event_of (kept_at 1)) o1 f i (z ∷ []) (event-is g qs h o1 f i (z ∷ []) (kept_at 1) refl r) (c_event r) in
         record {
           state = o1;
           answer_is = two (truth true) y;

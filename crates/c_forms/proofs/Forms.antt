@@ -1,21 +1,21 @@
 -- The C functions of forms do the forms' steps.
-use Rattle.std.proofs.Common.{◌≡◌, ℕ, true, List, [], ◌∷◌, Option, Some, refl, subst, sym, ap, ap₂, ◌∙◌, arith}
+use Rattle.std.proofs.Common.{◌≡◌, ℕ, true, List, [], ◌∷◌, Some, refl, subst, sym, ap, ◌∙◌, arith}
 use Rattle.sample_core.specs.Datum.{Datum, pair, left, right}
 use Rattle.sample_core.specs.TypeTree.{TypeTree, pair_ty}
 use Rattle.leaf_code.specs.Fitting.{Bounds}
 use Rattle.net_machine.specs.Store.{Moment, start, step, Store, one, other, fed_back, fed_value, looped}
 use Rattle.net_machine.specs.Stepper.{initial_out_step, initial_in_step}
 use Rattle.net_code.specs.Running.{first_or}
-use Rattle.c_meaning.specs.Object.{CType, Object, end, more, has_type}
+use Rattle.c_meaning.specs.Object.{CType, Object, has_type}
 use Rattle.c_meaning.specs.Syntax.{local, dot, choice}
-use Rattle.c_meaning.specs.Meaning.{Linked, bind, eval, basic_in, path, apart, function_run}
+use Rattle.c_meaning.specs.Meaning.{Linked, eval, basic_in, path, apart, function_run}
 use Rattle.c_meaning.proofs.Alike.{yes-and, alike}
 use Rattle.c_meaning.proofs.Choices.{choice-like}
 use Rattle.c_meaning.proofs.Runs.{then-run, assigns}
 use Rattle.c_leaf.specs.Representing.{two, two_types, c_type, Represents, c_pair}
 use Rattle.c_leaf.specs.LeafC.{pair_of}
 use Rattle.c_leaf.proofs.Values.{has}
-use Rattle.c_leaf.proofs.Same.{set-object, first-of, second-of}
+use Rattle.c_leaf.proofs.Same.{set-object, pair-is, first-of, second-of}
 use Rattle.c_leaf.proofs.Operations.{left-part, right-part}
 use Rattle.c_forms.specs.Keeping.{Shape, keeps_none, keeps_both, keeps_fed, shape_type, Keeps, nothing_kept, both_kept, fed_kept, KeepsAt, at_start, at_step, dt_of, dt_object, MomentFits}
 use Rattle.c_forms.specs.Standing.{is_first, behind}
@@ -125,10 +125,6 @@ module _ (n : Bounds) (Ps : List TypeTree) (Os : List Shape) (F : ℕ → Linked
         represents = v.represents;
       }
 
-  -- two results as a struct
-  abbrev pub pair-result : Option Object → Option Object → Option Object
-  pair-result A B = bind A (λ o. bind (bind B (λ p. bind (Some end) (λ os. Some (more p os)))) (λ os. Some (more o os)))
-
   pub first_law : FirstLaw n Ps Os F
   first_law S A B D j f hf g qs h m s x o i w kept r =
       let d : Object = dt_object m in
@@ -142,7 +138,7 @@ module _ (n : Bounds) (Ps : List TypeTree) (Os : List Shape) (F : ℕ → Linked
       a.at u.result (write-state n Ps Os F g qs h (shape_type n S) o u.state d i [] to tu) u.represents in
       let rs : List Object = u.answer ∷ [] in
       let two-line = define-line n Ps Os F g qs h (pair_ty B D) (pair_of (behind n Ps Os 0) (dot (local 2) 1)) u.state d i rs
-      (ap₂ pair-result (register-is n Ps Os F g qs h u.state d i rs 0 u.answer refl) b.at) y in
+      (pair-is (at n Ps Os F g qs h u.state d i rs) (behind n Ps Os 0) (dot (local 2) 1) (register-is n Ps Os F g qs h u.state d i rs 0 u.answer refl) b.at (set-object n u.represents) (set-object n b.represents)) y in
       let all : List Object = u.answer ∷ two u.answer b.object ∷ [] in
       let three-line = answer-line n Ps Os F g qs h (behind n Ps Os 1) u.state d i all (register-is n Ps Os F g qs h u.state d i all 1 (two u.answer b.object) refl) y in
       record {
@@ -233,7 +229,7 @@ module _ (n : Bounds) (Ps : List TypeTree) (Os : List Shape) (F : ℕ → Linked
       let r3 : List Object = a.0 ∷ y.0 ∷ two i y.0 ∷ [] in
       let r4 : List Object = a.0 ∷ y.0 ∷ two i y.0 ∷ u.answer ∷ [] in
       let two-line = define-line n Ps Os F g qs h V (choice is_first (behind n Ps Os 0) (dot (local 0) 0)) o0 d i r1 y.1 y.2 in
-      let three-line = define-line n Ps Os F g qs h (pair_ty A V) (pair_of (local 2) (behind n Ps Os 1)) o0 d i r2 (ap (pair-result (Some i)) (register-is n Ps Os F g qs h o0 d i r2 1 y.0 refl)) e in
+      let three-line = define-line n Ps Os F g qs h (pair_ty A V) (pair_of (local 2) (behind n Ps Os 1)) o0 d i r2 (pair-is (at n Ps Os F g qs h o0 d i r2) (local 2) (behind n Ps Os 1) refl (register-is n Ps Os F g qs h o0 d i r2 1 y.0 refl) (set-object n r) (set-object n y.2)) e in
       let four-line = part-line n Ps Os F g qs h (pair_ty B V) j (dot (local 0) 1) (behind n Ps Os 2) (dt_of m) o0 i r3 q.b (two i y.0) u.state o1 u.answer (part-within 1) (beside-member 1 2) refl
       (register-is n Ps Os F g qs h o0 d i r3 2 (two i y.0) refl) u.result (write-state n Ps Os F g qs h N o0 o1 d i r3 t0 t1) u.represents in
       let k = register-is n Ps Os F g qs h o1 d i r4 3 u.answer refl in

@@ -16,7 +16,7 @@ use Rattle.c_meaning.proofs.Runs.{Runs, then-run, ends, skips, assigns}
 use Rattle.c_leaf.specs.Representing.{two, two_types, c_type, Represents, c_pair, c_event, c_no_event}
 use Rattle.c_leaf.specs.LeafC.{pair_of}
 use Rattle.c_leaf.proofs.Values.{has, append-register}
-use Rattle.c_leaf.proofs.Same.{set-object, first-of, second-of}
+use Rattle.c_leaf.proofs.Same.{set-object, pair-is, first-of, second-of}
 use Rattle.c_forms.specs.Keeping.{Shape, keeps_none, keeps_cell, keeps_both, keeps_fed, keeps_mode, keeps_frozen, and_member, keeps_collection, shape_type, Keeps, both_kept, front_kept, taker_kept, frozen_kept, KeepsAt, at_start, at_step, dt_of, dt_object, MomentFits}
 use Rattle.c_forms.specs.Standing.{Frozen, none_frozen, one_frozen, InScope, Steps, Right, is_first, behind, part_call}
 use Rattle.c_forms.specs.Cells.{number_term, at_first}
@@ -25,7 +25,6 @@ use Rattle.c_forms.specs.Switches.{taken_of, by_of, leave_if, leave_unless}
 use Rattle.c_forms.specs.Freezing.{watched_of, watcher_of, when_of, frozen_of, resumer_of, frozen_whole, frozen_members, frozen_args, resumer_call, freezing_function, KSwitchLaw, PSwitchLaw}
 use Rattle.c_forms.proofs.Reading.{Reads, reads_none, reads_const, reads_value, reads-append, write-call, Within, away-from, longer, params-read, olds-read}
 use Rattle.c_forms.proofs.Lines.{keeps-type, at-type, dt-range, not-first, halves, front-of, at, register-is, define-line, answer-line, write-state, part-line, yes-line, no-line, whole-function}
-use Rattle.c_forms.proofs.Forms.{pair-result}
 use Rattle.c_forms.proofs.Members.{stack, stack-part, stack-append, split-member}
 
 -- what is kept is a struct, and so is set
@@ -243,7 +242,7 @@ module _ (n : Bounds) (Ps : List TypeTree) (Os : List Shape) (F : ℕ → Linked
       let four = part-line n Ps Os F g qs h B j watched_of (local 2) (dt_of m) o2 i [] a i y.state o3 y.answer (record { ks = 2 ∷ 0 ∷ []; is = refl }) refl refl refl y.result
       (write-state n Ps Os F g qs h (shape_type n keeps-all) o2 o3 d i [] t2 t3) y.represents in
       let r1 : List Object = y.answer ∷ [] in
-      let five = define-line n Ps Os F g qs h (pair_ty A B) (pair_of (local 2) (reg 0)) o3 d i r1 (ap (pair-result n Ps Os F (Some i)) (register-is n Ps Os F g qs h o3 d i r1 0 y.answer refl)) rp in
+      let five = define-line n Ps Os F g qs h (pair_ty A B) (pair_of (local 2) (reg 0)) o3 d i r1 (pair-is (at n Ps Os F g qs h o3 d i r1) (local 2) (reg 0) refl (register-is n Ps Os F g qs h o3 d i r1 0 y.answer refl) (set-object n rx) (set-object n y.represents)) rp in
       let r2 : List Object = y.answer ∷ two i y.answer ∷ [] in
       let six = part-line n Ps Os F g qs h (event_ty V) e watcher_of (reg 1) (dt_of m) o3 i r2 u (two i y.answer) z.state o4 z.answer (record { ks = 2 ∷ 1 ∷ []; is = refl })
       (away-from watcher_of (record { ks = 2 ∷ 1 ∷ []; is = refl }) (3 + (length Ps + 2 * length Os) + 1) (omega arith)) refl (register-is n Ps Os F g qs h o3 d i r2 1 (two i y.answer) refl) z.result

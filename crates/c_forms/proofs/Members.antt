@@ -10,20 +10,21 @@ use Rattle.net_machine.specs.Stepper.{Stepper, each_step}
 use Rattle.net_code.specs.Running.{Given}
 use Rattle.c_meaning.specs.Object.{CType, u32, Object, number, more, has_type, each_has, in_range, zeros, repeated, part_of, with_part, in_front}
 use Rattle.c_meaning.specs.Syntax.{local, literal, Command, sequence}
-use Rattle.c_meaning.specs.Meaning.{Frame, Linked, bind, eval, write, referred, none_shared, written}
+use Rattle.c_meaning.specs.Meaning.{Frame, Linked, bind, eval, is_set, write, referred, none_shared, written}
 use Rattle.c_meaning.proofs.Wrapping.{check-yes}
 use Rattle.c_meaning.proofs.Alike.{yes-and}
 use Rattle.c_meaning.proofs.Runs.{Runs, then-run}
 use Rattle.c_leaf.specs.Representing.{two, c_type, Represents, c_list, AllRepresent, c_end, c_more}
 use Rattle.c_leaf.specs.LeafC.{pair_of}
 use Rattle.c_leaf.proofs.Values.{has, zeros-represent, repeated-has}
+use Rattle.c_leaf.proofs.Same.{set-object, elements-set, pair-is}
 use Rattle.c_forms.specs.Keeping.{Shape, keeps_none, and_member, shape_type, Keeps, nothing_kept, member_kept, KeepsAt, at_start, at_step, dt_of, dt_object, MomentFits}
 use Rattle.c_forms.specs.Standing.{InScope, behind, part_call}
 use Rattle.c_forms.specs.Cells.{kept_at}
 use Rattle.c_forms.specs.Members.{members_shape, MembersRight, no_members, one_member, member_calls, answers_term, list_lines, ParLaw}
 use Rattle.c_forms.proofs.Reading.{local-at, longer}
 use Rattle.c_forms.proofs.Lines.{keeps-type, at-type, front-of, nothing-there, at, register-is, define-line, answer-line, write-state, part-line, whole-function}
-use Rattle.c_forms.proofs.Forms.{part-within, pair-result}
+use Rattle.c_forms.proofs.Forms.{part-within}
 
 -- objects in front of others
 abbrev pub stack : List Object → Object → Object
@@ -141,7 +142,7 @@ module _ (n : Bounds) (Ps : List TypeTree) (Os : List Shape) (F : ℕ → Linked
       let same : (front ++ y ∷ []) ++ os ≡ front ++ (y ∷ os) = append_assoc front (y ∷ []) os in
       record {
         object = more y z.object;
-        is = ap₂ in-front-results (register-is n Ps Os F g qs h o d i (front ++ (y ∷ os)) c y (ap (slice_get (front ++ (y ∷ os))) ec ∙ local-at front os y))
+        is = ap₂ in-front-results (ap (λ E. bind E is_set) (register-is n Ps Os F g qs h o d i (front ++ (y ∷ os)) c y (ap (slice_get (front ++ (y ∷ os))) ec ∙ local-at front os y)) ∙ set-object n r)
             (subst (λ us. eval (spot o d i us) (answers_term n Ps Os B (suc c) m l) ≡ Some z.object) same z.is);
         represents = c_more r z.represents;
       }
@@ -166,7 +167,8 @@ module _ (n : Bounds) (Ps : List TypeTree) (Os : List Shape) (F : ℕ → Linked
       let y : Object = two (number u32 (pos (length js))) z.object in
       let ry : Represents n (list_ty B) (list (list_of (each_step (map (λ f. f g) fs) s (m, x)).1)) y = c_list (sym (ap length (elements_of_list (each_step (map (λ f. f g) fs) s (m, x)).1) ∙ lv)) (omega arith) z.represents in
       let def = define-line n Ps Os F g qs h (list_ty B) (pair_of (literal u32 (pos (length js))) (answers_term n Ps Os B 0 (length js) (n B - length js))) e.state d i e.answers
-      (ap₂ (pair-result n Ps Os F) (check-yes u32 (pos (length js)) (count-range (length js) (omega arith))) z.is) ry in
+      (pair-is (at n Ps Os F g qs h e.state d i e.answers) (literal u32 (pos (length js))) (answers_term n Ps Os B 0 (length js) (n B - length js))
+      (check-yes u32 (pos (length js)) (count-range (length js) (omega arith))) z.is refl (elements-set n z.represents)) ry in
       let back = answer-line n Ps Os F g qs h (behind n Ps Os (length js)) e.state d i (e.answers ++ y ∷ [])
       (register-is n Ps Os F g qs h e.state d i (e.answers ++ y ∷ []) (length js) y (ap (slice_get (e.answers ++ y ∷ [])) (sym lo) ∙ local-at e.answers [] y)) ry in
       record {

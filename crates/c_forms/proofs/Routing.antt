@@ -1,5 +1,5 @@
 -- The C functions of a `pSwitch`'s members do their steps.
-use Rattle.std.proofs.Common.{◌≡◌, ◌<◌, ◌^◌, ℕ, suc, pos, List, [], ◌∷◌, map, Some, FitsSigned, w64, refl, subst, ap, arith}
+use Rattle.std.proofs.Common.{◌≡◌, ◌<◌, ◌^◌, ℕ, suc, pos, List, [], ◌∷◌, map, FitsSigned, w64, refl, subst, ap, arith}
 use Rattle.sample_core.specs.Datum.{Datum, pair, int}
 use Rattle.sample_core.specs.TypeTree.{TypeTree, int_ty, pair_ty, list_ty}
 use Rattle.leaf_code.specs.Fitting.{Bounds}
@@ -12,13 +12,14 @@ use Rattle.c_meaning.proofs.Wrapping.{check-yes, small-signed}
 use Rattle.c_meaning.proofs.Runs.{then-run}
 use Rattle.c_leaf.specs.Representing.{two, Represents, c_int, c_pair}
 use Rattle.c_leaf.specs.LeafC.{pair_of}
+use Rattle.c_leaf.proofs.Same.{set-object, pair-is}
 use Rattle.c_forms.specs.Keeping.{Shape, shape_type, dt_of, dt_object}
 use Rattle.c_forms.specs.Standing.{Steps, behind}
 use Rattle.c_forms.specs.Cells.{number_term}
 use Rattle.c_forms.specs.Members.{members_shape, par_function}
 use Rattle.c_forms.specs.Routing.{routed_steps, RoutedLaw, RoutedParLaw}
-use Rattle.c_forms.proofs.Lines.{keeps-type, at-type, register-is, define-line, leaf-line, part-line, answer-line, write-state, whole-function}
-use Rattle.c_forms.proofs.Forms.{beside-whole, pair-result}
+use Rattle.c_forms.proofs.Lines.{keeps-type, at-type, at, register-is, define-line, leaf-line, part-line, answer-line, write-state, whole-function}
+use Rattle.c_forms.proofs.Forms.{beside-whole}
 use Rattle.c_forms.proofs.Members.{par_law}
 
 small-fits : (i : ℕ) → i < 2 ^ 63 → FitsSigned w64 (pos i)
@@ -35,7 +36,7 @@ module _ (n : Bounds) (Ps : List TypeTree) (Os : List Shape) (F : ℕ → Linked
       let z : Object = two i (number i64 (pos c)) in
       let rz : Represents n (pair_ty A int_ty) (pair x (int (pos c))) z = c_pair rx (c_int (small-fits c small)) in
       let one-line = define-line n Ps Os F g qs h (pair_ty A int_ty) (pair_of (local 2) (number_term c)) o d i []
-      (ap (pair-result n Ps Os F (Some i)) (check-yes i64 (pos c) (small-signed c small))) rz in
+      (pair-is (at n Ps Os F g qs h o d i []) (local 2) (number_term c) refl (check-yes i64 (pos c) (small-signed c small)) (set-object n rx) refl) rz in
       let y = leaf-line n Ps Os F g qs h (pair_ty A int_ty) D r v (behind n Ps Os 0) o d i (z ∷ []) hr (beside-whole n Ps Os F 0) (register-is n Ps Os F g qs h o d i (z ∷ []) 0 z refl) rz in
       let u = hf g qs h m s (v g.params (pair x (int (pos c)))) o y.0 w kept y.2 in
       let r2 : List Object = z ∷ y.0 ∷ [] in

@@ -15,9 +15,9 @@ use Rattle.leaf_code.specs.Running.{zero_of, is_event, carried_or, register, ope
 use Rattle.leaf_code.specs.Fitting.{Bounds}
 use Rattle.c_meaning.specs.Object.{CType, u8, i64, u64, u32, Object, truth, number, has_type, each_has, zeros, repeated, part_of, part_at, array}
 use Rattle.c_meaning.specs.Object as C
-use Rattle.c_meaning.specs.Syntax.{plus, minus, times, less, at_most, Term, local, dot, literal, zeroed, binary, inverse, both, either, cast, define, refer}
+use Rattle.c_meaning.specs.Syntax.{plus, minus, times, less, at_most, Term, local, dot, boolean, literal, zeroed, binary, inverse, both, either, cast, define, refer}
 use Rattle.c_meaning.specs.Syntax as S
-use Rattle.c_meaning.specs.Meaning.{Linked, Frame, eval, bind, pushed, operate, converted, inverted, both_of, choice_of, basic_in, one_type}
+use Rattle.c_meaning.specs.Meaning.{Linked, Frame, eval, bind, is_set, pushed, operate, converted, inverted, both_of, choice_of, basic_in, one_type}
 use Rattle.c_meaning.specs.Wrapping.{modular, negated, Gives}
 use Rattle.c_meaning.proofs.Wrapping.{wrapping_law, fits-range, check-yes, small-signed}
 use Rattle.c_meaning.proofs.Alike.{alike}
@@ -26,7 +26,7 @@ use Rattle.c_leaf.specs.Representing.{two, c_type, Represents, c_unit, c_bool, c
 use Rattle.c_leaf.specs.LeafC.{is_struct, same_command, elements_term, part_command, step_command}
 use Rattle.c_leaf.specs.LeafCLaw.{IsCompared}
 use Rattle.c_leaf.proofs.Typed.{AllOf, none_of, one_of, OperationTyped, param_op, unit_op, bool_op, int_op, pair_op, left_op, right_op, neg_op, add_op, sub_op, mul_op, less_op, equal_op, not_op, and_op, or_op, choose_op, no_event_op, event_op, is_event_op, carried_op, list_op, nth_op, len_op}
-use Rattle.c_leaf.proofs.Same.{Computed, Line, set-object, both-truths, either-truths, both-results, either-results, first-of, second-of, same-line}
+use Rattle.c_leaf.proofs.Same.{Computed, Line, set-object, elements-set, pair-is, both-truths, either-truths, both-results, either-results, first-of, second-of, same-line}
 use Rattle.c_leaf.proofs.Values.{has, all-have, zeros-represent, find, repeated-has}
 use Rattle.c_meaning.proofs.Runs.{Runs, defines, get-behind, get-before}
 
@@ -136,9 +136,6 @@ len-object n (c_list {vs = vs} {k = c} e l h) =
     count-fits : (c : ℕ) → c < 2 ^ 32 → FitsSigned w64 (pos c)
     count-fits c l = grind (arith, ints)
 
-abbrev two-results : Option Object → Option Object → Option Object
-two-results A B = bind A (λ o. bind (bind B (λ p. bind (Some C.end) (λ os. Some (C.more p os)))) (λ os. Some (C.more o os)))
-
 abbrev less-numbers : Option Object → Option Object → Option Object
 less-numbers A B = bind A (λ v. bind B (λ w. operate less i64 v w))
 
@@ -219,7 +216,7 @@ module _ (n : TypeTree → ℕ) (F : ℕ → Linked) (h : TypeTree → ℕ) (t :
       let i = elements-object A l m ds (omega arith) in
       record {
         object = C.more r.object i.object;
-        at = ap₂ in-front r.at i.at;
+        at = ap₂ in-front (ap (λ E. bind E is_set) r.at ∙ set-object n r.represents) i.at;
         represents = c_more r.represents i.represents;
       }
 
@@ -251,7 +248,7 @@ module _ (n : TypeTree → ℕ) (F : ℕ → Linked) (h : TypeTree → ℕ) (t :
       line T (
       let a = operand j d in
       let b = operand k e in
-      record { object = two a.object b.object; at = ap₂ two-results a.at b.at; represents = c_pair a.represents b.represents })
+      record { object = two a.object b.object; at = pair-is frame (reg j) (reg k) a.at b.at (set-object n a.represents) (set-object n b.represents); represents = c_pair a.represents b.represents })
   operation o T (left_op {j = j} d) =
       part-line T (
       let a = operand j d in
@@ -290,7 +287,7 @@ module _ (n : TypeTree → ℕ) (F : ℕ → Linked) (h : TypeTree → ℕ) (t :
   operation o T (event_op {j = j} d) =
       line T (
       let a = operand j d in
-      record { object = two (truth true) a.object; at = ap (two-results (Some (truth true))) a.at; represents = c_event a.represents })
+      record { object = two (truth true) a.object; at = pair-is frame (boolean true) (reg j) refl a.at refl (set-object n a.represents); represents = c_event a.represents })
   operation o T (is_event_op {j = j} d) =
       line T (
       let a = operand j d in
@@ -312,7 +309,8 @@ module _ (n : TypeTree → ℕ) (F : ℕ → Linked) (h : TypeTree → ℕ) (t :
       let r = elements-object A (n A - length js) (n A) d (omega arith) in
       record {
         object = two (number u32 (pos (length js))) r.object;
-        at = ap₂ two-results (check-yes u32 (pos (length js)) (small-count (length js) b)) r.at;
+        at = pair-is frame (literal u32 (pos (length js))) (elements_term n h (length qs) t (c_type n A) js (n A - length js))
+            (check-yes u32 (pos (length js)) (small-count (length js) b)) r.at refl (elements-set n r.represents);
         represents = c_list (sym (ap length (elements_of_list (map (register rs) js)) ∙ length-map js (register rs))) b r.represents;
       })
   operation o T (nth_op {j = j} {k = k} {d = d} a b c) =

@@ -7,12 +7,14 @@ use Rattle.sample_core.specs.Datum.{Datum, Datums, bool, end, more, elements}
 use Rattle.sample_core.specs.TypeTree.{TypeTree, unit_ty, bool_ty, int_ty, pair_ty, event_ty, list_ty}
 use Rattle.leaf_core.specs.ExpressionValue.{same_datum, same_datums}
 use Rattle.leaf_code.specs.Fitting.{Bounds}
-use Rattle.c_meaning.specs.Object.{truth_type, i64, u32, Object, truth, number, in_range, part_of}
+use Rattle.c_meaning.specs.Object.{truth_type, i64, u32, Object, unset, truth, number, has_type, each_has, in_range, part_of}
+use Rattle.c_meaning.specs.Object as C
 use Rattle.c_meaning.specs.Syntax.{equals, less, Term, local, dot, at, boolean, binary, inverse, both, by_const, Command, skip, sequence, define, call, loop, answer}
 use Rattle.c_meaning.specs.Meaning.{Frame, Linked, Outcome, bind, eval, value, referred, none_shared, steady, operate, inverted, both_of, either_of, choice_of, is_set, go_on, leave, by_truth, looped, is_none_of, written, run}
+use Rattle.c_meaning.proofs.Alike.{no}
 use Rattle.c_meaning.proofs.Runs.{Runs, then-run, ends, skips, defines, gives-back, chooses-first, chooses-second, calls, function-runs}
-use Rattle.c_leaf.specs.Representing.{two, Represents, c_unit, c_bool, c_int, c_pair, c_no_event, c_event, c_list, AllRepresent, c_end, c_more}
-use Rattle.c_leaf.specs.LeafC.{has_no_list, same_term, same_command, stop_unless, same_body, same_function}
+use Rattle.c_leaf.specs.Representing.{two, c_type, Represents, c_unit, c_bool, c_int, c_pair, c_no_event, c_event, c_list, AllRepresent, c_end, c_more}
+use Rattle.c_leaf.specs.LeafC.{pair_of, has_no_list, same_term, same_command, stop_unless, same_body, same_function}
 use Rattle.c_leaf.specs.LeafCLaw.{FewElements, IsCompared, PartsCompared, SameLaw}
 use Rattle.c_leaf.proofs.Values.{has}
 
@@ -36,6 +38,26 @@ set-object n (c_pair h k) = refl
 set-object n (c_no_event e) = refl
 set-object n (c_event h) = refl
 set-object n (c_list e l h) = refl
+
+-- an array is set
+pub elements-set : (n : Bounds) {A : TypeTree} {m : ℕ} {vs : Datums} {o : Object} → AllRepresent n A m vs o → is_set o ≡ Some o
+elements-set n (c_more h k) = refl
+elements-set n (c_end {A = A} {m = m} {o = o} e) = array-set (has_type (c_type n A)) m o e
+  where
+    array-set : (f : Object → Bool) (m : ℕ) (o : Object) → each_has f m o ≡ true → is_set o ≡ Some o
+    array-set f m (truth b) e = refl
+    array-set f m (number S z) e = refl
+    array-set f m C.end e = refl
+    array-set f m (C.more o os) e = refl
+    array-set f zero unset e = no e
+    array-set f (suc m) unset e = no e
+
+-- a struct of two values
+abbrev pair-result : Option Object → Option Object → Option Object
+pair-result A B = bind A (λ o. bind (bind B (λ p. bind (Some C.end) (λ os. Some (C.more p os)))) (λ os. Some (C.more o os)))
+
+pub pair-is : (f : Frame) (a b : Term) {o p : Object} → eval f a ≡ Some o → eval f b ≡ Some p → is_set o ≡ Some o → is_set p ≡ Some p → eval f (pair_of a b) ≡ Some (two o p)
+pair-is f a b ha hb so sp = ap₂ pair-result (ap (λ E. bind E is_set) ha ∙ so) (ap (λ E. bind E is_set) hb ∙ sp)
 
 pub both-truths : (a b : Bool) → both_of (truth a) (Some (truth b)) ≡ Some (truth (a && b))
 both-truths true b = refl

@@ -141,7 +141,8 @@ basic_of f (choice c a b) = first_known (basic_of f a) (basic_of f b)
 basic_of f (cast T e) = Some (number_type T)
 basic_of f e = basic_in (like_place f e)
 
--- what an expression designates or computes
+-- what an expression designates or computes. A scalar that is read must be set, also where it becomes a
+-- part of a struct; one that is pointed to needn't be
 abbrev pub eval : Frame → Term → Option Object
 eval f (local k) = slice_get f k
 eval f (dot e k) = bind (eval f e) (λ o. part_of o k)
@@ -150,7 +151,8 @@ eval f (boolean b) = Some (truth b)
 eval f (literal T z) = literal_of T z
 eval f (zeroed T) = Some (zeros T)
 eval f none = Some end
-eval f (braced e es) = bind (eval f e) (λ o. bind (eval f es) (λ os. Some (more o os)))
+eval f (braced e es) =
+    bind (bind (eval f e) is_set) (λ o. bind (eval f es) (λ os. Some (more o os)))
 eval f (binary o T a b) = bind (eval f a) (λ v. bind (eval f b) (λ w. operate o T v w))
 eval f (inverse e) = bind (eval f e) inverted
 eval f (both a b) = bind (eval f a) (λ v. both_of v (eval f b))
