@@ -11,3 +11,6 @@ pub mod Frames
 pub mod Making
 pub mod Frozen
 pub mod Testing
+pub mod Growing
+pub mod Building
+pub mod Functions

@@ -1,5 +1,5 @@
 -- Tables of structs, each over earlier ones.
-use Rattle.std.specs.Prelude.{ℕ, suc, Bool, true, ◌&&◌, ltb, List, [], ◌∷◌}
+use Rattle.std.specs.Prelude.{◌≡◌, ◌<◌, ℕ, suc, Bool, true, ◌&&◌, ltb, List, [], ◌∷◌, length, get_or}
 use Rattle.c_text.specs.declared.tree.Base.{Base}
 use Rattle.c_text.specs.declared.tree.Base.TheVariants as B
 use Rattle.c_text.specs.declared.tree.CType.{CType}
@@ -24,3 +24,10 @@ all_below k (A ∷ As) = type_below k A && all_below k As
 abbrev pub closed_from : ℕ → List Struct → Bool
 closed_from k [] = true
 closed_from k (s ∷ ss) = all_below k s.members.items && closed_from (suc k) ss
+
+-- struct k has these members
+pub record IsAt (ss : List Struct) (As : List CType) (k : ℕ) : Type 0 where
+  pub struct : Struct
+  pub within : k < length ss
+  pub there : struct ≡ get_or ss k struct
+  pub members : struct.members.items ≡ As

@@ -110,7 +110,7 @@ fn add_operation(
 }
 
 /// Adds a type with lists behind its parts, each where it isn't there.
-fn add_type(alloc: Global, ty: &Ty, all: &mut Vec<Ty>) -> Result<(), Memory>
+pub(crate) fn add_type(alloc: Global, ty: &Ty, all: &mut Vec<Ty>) -> Result<(), Memory>
     ensures { IfOk result (λ _. map type_of all.new.items
         ≡ with_type (type_of ty.now) (map type_of all.old.items)) }
 {

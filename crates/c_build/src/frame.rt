@@ -48,7 +48,7 @@ pub(crate) fn kepts_of(
 
 /// What the file has of function k.
 #[tactic(auto, using(crate::proofs::Callees::callee_found))]
-fn found(callees: &[Called], k: usize) -> Result<Called, Unbuilt>
+pub(crate) fn found(callees: &[Called], k: usize) -> Result<Called, Unbuilt>
     ensures { IfOk result (λ r. (Ts : List ObjectType) (n : Bounds) (cs : List Callee) → AreCallees Ts n cs callees.now
         → IsCallee Ts n (callee_at cs k) r) }
 {

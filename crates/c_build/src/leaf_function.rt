@@ -181,7 +181,7 @@ pub(crate) fn function_of_leaf(
 }
 
 /// Adds parameters by pointer.
-fn push_consts(params: &mut Vec<Param>, types: &[CType]) -> Result<(), Unbuilt>
+pub(crate) fn push_consts(params: &mut Vec<Param>, types: &[CType]) -> Result<(), Unbuilt>
     ensures { IfOk result (λ _. params.new.items ≡ params.old.items ++ const_rows types.now) }
 {
     for ty in types {

@@ -11,12 +11,12 @@ ghost use Rattle.c_forms.specs.Members.{members_shape};
 
 use crate::table::{COUNT, INTEGER, NATURAL, TRUTH, Table, array_of};
 use crate::unbuilt::Unbuilt;
-use c_text::CType;
+use c_text::{CType, Kind};
 use cell_core::Form;
 use std::alloc::Global;
 
 /// How many members of a collection may run at once.
-const MOST_MEMBERS: usize = 64;
+pub(crate) const MOST_MEMBERS: usize = 64;
 
 impl Table<'_> {
     /// What keeps nothing.
@@ -24,7 +24,7 @@ impl Table<'_> {
         ensures { IfOk result (λ T. (n : Bounds)
             → type_meant (structs_meant self.entry.structs.now) T ≡ shape_type n keeps_none) }
     {
-        self.struct_of(&[])
+        self.struct_of(Kind::Kept, &[])
     }
 
     /// A cell that keeps values of a type.
@@ -34,12 +34,12 @@ impl Table<'_> {
             → type_meant (structs_meant self.entry.structs.now) T ≡ shape_type n (keeps_cell form V)) }
     {
         match form {
-            Form::After(_) => self.struct_of(&[TRUTH, INTEGER, value]),
-            Form::Repeatedly(_) => self.struct_of(&[INTEGER, value]),
-            Form::Time => self.struct_of(&[INTEGER]),
-            Form::Integral => self.struct_of(&[INTEGER, INTEGER]),
+            Form::After(_) => self.struct_of(Kind::Kept, &[TRUTH, INTEGER, value]),
+            Form::Repeatedly(_) => self.struct_of(Kind::Kept, &[INTEGER, value]),
+            Form::Time => self.struct_of(Kind::Kept, &[INTEGER]),
+            Form::Integral => self.struct_of(Kind::Kept, &[INTEGER, INTEGER]),
             Form::Delay(q) => self.keeps_ring(q, value),
-            Form::IPre | Form::Hold | Form::AccumBy => self.struct_of(&[value]),
+            Form::IPre | Form::Hold | Form::AccumBy => self.struct_of(Kind::Kept, &[value]),
         }
     }
 
@@ -51,7 +51,7 @@ impl Table<'_> {
     {
         let times = array_of(q as usize, NATURAL)?;
         let values = array_of(q as usize, value)?;
-        self.struct_of(&[NATURAL, value, COUNT, COUNT, times, values])
+        self.struct_of(Kind::Kept, &[NATURAL, value, COUNT, COUNT, times, values])
     }
 
     /// What two functions keep.
@@ -61,7 +61,7 @@ impl Table<'_> {
             → type_meant (structs_meant self.entry.structs.now) other ≡ shape_type n U
             → type_meant (structs_meant self.entry.structs.now) T ≡ shape_type n (keeps_both S U)) }
     {
-        self.pair(one, other)
+        self.struct_of(Kind::Kept, &[one, other])
     }
 
     /// What is fed back, and what a function keeps.
@@ -71,7 +71,7 @@ impl Table<'_> {
             → type_meant (structs_meant self.entry.structs.now) all ≡ shape_type n S
             → type_meant (structs_meant self.entry.structs.now) T ≡ shape_type n (keeps_fed V S)) }
     {
-        self.pair(value, all)
+        self.struct_of(Kind::Kept, &[value, all])
     }
 
     /// A switch: the value that takes over, what runs first, and what takes over.
@@ -87,7 +87,7 @@ impl Table<'_> {
             → type_meant (structs_meant self.entry.structs.now) taker ≡ shape_type n U
             → type_meant (structs_meant self.entry.structs.now) T ≡ shape_type n (keeps_mode V S U)) }
     {
-        self.struct_of(&[TRUTH, value, front, taker])
+        self.struct_of(Kind::Kept, &[TRUTH, value, front, taker])
     }
 
     /// What is frozen, and what resumes it.
@@ -97,7 +97,7 @@ impl Table<'_> {
             → type_meant (structs_meant self.entry.structs.now) resumer ≡ shape_type n U
             → type_meant (structs_meant self.entry.structs.now) T ≡ shape_type n (keeps_frozen S U)) }
     {
-        self.struct_of(&[INTEGER, frozen, resumer])
+        self.struct_of(Kind::Kept, &[INTEGER, frozen, resumer])
     }
 
     /// What members keep.
@@ -107,7 +107,7 @@ impl Table<'_> {
             → map (type_meant (structs_meant self.entry.structs.now)) members.now ≡ map (shape_type n) Ss
             → type_meant (structs_meant self.entry.structs.now) T ≡ shape_type n (members_shape Ss)) }
     {
-        self.struct_of(members)
+        self.struct_of(Kind::Kept, members)
     }
 
     /// A collection: the value that starts a member, what the written members keep, and what one keeps that
@@ -130,9 +130,9 @@ impl Table<'_> {
         let mut all = Vec::new(alloc);
         all.extend_from_slice(&[COUNT, value, started])?;
         all.extend_from_slice(members)?;
-        let entry = self.struct_of(all.as_slice())?;
+        let entry = self.struct_of(Kind::Kept, all.as_slice())?;
         let side = array_of(MOST_MEMBERS, entry)?;
         let sides = array_of(2, side)?;
-        self.struct_of(&[COUNT, COUNT, sides])
+        self.struct_of(Kind::Kept, &[COUNT, COUNT, sides])
     }
 }

@@ -1,13 +1,14 @@
 // Structs by their members.
 
-ghost use Rattle.std.specs.Prelude.{◌≡◌, List, true, IfOk};
+ghost use Rattle.std.specs.Prelude.{◌≡◌, List, true, IfOk, MatchOption};
 ghost use Rattle.c_meaning.specs.Object.{CType as ObjectType, array, truth_type, number_type, u32};
 ghost use Rattle.c_leaf.specs.Representing.{two_types};
 ghost use Rattle.c_text.specs.Meant.{type_meant, members_meant, structs_meant};
-ghost use Rattle.c_build.specs.Tables.{is_below, type_below, all_below, closed_from};
+ghost use Rattle.c_build.specs.Tables.{IsAt, is_below, type_below, all_below, closed_from};
 
+use crate::index::Index;
 use crate::unbuilt::Unbuilt;
-use c_text::{Base, CType, Scalar, Struct};
+use c_text::{Base, CType, Kind, Scalar, Struct};
 
 /// `bool`.
 pub(crate) const TRUTH: CType = CType::One(Base::Bool);
@@ -20,16 +21,17 @@ pub(crate) const NATURAL: CType = CType::One(Base::Number(Scalar::Uint64));
 /// `uint32_t`.
 pub(crate) const COUNT: CType = CType::One(Base::Number(Scalar::Uint32));
 
-/// Structs, each over earlier ones.
+/// Structs, each over earlier ones, and where they stand.
 #[derive(Clone, Copy)]
 pub struct Table<'a> {
     pub structs: &'a [Struct],
+    pub index: &'a Index,
     ghost closed: { closed_from 0 structs.now ≡ true },
 }
 
 impl<'a> Table<'a> {
     /// These structs. `Missing` where one isn't over earlier ones.
-    pub(crate) fn new(structs: &'a [Struct]) -> Result<Table<'a>, Unbuilt>
+    pub(crate) fn new(structs: &'a [Struct], index: &'a Index) -> Result<Table<'a>, Unbuilt>
         ensures { IfOk result (λ t. t.structs.now ≡ structs.now) }
     {
         for (k, each) in structs.iter().enumerate() {
@@ -37,30 +39,28 @@ impl<'a> Table<'a> {
                 return Err(Unbuilt::Missing);
             }
         }
-        Ok(Table { structs })
+        Ok(Table { structs, index })
     }
 
-    /// The struct with these members. `Missing` where there is none.
-    #[tactic(auto, using(crate::proofs::Tables::struct_found))]
-    pub(crate) fn struct_of(self, members: &[CType]) -> Result<CType, Unbuilt>
+    /// The struct of a kind with these members. `Missing` where there is none.
+    #[tactic(auto, using(crate::proofs::Tables::struct_is))]
+    pub(crate) fn struct_of(self, kind: Kind, members: &[CType]) -> Result<CType, Unbuilt>
         ensures { IfOk result (λ T. type_meant (structs_meant self.entry.structs.now) T
             ≡ members_meant (structs_meant self.entry.structs.now) members.now) }
     {
-        for (k, each) in self.structs.iter().enumerate() {
-            if same_types(each.members.as_slice(), members) {
-                return Ok(CType::One(Base::Struct(k)));
-            }
+        match struct_at(self.structs, self.index, kind, members) {
+            Some(k) => Ok(CType::One(Base::Struct(k))),
+            None => Err(Unbuilt::Missing),
         }
-        Err(Unbuilt::Missing)
     }
 
-    /// The struct of two members.
+    /// The struct of pairs.
     pub(crate) fn pair(self, a: CType, b: CType) -> Result<CType, Unbuilt>
         ensures { IfOk result (λ T. type_meant (structs_meant self.entry.structs.now) T
             ≡ two_types (type_meant (structs_meant self.entry.structs.now) a)
             (type_meant (structs_meant self.entry.structs.now) b)) }
     {
-        self.struct_of(&[a, b])
+        self.struct_of(Kind::Pair, &[a, b])
     }
 
     /// The struct of events.
@@ -68,7 +68,7 @@ impl<'a> Table<'a> {
         ensures { IfOk result (λ T. type_meant (structs_meant self.entry.structs.now) T
             ≡ two_types truth_type (type_meant (structs_meant self.entry.structs.now) a)) }
     {
-        self.struct_of(&[TRUTH, a])
+        self.struct_of(Kind::Event, &[TRUTH, a])
     }
 
     /// The struct of lists of so many.
@@ -76,8 +76,30 @@ impl<'a> Table<'a> {
         ensures { IfOk result (λ T. type_meant (structs_meant self.entry.structs.now) T
             ≡ two_types (number_type u32) (array count (type_meant (structs_meant self.entry.structs.now) a))) }
     {
-        self.struct_of(&[COUNT, array_of(count, a)?])
+        self.struct_of(Kind::List, &[COUNT, array_of(count, a)?])
     }
+}
+
+/// The number of the struct of a kind with these members, if there is one.
+pub(crate) fn struct_at(
+    structs: &[Struct],
+    index: &Index,
+    kind: Kind,
+    members: &[CType],
+) -> Option<usize>
+    ensures { MatchOption result (Unit {0}) (λ k. IsAt structs.now members.now k) }
+{
+    let mut k = index.first(kind, members);
+    for _ in 0..structs.len() {
+        let Some(each) = structs.get(k) else {
+            return None;
+        };
+        if each.kind == kind && same_types(each.members.as_slice(), members) {
+            return Some(k);
+        }
+        k = index.next(k);
+    }
+    None
 }
 
 /// Arrays of so many of a type. `Missing` of arrays of arrays.

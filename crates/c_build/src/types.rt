@@ -1,6 +1,6 @@
 // The types of a program as types of C.
 
-ghost use Rattle.std.specs.Prelude.{◌≡◌, ℕ, IfOk, map, Some, slice_get};
+ghost use Rattle.std.specs.Prelude.{◌≡◌, ℕ, IfOk, length, map, Some, slice_get};
 ghost use Rattle.sample_core.specs.TypeView.{type_of};
 ghost use Rattle.sample_core.specs.TypeTree.{list_ty};
 ghost use Rattle.leaf_core.specs.TypeLimits.{same_tree};
@@ -155,6 +155,34 @@ impl Known<'_> {
             _ => Err(Unbuilt::Missing),
         }
     }
+}
+
+/// The types of C of the types of a program, one by one. `Missing` where a type isn't over earlier ones.
+pub(crate) fn known_of<'a>(
+    alloc: Global,
+    table: Table<'a>,
+    types: &'a Types,
+    bounds: &'a [usize],
+) -> Result<Vec<CType>, Unbuilt>
+    requires { TableHolds types.now }
+    ensures known { IfOk result (λ all. Typed (structs_meant table.entry.structs.now) types.now bounds.now all.items) }
+    ensures all { IfOk result (λ all. length all.items ≡ length types.now.trees.items) }
+{
+    let mut all = Vec::with_capacity(alloc, types.entries.len())?;
+    for entry in &types.entries {
+        let known = Known {
+            table,
+            types,
+            bounds,
+            all: all.as_slice(),
+        };
+        let ty = known.entry(*entry)?;
+        all.push(ty)?;
+    }
+    if all.len() != types.trees.len() {
+        return Err(Unbuilt::Missing);
+    }
+    Ok(all)
 }
 
 /// Whether a type is that of lists of another.
