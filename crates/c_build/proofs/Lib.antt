@@ -11,3 +11,9 @@ pub mod Many
 pub mod Values
 pub mod FrozenPassing
 pub mod LeafParams
+pub mod Calls
+pub mod Growths
+pub mod Knowing
+pub mod Files
+pub mod Standing
+pub mod FunctionRows

@@ -10,7 +10,7 @@ use Rattle.c_text.specs.declared.tree.CType as Y
 use Rattle.c_text.specs.declared.tree.CType.TheVariants as T
 use Rattle.c_text.specs.declared.tree.Struct.{Struct}
 use Rattle.c_text.specs.Meant.{base_meant, type_meant, members_meant, structs_from, structs_meant}
-use Rattle.c_build.specs.Tables.{is_below, type_below, all_below, closed_from}
+use Rattle.c_build.specs.Tables.{is_below, type_below, all_below, closed_from, IsAt}
 
 and_left : (a b : Bool) → a && b ≡ true → a ≡ true
 and_left true b h = refl
@@ -87,3 +87,8 @@ struct_found ss k s As h lt is same =
     ap (λ j. get_or (structs_meant ss) j no_member) (sym at) ∙ struct_behind [] ss k s h lt
     ∙ ap (λ t. members_meant (structs_meant ss) t.members.items) (sym is)
     ∙ ap (members_meant (structs_meant ss)) same
+
+pub struct_is : (ss : List Struct) (As : List Y.CType) (k : ℕ)
+    → closed_from 0 ss ≡ true → IsAt ss As k
+    → get_or (structs_meant ss) k no_member ≡ members_meant (structs_meant ss) As
+struct_is ss As k h at = struct_found ss k at.struct As h at.within at.there at.members

@@ -1,0 +1,18 @@
+use Rattle.c_forms.specs.Keeping.{keeps_cell}
+use Rattle.cell_core.specs.declared.form.Form.TheVariants as M
+use Rattle.code_fits.specs.Layouts.{kept_type}
+use Rattle.c_file.specs.FunctionC.{olds}
+use Rattle.c_build.specs.Frames.{bounds_in, layout_in}
+use Rattle.c_build.proofs.cell_steps.delay_step.Goals as goal
+
+pub returns : goal.returns
+returns c = λ cs e h.
+    let L = layout_in c.args.frame in
+    let n = bounds_in c.args.frame in
+    let Os = olds cs L in
+    let V = kept_type L in
+    let value = c.in_ok-value.ensures cs h in
+    let lines = c.in_ok-push_delay.ensures n L.params Os V h.counts value in
+    c.in_ok-step.ensures cs (keeps_cell (M.Delay c.args.q) V)
+    V V c.new-lines.result.items _ h
+    (c.in_ok-kept.ensures cs h) value value lines
