@@ -1,9 +1,6 @@
--- The C that each file has: numbers, and the two functions that a program calls.
-use Rattle.std.specs.Prelude.{ℕ, Bool, true, false, not, ◌&&◌, List, [], ◌∷◌, ◌++◌, codes}
-use Rattle.sample_core.specs.TypeTree.{TypeTree}
-use Rattle.code_text.specs.Piece.{Piece, text, name, number, hex, letter, pieces_text}
-use Rattle.code_text.specs.PieceView.{pieces_if}
-use Rattle.code_text.specs.FitsText.{has_lists}
+-- The C that each file has: how it is used, its beginning, and the two functions that a program calls.
+use Rattle.std.specs.Prelude.{ℕ, Bool, true, false, List, [], ◌∷◌, ◌++◌, codes}
+use Rattle.code_text.specs.Piece.{Piece, text, name, number, hex, pieces_text}
 
 -- who sees to what a step takes
 abbrev pub promised : Bool → List ℕ
@@ -28,7 +25,7 @@ opening_pieces sum bytes =
     ∷ name ∷ text (codes "_init ") ∷ name ∷ text (codes "_init_") ∷ hex sum
     ∷ text (codes "\n#define ") ∷ name ∷ text (codes "_step ") ∷ name ∷ text (codes "_step_") ∷ hex sum
     ∷ text (codes "\n#define ") ∷ name ∷ text (codes "_STATE_BYTES ") ∷ number bytes
-    ∷ text (codes "\n\n") ∷ []
+    ∷ text (codes "\n") ∷ []
 
 -- no compiler takes a state that has more bytes than that
 abbrev pub bounded_pieces : List Piece
@@ -41,95 +38,45 @@ abbrev pub returned : Bool → List ℕ
 returned true = codes "void "
 returned false = codes "bool "
 
--- what a program calls
-abbrev pub prototype_pieces : Bool → List Piece
-prototype_pieces unchecked =
-    text (codes "\n#ifdef __cplusplus\nextern \"C\" {\n#endif\nvoid ") ∷ name
-    ∷ text (codes "_init(struct ") ∷ name ∷ text (codes "_state *state);\n") ∷ text (returned unchecked)
-    ∷ name ∷ text (codes "_step(struct ") ∷ name ∷ text (codes "_state *state, int64_t dt, const ")
-    ∷ name ∷ text (codes "_input *input, ") ∷ name
-    ∷ text (codes "_output *output);\n#ifdef __cplusplus\n}\n#endif\n\n#endif\n") ∷ []
+-- the two functions: a state before the first sample, and a step
+abbrev pub init_head : List Piece
+init_head =
+    text (codes "void ") ∷ name ∷ text (codes "_init(struct ") ∷ name ∷ text (codes "_state *state)")
+    ∷ []
 
--- numbers, which wrap, without a conversion that C leaves to its compilers
-abbrev pub wrapped_pieces : List Piece
-wrapped_pieces =
-    text (codes "\n#ifdef __clang__\n#pragma clang diagnostic ignored \"-Wunused-function\"\n#endif\n\nstatic inline int64_t ")
-    ∷ name
-    ∷ text (codes "_wrapped(uint64_t n)\n{\n    return (n <= (uint64_t)INT64_MAX) ? (int64_t)n : -(int64_t)(UINT64_MAX - n) - 1;\n}\n\nstatic inline int64_t ")
-    ∷ name ∷ text (codes "_neg(int64_t a)\n{\n    return ") ∷ name
-    ∷ text (codes "_wrapped(0U - (uint64_t)a);\n}\n") ∷ []
-
--- a fresh state
-abbrev pub init_pieces : List Piece
-init_pieces =
-    text (codes "\nvoid ") ∷ name ∷ text (codes "_init(struct ") ∷ name
-    ∷ text (codes "_state *state)\n{\n    memset(state, 0, sizeof *state);\n}\n") ∷ []
-
--- an operation on two numbers
-abbrev pub binary_pieces : List ℕ → List ℕ → List Piece
-binary_pieces word sign =
-    text (codes "\nstatic inline int64_t ") ∷ name ∷ text word
-    ∷ text (codes "(int64_t a, int64_t b)\n{\n    return ") ∷ name
-    ∷ text (codes "_wrapped((uint64_t)a ") ∷ text sign ∷ text (codes " (uint64_t)b);\n}\n") ∷ []
-
--- numbers, and the operations on them
-abbrev pub numbers_text : List ℕ → List ℕ
-numbers_text P =
-    pieces_text P wrapped_pieces
-    ++ (pieces_text P (binary_pieces (codes "_add") (codes "+"))
-    ++ (pieces_text P (binary_pieces (codes "_sub") (codes "-"))
-    ++ pieces_text P (binary_pieces (codes "_mul") (codes "*"))))
-
--- what the last function is handed, if it keeps anything
-abbrev pub passed : Bool → List ℕ
-passed true = codes "&state->s, "
-passed false = codes ""
-
--- a step of the last function, k; the first one's moment is 0
-abbrev pub go_pieces : ℕ → Bool → List Piece
-go_pieces k keeps =
-    text (codes "\nstatic void ") ∷ name ∷ text (codes "_go(struct ") ∷ name
-    ∷ text (codes "_state *state, int64_t dt, const ") ∷ name ∷ text (codes "_input *input, ")
-    ∷ name
-    ∷ text (codes "_output *output)\n{\n    const int64_t step = state->started ? dt : 0;\n    state->started = true;\n    *output = ")
-    ∷ name ∷ text (codes "_f") ∷ number k ∷ text (codes "(") ∷ text (passed keeps)
-    ∷ text (codes "step, input);\n}\n") ∷ []
-
--- a fresh state, and that step
-abbrev pub entries_text : List ℕ → ℕ → Bool → List ℕ
-entries_text P k keeps = pieces_text P init_pieces ++ pieces_text P (go_pieces k keeps)
-
--- the step that a program calls: its head
 abbrev pub step_head : Bool → List Piece
 step_head unchecked =
-    text (codes "\n") ∷ text (returned unchecked) ∷ name ∷ text (codes "_step(struct ") ∷ name
+    text (returned unchecked) ∷ name ∷ text (codes "_step(struct ") ∷ name
     ∷ text (codes "_state *state, int64_t dt, const ") ∷ name ∷ text (codes "_input *input, ")
-    ∷ name ∷ text (codes "_output *output)\n{\n") ∷ []
+    ∷ name ∷ text (codes "_output *output)") ∷ []
 
--- what it refuses: a time below 1 behind the first sample, and lists for which there is no room
-abbrev pub time_test : List Piece
-time_test =
-    text (codes "    if (state->started && (dt < 1)) {\n        return false;\n    }\n") ∷ []
+-- they are declared, for C++ too
+abbrev pub prototypes_text : List ℕ → Bool → List ℕ
+prototypes_text P unchecked =
+    codes "\n#ifdef __cplusplus\nextern \"C\" {\n#endif\n"
+    ++ (pieces_text P init_head
+    ++ (codes ";\n"
+    ++ (pieces_text P (step_head unchecked)
+    ++ pieces_text P (text (codes ";\n#ifdef __cplusplus\n}\n#endif\n\n#endif\n") ∷ []))))
 
-abbrev pub list_test : TypeTree → List Piece
-list_test A =
-    text (codes "    if (!") ∷ name ∷ text (codes "_fits_") ∷ letter A
-    ∷ text (codes "(input)) {\n        return false;\n    }\n") ∷ []
+-- how a step hands on what it is handed
+abbrev pub returning : Bool → List ℕ
+returning true = codes "    "
+returning false = codes "    return "
 
--- how it ends, and what it does
-abbrev pub ended : Bool → List ℕ
-ended true = codes "}\n"
-ended false = codes "    return true;\n}\n"
+-- they call functions i and j of the file
+abbrev pub init_body : ℕ → List Piece
+init_body i =
+    text (codes "\n{\n    ") ∷ name ∷ text (codes "_f") ∷ number i ∷ text (codes "(state);\n}\n") ∷ []
 
-abbrev pub step_end : Bool → List Piece
-step_end unchecked =
-    text (codes "    ") ∷ name ∷ text (codes "_go(state, dt, input, output);\n")
-    ∷ text (ended unchecked) ∷ []
+abbrev pub step_body : Bool → ℕ → List Piece
+step_body unchecked j =
+    text (codes "\n{\n") ∷ text (returning unchecked) ∷ name ∷ text (codes "_f") ∷ number j
+    ∷ text (codes "(state, dt, input, output);\n}\n") ∷ []
 
--- the whole, for inputs of type A
-abbrev pub step_text : List ℕ → Bool → TypeTree → List ℕ
-step_text P unchecked A =
-    pieces_text P (step_head unchecked)
-    ++ (pieces_text P (pieces_if (not unchecked) time_test)
-    ++ (pieces_text P (pieces_if (not unchecked && has_lists A) (list_test A))
-    ++ pieces_text P (step_end unchecked)))
+abbrev pub entries_text : List ℕ → Bool → ℕ → ℕ → List ℕ
+entries_text P unchecked i j =
+    codes "\n"
+    ++ (pieces_text P init_head
+    ++ (pieces_text P (init_body i)
+    ++ (codes "\n" ++ (pieces_text P (step_head unchecked) ++ pieces_text P (step_body unchecked j)))))

@@ -1,18 +1,8 @@
 -- Pieces of C, and their text. P is the prefix of all of a network's names.
-use Rattle.std.specs.Prelude.{ℕ, zero, suc, ◌-◌, ◌^◌, ℤ, false, List, [], ◌∷◌, ◌++◌, codes}
-use Rattle.std.specs.Fmt.{decimal, digits, format_spec, padded_integral, signed_decimal}
+use Rattle.std.specs.Prelude.{ℕ, ◌-◌, ◌^◌, false, List, [], ◌∷◌, ◌++◌, codes}
+use Rattle.std.specs.Fmt.{decimal, digits, format_spec, padded_integral}
 use Rattle.sample_core.specs.TypeTree.{TypeTree, unit_ty, bool_ty, int_ty, pair_ty, event_ty, list_ty}
 use Rattle.sample_core.specs.Spelling.{type_spelling}
-
--- register k; register 0 is what the argument x points to
-abbrev pub register : ℕ → List ℕ
-register zero = codes "(*x)"
-register (suc k) = codes "r" ++ decimal (suc k)
-
--- its address
-abbrev pub address : ℕ → List ℕ
-address zero = codes "x"
-address (suc k) = codes "&r" ++ decimal (suc k)
 
 -- the letters of a type: u, b and i of values without parts, p of pairs, e of events, l of lists
 abbrev pub letters : TypeTree → List ℕ
@@ -45,28 +35,21 @@ pub data Piece : Type 0 where
   -- the prefix
   name : Piece
   number : ℕ → Piece
-  signed : ℤ → Piece
   hex : ℕ → Piece
   -- a type in C, its letters, and as the language spells it
   ty : TypeTree → Piece
   letter : TypeTree → Piece
   spelt : TypeTree → Piece
-  -- register k, and its address
-  reg : ℕ → Piece
-  at : ℕ → Piece
 
 -- the text of a piece
 abbrev pub piece_text : List ℕ → Piece → List ℕ
 piece_text P (text s) = s
 piece_text P name = P
 piece_text P (number n) = decimal n
-piece_text P (signed n) = signed_decimal n
 piece_text P (hex n) = sixteen_digits n
 piece_text P (ty T) = c_type P T
 piece_text P (letter T) = letters T
 piece_text P (spelt T) = type_spelling T
-piece_text P (reg k) = register k
-piece_text P (at k) = address k
 
 -- pieces, one behind the other
 abbrev pub pieces_text : List ℕ → List Piece → List ℕ

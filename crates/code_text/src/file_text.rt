@@ -1,4 +1,4 @@
-// The libraries that a file of C takes.
+// What a file of C stands on.
 
 /// What POSIX has, which the filter uses.
 pub(crate) const POSIX: &str = r#"#define _POSIX_C_SOURCE 200809L
@@ -14,7 +14,13 @@ pub(crate) const FILTER_INCLUDES: &str = r#"
 #include <unistd.h>
 "#;
 
-/// The libraries of a file without one.
-pub(crate) const PLAIN_INCLUDES: &str = r#"
-#include <string.h>
+/// What compilers don't warn of behind it: places past a list, which are never read, and braces and tests that
+/// could be left out.
+pub(crate) const PRAGMAS: &str = r#"
+#ifdef __GNUC__
+#pragma GCC diagnostic ignored "-Warray-bounds"
+#pragma GCC diagnostic ignored "-Wmissing-braces"
+#pragma GCC diagnostic ignored "-Wtautological-compare"
+#endif
+
 "#;

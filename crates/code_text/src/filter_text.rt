@@ -9,6 +9,15 @@ enum { @_LINE = 65536, @_SAMPLES = 1000000, @_IN = 4 * @_LINE, @_OUT = @_LINE, @
 static unsigned char @_in[@_IN + @_SPARE], @_out[@_OUT + @_SPARE];
 static size_t @_out_size;
 
+#ifdef __clang__
+#pragma clang diagnostic ignored "-Wunused-function"
+#endif
+
+static inline int64_t @_wrapped(uint64_t n)
+{
+    return (n <= (uint64_t)INT64_MAX) ? (int64_t)n : -(int64_t)(UINT64_MAX - n) - 1;
+}
+
 static void @_flush(void)
 {
     size_t done = 0;
@@ -338,7 +347,7 @@ int main(void)
     for (; @_find_line(&source, line); line++) {
         struct @_reader r = { source.at, source.at, "" };
         const int64_t dt = @_read_line(&r, line, &input);
-        @_go(&state, dt, &input, &output);
+        @_step(&state, dt, &input, &output);
         @_put_output(&output);
         @_put("\n", 1);
         source.at = r.at + 1;

@@ -2,30 +2,28 @@
 //!
 //!     let text = print_c(alloc, &program, options)?;
 //!
-//! A statement of code is a line of C: `src/statement.rt`, `src/cell.rt` and `src/collection.rt`; a step of an expression too: `src/leaf.rt`. What
-//! functions keep is a struct each: `src/kept.rt`. `src/file.rt` puts all together, and `src/filter.rt` adds a program that runs on
-//! standard input.
+//! `c_build` makes the tree of a program's C, and `c_text` prints its structs and functions; all that stands
+//! around them is of this crate: the comment at the top, the names by which a program calls them, comments
+//! (`src/comment.rt`), and a program that runs on standard input (`src/filter.rt`). `specs/FileText` has the file
+//! as a whole.
+//!
+//! First `src/file.rt`.
 #![tactic(auto)]
 
-mod cell;
-mod collection;
-mod declared;
+mod about;
+mod comment;
 mod file;
 mod file_text;
 mod filter;
 mod filter_text;
 mod fingerprint;
-mod fits;
 mod fixed;
 mod folded;
-mod function;
-mod kept;
-mod leaf;
+mod lists;
 mod named;
+mod names;
 mod piece;
-mod scope;
-mod statement;
-mod types;
 
+pub use c_build::Unbuilt;
 pub use file::{Options, Printed, print_c};
-pub use fits::has_lists;
+pub use lists::has_lists;

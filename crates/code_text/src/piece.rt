@@ -3,7 +3,7 @@
 ghost use Rattle.std.specs.Prelude.{◌≡◌, ◌++◌, IfOk, map, string_bytes};
 ghost use Rattle.sample_core.specs.{TypeView.type_of};
 ghost use Rattle.code_text.specs.Piece.{c_type, letters, piece_text, pieces_text};
-ghost use Rattle.code_text.specs.PieceView.{piece_of, pieces_if};
+ghost use Rattle.code_text.specs.PieceView.{piece_of};
 
 use sample_core::{Memory, Ty, push_type};
 
@@ -16,23 +16,14 @@ pub(crate) enum Piece<'a> {
     Name,
     /// A number.
     Number(usize),
-    /// A number with its sign.
-    Signed(i64),
     /// 16 hexadecimal digits.
     Hex(u64),
     /// A type in C.
     Type(&'a Ty),
     /// A type's letters.
     Letters(&'a Ty),
-    /// `Unit` in C, and its letters.
-    UnitType,
-    UnitLetters,
     /// A type as the language spells it.
     Spelt(&'a Ty),
-    /// A register.
-    Reg(usize),
-    /// A register's address.
-    At(usize),
 }
 
 /// Adds pieces to the end of the text.
@@ -46,22 +37,6 @@ pub(crate) fn push(text: &mut String, prefix: &str, pieces: &[Piece<'_>]) -> Res
     Ok(())
 }
 
-/// Adds pieces to the end of the text, where that holds.
-pub(crate) fn push_if(
-    text: &mut String,
-    prefix: &str,
-    holds: bool,
-    pieces: &[Piece<'_>],
-) -> Result<(), Memory>
-    ensures { IfOk result (λ _. string_bytes text.new
-        ≡ string_bytes text.old ++ pieces_text prefix.now (pieces_if holds (map piece_of pieces.now))) }
-{
-    if holds {
-        push(text, prefix, pieces)?;
-    }
-    Ok(())
-}
-
 /// Adds a piece.
 fn push_piece(text: &mut String, prefix: &str, piece: Piece<'_>) -> Result<(), Memory>
     ensures { IfOk result (λ _. string_bytes text.new
@@ -71,17 +46,10 @@ fn push_piece(text: &mut String, prefix: &str, piece: Piece<'_>) -> Result<(), M
         Piece::Text(s) => write!(text, "{s}")?,
         Piece::Name => write!(text, "{prefix}")?,
         Piece::Number(n) => write!(text, "{n}")?,
-        Piece::Signed(n) => write!(text, "{n}")?,
         Piece::Hex(n) => write!(text, "{n:016x}")?,
         Piece::Type(ty) => push_c_type(text, prefix, ty)?,
         Piece::Letters(ty) => push_letters(text, ty)?,
-        Piece::UnitType => write!(text, "uint8_t")?,
-        Piece::UnitLetters => write!(text, "u")?,
         Piece::Spelt(ty) => push_type(text, ty)?,
-        Piece::Reg(0) => write!(text, "(*x)")?,
-        Piece::Reg(k) => write!(text, "r{k}")?,
-        Piece::At(0) => write!(text, "x")?,
-        Piece::At(k) => write!(text, "&r{k}")?,
     }
     Ok(())
 }

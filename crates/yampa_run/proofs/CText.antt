@@ -2,8 +2,11 @@
 use Rattle.std.proofs.Common.{◌≡◌, ℕ, Bool, List, Option, Result, Ok, Err, IfOk, codes, subst}
 use Rattle.std.specs.Result.{IfErr}
 use Rattle.net_meaning.specs.TypedNetwork.{TypedNetwork}
+use Rattle.code_fits.specs.Programs.{IsProgramOf}
+use Rattle.code_fits.specs.declared.layout.Program.{Program}
+use Rattle.code_text.specs.FileText.{IsCOf}
 use Rattle.command_line.specs.CommandLine.{DerivationNames, PrintingWords}
-use Rattle.yampa_run.specs.Compile.{IsForm, PrintsC, PrintsNamed, asks_most}
+use Rattle.yampa_run.specs.Compile.{IsForm, PrintsC, PrintsNamed, asks_most, options_for}
 use Rattle.yampa_run.specs.KnownFiles.{KnownFiles}
 use Rattle.yampa_run.specs.Loading.{IsNetworkOf, RefusesWith}
 use Rattle.yampa_run.specs.Check.{IsChecked}
@@ -11,6 +14,12 @@ use Rattle.yampa_run.specs.Compile.{HasNoC, IsNotCheckedC, IsNotCompiled, TellsC
 use Rattle.yampa_run.specs.RefusalLines.{too_large_words}
 use Rattle.yampa_run.specs.declared.compile.Form.{Form}
 use Rattle.yampa_run.specs.declared.preparation.Refusal.{Refusal}
+
+-- a program's C is that of its network
+pub prints_named : {T E : Type 0} (bytes : T → List ℕ) (t : TypedNetwork) (words : PrintingWords) (name : List ℕ) (most : ℕ) (p : Program) (r : Result T E)
+    → IsProgramOf t most p → IfOk r (λ text. IsCOf p (options_for t words name most) (bytes text)) → IfOk r (λ text. PrintsNamed t words name most (bytes text))
+prints_named bytes t words name most p (Ok text) f c = record { program = p; fits = f; is_c = c }
+prints_named bytes t words name most p (Err e) f c = tt
 
 pub tells_form : (words : PrintingWords) (form : Form) → IsForm words form → TellsForm words
 tells_form words form f = record { name = form.name.now; most = form.most; name_is = f.name_is; most_is = f.most_is }

@@ -4,8 +4,8 @@ use Rattle.net_meaning.specs.TypedNetwork.{TypedNetwork}
 use Rattle.net_text.specs.Printing.{file_spelling}
 use Rattle.code_fits.specs.Programs.{IsProgramOf}
 use Rattle.code_fits.specs.declared.layout.Program.{Program}
-use Rattle.code_text.specs.FileText.{c_of}
-use Rattle.code_text.specs.FitsText.{has_lists}
+use Rattle.code_text.specs.FileText.{IsCOf, Options}
+use Rattle.code_text.specs.Lists.{has_lists}
 use Rattle.code_text.specs.declared.file.Printed.{Printed}
 use Rattle.code_text.specs.declared.file.Printed.TheVariants as P
 use Rattle.command_line.specs.CommandLine.{PrintingWords, DerivationNames}
@@ -29,9 +29,9 @@ pub record IsForm (words : PrintingWords) (form : Form) : Type 0 where
   pub name_is : TellsName words.name form.name.now
   pub most_is : TellsMost words.most form.most
 
--- a program of the network as C, with that name, and lists of the input of at most so many elements
-abbrev pub c_named : TypedNetwork → Program → PrintingWords → List ℕ → ℕ → List ℕ
-c_named t program words name most = c_of program (record {
+-- how a network is printed as C, with that name, and lists of the input of at most so many elements
+abbrev pub options_for : TypedNetwork → PrintingWords → List ℕ → ℕ → Options
+options_for t words name most = record {
   prefix = name;
   printed = printed_by words;
   most = most;
@@ -39,7 +39,9 @@ c_named t program words name most = c_of program (record {
   version = VERSION.now;
   network = file_spelling t.input t.net;
   weight = t.weight;
-})
+  input = t.input;
+  output = t.output;
+}
 
 -- the text is a program of the network's code as C, whose functions fit their layouts and which has
 -- room for lists of the input of at most so many elements, with that name
@@ -47,7 +49,7 @@ pub record PrintsNamed (t : TypedNetwork) (words : PrintingWords) (name : List �
     (text : List ℕ) : Type 0 where
   pub program : Program
   pub fits : IsProgramOf t most program
-  pub text_is : text ≡ c_named t program words name most
+  pub is_c : IsCOf program (options_for t words name most) text
 
 -- the text is a program of the network's code as C, as the words tell
 pub record PrintsC (t : TypedNetwork) (words : PrintingWords) (text : List ℕ) : Type 0 where

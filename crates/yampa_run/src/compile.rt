@@ -1,10 +1,12 @@
 // The commands `compile` and `compile-checked`: networks of files as C.
 
 ghost use Rattle.std.specs.Prelude.{◌≡◌, IfErr, IfOk, string_bytes};
+ghost use Rattle.code_fits.specs.Tables.{TableHolds};
+ghost use Rattle.code_text.specs.FileText.{IsCOf};
 ghost use Rattle.command_line.specs.CommandLine.{derivation_view, printing_view};
-ghost use Rattle.yampa_run.specs.Compile.{HasNoC, IsForm, IsNoForm, IsNotCheckedC, IsNotCompiled, PrintsNamed, TellsC, TellsCheckedC, asks_most, c_named, printed_by};
+ghost use Rattle.yampa_run.specs.Compile.{HasNoC, IsForm, IsNoForm, IsNotCheckedC, IsNotCompiled, PrintsNamed, TellsC, TellsCheckedC, asks_most, options_for, printed_by};
 ghost use Rattle.yampa_run.specs.Loading.{RefusesWith};
-ghost use Rattle.yampa_run.specs.RefusalLines.{too_large_words};
+ghost use Rattle.yampa_run.specs.RefusalLines.{no_layout_words, too_large_words};
 
 use crate::check::derived;
 use crate::files::Files;
@@ -13,7 +15,7 @@ use crate::preparation::Refusal;
 use crate::refused::{Role, no_layout_line, too_large_line};
 use crate::words::{most_of, name_of};
 use code_fits::{Program, Refused, program_of};
-use code_text::{Options, Printed, has_lists, print_c};
+use code_text::{Options, Printed, Unbuilt, has_lists, print_c};
 use command_line::{Derivation, Printing, VERSION};
 use net_syntax::TypedNet;
 use net_text::print_net;
@@ -112,7 +114,7 @@ fn c_text(
         Ok(program) => {
             let text = text_of(alloc, net, &program, printing, form);
             drop(program);
-            Ok(text?)
+            text
         }
         Err(refused) => Err(no_program(alloc, net, printing, refused)?),
     }
@@ -125,10 +127,11 @@ fn text_of(
     program: &Program,
     printing: Printing<'_>,
     form: Form<'_>,
-) -> Result<String, Memory>
-    ensures { IfOk result (λ text. string_bytes text
-        ≡ c_named net.now program.now (printing_view printing.entry) form.entry.name.now
-        form.entry.most) }
+) -> Result<String, Refusal>
+    requires { TableHolds program.now.types }
+    ensures text { IfOk result (λ text. IsCOf program.now (options_for net.now
+        (printing_view printing.entry) form.entry.name.now form.entry.most) (string_bytes text)) }
+    ensures refused { IfErr result (RefusesWith 1 no_layout_words) }
 {
     let network = print_net(alloc, net.input(), net.net())?;
     let text = print_c(
@@ -142,10 +145,35 @@ fn text_of(
             version: VERSION,
             network: network.as_str(),
             weight: u64::from(net.weight()),
+            input: net.input(),
+            output: net.output(),
         },
     );
     drop(network);
-    text
+    match text {
+        Ok(text) => Ok(text),
+        Err(unbuilt) => Err(not_built(alloc, unbuilt)?),
+    }
+}
+
+/// The refusal of a program that has no C.
+fn not_built(alloc: Global, unbuilt: Unbuilt) -> Result<Refusal, Memory>
+    ensures { IfOk result (RefusesWith 1 no_layout_words) }
+{
+    match unbuilt {
+        Unbuilt::Missing => no_layout(alloc),
+        Unbuilt::Memory => Ok(Refusal::Memory),
+    }
+}
+
+/// The refusal of a network that has no layout.
+fn no_layout(alloc: Global) -> Result<Refusal, Memory>
+    ensures { IfOk result (RefusesWith 1 no_layout_words) }
+{
+    Ok(Refusal::Line {
+        status: 1,
+        line: no_layout_line(alloc)?,
+    })
 }
 
 /// What is printed, by the words.
@@ -172,10 +200,7 @@ fn no_program(
 {
     match refused {
         Refused::State(at) => too_large(alloc, "state", at, asks_most(net, printing)),
-        Refused::Untyped => Ok(Refusal::Line {
-            status: 1,
-            line: no_layout_line(alloc)?,
-        }),
+        Refused::Untyped => no_layout(alloc),
         Refused::Memory => Ok(Refusal::Memory),
     }
 }

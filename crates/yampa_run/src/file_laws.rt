@@ -11,7 +11,6 @@ ghost use Rattle.yampa_run.specs.WholeRun.{WholeRunLaw};
 ghost use Rattle.yampa_run.specs.Words.{WordLimitsAre};
 
 use cert_check::{applied_laws, derivation_laws};
-use net_code::code_laws;
 use net_opt::optimised_laws;
 use net_syntax::typing_laws;
 use net_text::printing_laws;
@@ -86,12 +85,16 @@ pub fn applied_file_laws()
 }
 
 /// What is printed where the words ask for C of a file, or of a target whose certificate is to be
-/// checked, and the bytes of the files that they name are told: the text of code that outputs the
-/// stream meaning of the file's network, or of the source, on samples of its input type.
+/// checked, and the bytes of the files that they name are told: the text of a file of C. By the rules of
+/// C99 its functions have a result, so that nothing undefined happens: from any state on `init`, and then
+/// `step` at each call. They output the stream meaning of the file's network, or of the source. An
+/// unchecked `step` is given samples that it can take, the other one whatever calls, of which it refuses
+/// those that it can't take. All samples of the input type can be given whose lists have at most as many
+/// elements as the words tell.
 pub fn compiled_file_laws()
     ensures { CompiledFilesLaw }
 {
-    code_laws();
+    c_file::file_laws();
     typing_laws();
     derivation_laws();
 }
