@@ -1,7 +1,0 @@
-use Rattle.code_text.proofs.Joined.{joined_three}
-use Rattle.code_text.proofs.collection.push_case.Goals as goal
-
-pub returns : goal.returns
-returns c =
-    joined_three _ _ _ _ _ _ _ _ c.in_ok-push.ensures c.in_ok-push_case_call.ensures
-    c.push-2.ensures

@@ -1,4 +1,0 @@
-use Rattle.code_text.proofs.file.push_options.Goals as goal
-
-pub returns : goal.returns
-returns c = rw c.unchecked_word-unchecked.ensures at c.push.ensures

@@ -1,4 +1,0 @@
-use Rattle.code_text.proofs.function.push_chosen_leaf.Goals as goal
-
-pub returns : goal.returns
-returns c = cc (c.in_ok-push_leaf_at.ensures, c.in_ok-ty.ensures, c.ty-input.ensures)

@@ -1,9 +1,0 @@
-use Rattle.std.proofs.Common.{◌≡◌, ◌++◌, drop, string_bytes}
-use Rattle.code_text.specs.ScopeText.{named_in, frozen_members}
-use Rattle.code_text.proofs.scope.push_frozen_members.Given as goal
-
--- what stands there, with those to come, is the whole
-abbrev pub invariant-loop-k : goal.invariant-loop-k
-invariant-loop-k l =
-    string_bytes l.text ++ frozen_members (named_in l.named) l.k (drop l.k l.members)
-    ≡ string_bytes l.initial.text ++ frozen_members (named_in l.named) 0 l.members

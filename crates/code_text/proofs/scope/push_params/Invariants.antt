@@ -1,8 +1,0 @@
-use Rattle.std.proofs.Common.{◌≡◌, ◌++◌, string_bytes}
-use Rattle.code_text.specs.ScopeText.{first_params}
-use Rattle.code_text.proofs.scope.push_params.Given as goal
-
--- the first k stand there
-abbrev pub invariant-loop-k : goal.invariant-loop-k
-invariant-loop-k l =
-    string_bytes l.text ≡ string_bytes l.initial.text ++ first_params l.prefix l.k
