@@ -1,35 +1,17 @@
 -- What is printed in turn is printed as one, if the last call succeeds.
-use Rattle.std.proofs.Common.{◌≡◌, ◌++◌, ℕ, List, [], ◌∷◌, Result, Ok, Err, IfOk, refl, sym, ap, ◌∙◌, append_assoc}
-use Rattle.sample_core.specs.Adding.{Adds}
-use Rattle.code_text.specs.Piece.{Piece, piece_text, pieces_text}
+use Rattle.std.proofs.Common.{◌≡◌, ◌++◌, ℕ, List, Result, Ok, Err, IfOk, refl, append_assoc}
 
 if_ok : {A E P Q : Type 0} (r : Result A E) → (P → Q) → IfOk r (λ _. P) → IfOk r (λ _. Q)
 if_ok (Ok x) f h = f h
 if_ok (Err e) f h = h
 
-pub added : {A E : Type 0} (r : Result A E) (o n w : List ℕ) → Adds r o n w → IfOk r (λ _. n ≡ o ++ w)
-added (Ok x) o n w h = h
-added (Err e) o n w h = tt
-
 plain : (o a b m n : List ℕ) → m ≡ o ++ a → n ≡ m ++ b → n ≡ o ++ (a ++ b)
 plain o a b m n e f = rw (f, e, append_assoc o a b)
-
-pieces_behind : (P : List ℕ) (ps qs : List Piece) → pieces_text P (ps ++ qs) ≡ pieces_text P ps ++ pieces_text P qs
-pieces_behind P [] qs = refl
-pieces_behind P (p ∷ ps) qs =
-    ap (λ s. piece_text P p ++ s) (pieces_behind P ps qs)
-    ∙ sym (append_assoc (piece_text P p) (pieces_text P ps) (pieces_text P qs))
 
 module _ {A E : Type 0} (r : Result A E) where
   pub joined_two : (o a b m n : List ℕ) → m ≡ o ++ a → IfOk r (λ _. n ≡ m ++ b)
       → IfOk r (λ _. n ≡ o ++ (a ++ b))
   joined_two o a b m n h1 h2 = if_ok r (plain o a b m n h1) h2
-
-  -- the same of pieces
-  pub joined_pieces : (P : List ℕ) (ps qs : List Piece) (o m n : List ℕ) → m ≡ o ++ pieces_text P ps
-      → IfOk r (λ _. n ≡ m ++ pieces_text P qs) → IfOk r (λ _. n ≡ o ++ pieces_text P (ps ++ qs))
-  joined_pieces P ps qs o m n h1 h2 =
-      if_ok r (λ e. plain o (pieces_text P ps) (pieces_text P qs) m n h1 e ∙ ap (λ s. o ++ s) (sym (pieces_behind P ps qs))) h2
 
   pub joined_three : (o a b c m n p : List ℕ) → m ≡ o ++ a → n ≡ m ++ b → IfOk r (λ _. p ≡ n ++ c)
       → IfOk r (λ _. p ≡ o ++ (a ++ (b ++ c)))
@@ -51,10 +33,3 @@ module _ {A E : Type 0} (r : Result A E) where
   joined_six o a b c d e f m n p q s t h1 h2 h3 h4 h5 h6 =
       joined_two o a (b ++ (c ++ (d ++ (e ++ f)))) m t h1
       (joined_five m b c d e f n p q s t h2 h3 h4 h5 h6)
-
-  pub joined_seven : (o a b c d e f g m n p q s t u : List ℕ) → m ≡ o ++ a → n ≡ m ++ b → p ≡ n ++ c
-      → q ≡ p ++ d → s ≡ q ++ e → t ≡ s ++ f → IfOk r (λ _. u ≡ t ++ g)
-      → IfOk r (λ _. u ≡ o ++ (a ++ (b ++ (c ++ (d ++ (e ++ (f ++ g)))))))
-  joined_seven o a b c d e f g m n p q s t u h1 h2 h3 h4 h5 h6 h7 =
-      joined_two o a (b ++ (c ++ (d ++ (e ++ (f ++ g))))) m u h1
-      (joined_six m b c d e f g n p q s t u h2 h3 h4 h5 h6 h7)

@@ -6,4 +6,4 @@ returns c =
     joined_three _ _ _ _ _ _ _ _
     c.in_ok-push.ensures
     c.in_ok-push_definitions.ensures
-    (rw (c.as_slice-types.ensures.value, c.ty-input.ensures, c.ty-output.ensures) at c.push_filter.ensures)
+    (rw c.as_slice.ensures.value at c.push_filter.ensures)
