@@ -1,8 +1,8 @@
 //! What moves do that no law does alone: to expressions, to an `arr`, and to as many stages or members as there are.
 use crate::chain::{behind, last, length, seq};
-use crate::cost::{net_cost, own_parts};
-use crate::draft::{joined, Budget, Clearing, Draft};
-use crate::exprs::{as_behind, as_then, cheap, first_input, input, normal, on_left, pair, second_input, seen_through, then};
+use crate::cost::{is_cell, net_cost};
+use crate::draft::{joined, Budget, Draft};
+use crate::exprs::{as_behind, as_then, input, pair, parts_in, reached, seen_as, seen_through, then, Aim};
 use crate::laws;
 use crate::read::template;
 use crate::term::{int, node, put, Op, Term};
@@ -16,10 +16,7 @@ impl Draft {
     /// Clears up the expression at a path.
     pub fn clear(&mut self, path: &[u32]) -> Option<()> {
         let e = self.at(path).filter(|e| e.op.is_expr())?;
-        let way = match self.clearing {
-            Clearing::ByCost => cheap(&self.budget, e),
-            Clearing::Always => normal(&self.budget, e),
-        };
+        let way = reached(&self.budget, self.clearing, e);
         if way.to.height > MOST_EXPR_HEIGHT || way.to.size > MOST_EXPR_SIZE {
             self.budget.cut();
             return None;
@@ -33,22 +30,11 @@ impl Draft {
         self.took(&joined(path, &[0]), way.to, &way.steps())
     }
 
-    /// Rewrites the expression of the `arr` at a path to a `then`, and parts the `arr` there in two.
-    pub fn part_by(&mut self, rewriting: Rewriting, path: &[u32]) -> Option<()> {
-        self.rewrite(rewriting, path)?;
-        self.back(laws::FUSE, path)
-    }
-
     /// Takes a law backward at a path, where what stands there tells what the law leads from.
     pub fn back(&mut self, law: laws::Law, path: &[u32]) -> Option<()> {
         let given = laws::backward(law, self.at(path)?)?;
         self.backward(law, path, given)
     }
-}
-
-/// `unit`.
-pub fn unit() -> Term {
-    node(Op::Unit, &[])
 }
 
 /// `(arr e)`.
@@ -58,30 +44,18 @@ pub fn arr(e: Term) -> Term {
 
 /// The expression behind `unit`, where it doesn't use its input.
 pub fn deaf(budget: &Budget, e: Term) -> Option<Way> {
-    if hears(e) {
-        return None;
-    }
-    as_then(budget, e, unit(), e)
-}
-
-/// Whether the expression may use its input.
-fn hears(e: Term) -> bool {
-    match e.op {
-        Op::Input | Op::On | Op::List => true,
-        Op::Then => hears(e.kids[0]),
-        _ => e.kids.iter().any(|kid| hears(kid)),
-    }
+    as_behind(budget, e, template("unit"))
 }
 
 /// The expression behind what makes the left part `unit`, where it uses the right part alone.
 pub fn deaf_to_left(budget: &Budget, e: Term) -> Option<Way> {
-    seen_through(budget, e, second_input())?;
-    as_then(budget, e, on_left(then(unit(), unit())), e)
+    seen_through(budget, e, template("(snd x)"))?;
+    as_then(budget, e, template("LEFT(then unit unit)"), e)
 }
 
 /// The expression behind `(fst x)`, where it uses the left part alone.
 pub fn behind_first(budget: &Budget, e: Term) -> Option<Way> {
-    as_behind(budget, e, first_input())
+    as_behind(budget, e, template("(fst x)"))
 }
 
 /// The expression as itself behind UNASSOC, and that behind ASSOC.
@@ -100,7 +74,7 @@ pub fn never_apart(budget: &Budget, e: Term) -> Option<Way> {
 /// Parts the `arr`, and the one that is then behind it, as long as that costs less.
 pub fn split(w: &mut Draft) -> Option<()> {
     let mut way = vec![];
-    while w.clearing == Clearing::ByCost && pays_as_two(w.at(&way)?) {
+    while w.clearing == Aim::Cheap && pays_as_two(w.at(&way)?) {
         w.back(laws::FUSE, &way)?;
         way.push(1);
     }
@@ -115,68 +89,46 @@ fn pays_as_two(one: Term) -> bool {
 
 /// Makes a `first` of an `arr` at a path one `arr`, where it is one.
 pub fn open(w: &mut Draft, path: &[u32]) -> Option<()> {
-    if w.first_at(path)?.op != Op::Arr {
-        return Some(());
-    }
-    w.forward(laws::FIRST_ARR, path)?;
-    w.clear(&joined(path, &[0]))
+    w.forward(laws::FIRST_ARR, path).map_or(Some(()), |()| w.clear(&joined(path, &[0])))
 }
 
 /// Parts the last `arr` in a switch, of a pair with no event, and makes what stands before the pair one.
 pub fn part_never(w: &mut Draft) -> Option<()> {
     let count = length(w.at(&[0])?);
-    w.part_by(never_apart, &behind(&[0], count - 1))?;
+    let last = behind(&[0], count - 1);
+    w.rewrite(never_apart, &last)?;
+    w.back(laws::FUSE, &last)?;
     w.gather(&[0], 0, count).map(|_| ())
 }
 
 /// Makes all stages in a `first` but the last one, an `arr`, one.
 pub fn gather_first(w: &mut Draft) -> Option<()> {
-    let inner = w.first_at(&[0])?;
+    let inner = w.at(&[0]).filter(|first| first.op == Op::First)?.kids[0];
     if last(inner).op != Op::Arr {
         return None;
     }
     w.gather(&[0, 0], 0, length(inner) - 1).map(|_| ())
 }
 
+/// The laws by which an `arr` behind a cell passes it.
+const PASSING: [laws::Law; 2] = [laws::CELL_PASS, laws::DELAY_PASS];
+
 /// Takes the last `arr` past all cells but the first stage.
 pub fn pass(w: &mut Draft) -> Option<()> {
-    let count = length(w.net());
-    (1..count - 1).rev().try_for_each(|stages| pass_one(w, stages, stages + 2 < count))
-}
-
-/// Takes the `arr` behind the cell past it, which stands behind so many stages; more stand behind both, or none.
-fn pass_one(w: &mut Draft, stages: usize, more: bool) -> Option<()> {
-    let way = behind(&[], stages);
-    if !more {
-        return pass_cell(w, &way);
-    }
-    w.back(laws::NEST, &way)?;
-    pass_cell(w, &joined(&way, &[0]))?;
-    w.forward(laws::NEST, &way)
-}
-
-/// Takes the `arr` past the cell, both of which stand at a path.
-fn pass_cell(w: &mut Draft, path: &[u32]) -> Option<()> {
-    w.forward(passing(w.at(&joined(path, &[0]))?)?, path)?;
-    w.clear(&joined(path, &[1, 0]))
-}
-
-/// The law by which an `arr` behind a cell passes it.
-fn passing(cell: Term) -> Option<laws::Law> {
-    match cell.op {
-        Op::IPre => Some(laws::CELL_PASS),
-        Op::Delay => Some(laws::DELAY_PASS),
-        _ => None,
-    }
+    (1..length(w.net()) - 1).rev().try_for_each(|stages| {
+        let two = w.gather(&[], stages, 2)?;
+        PASSING.iter().find_map(|&law| w.forward(law, &two))?;
+        w.clear(&joined(&two, &[1, 0]))?;
+        w.flatten(&behind(&[], stages))
+    })
 }
 
 /// Takes the cell before the `arr` of a known value, which the cell begins with too.
 pub fn known_cell(w: &mut Draft) -> Option<()> {
-    let (e, cell) = (w.arr_at(&[0])?, w.at(&[1])?);
-    let law = passing(cell)?;
+    let (e, cell) = (w.arr_at(&[0])?, w.at(&[1]).filter(|cell| is_cell(cell))?);
     let way = as_then(&w.budget, cell.kids[0], cell.kids[0], e)?;
     w.took(&[1, 0], way.to, &way.steps())?;
-    w.backward(law, &[], seq(cell, arr(e)))
+    PASSING.iter().find_map(|&law| w.backward(law, &[], seq(cell, arr(e))))
 }
 
 /// Takes the first output of a chain to its last stage.
@@ -188,18 +140,18 @@ pub fn initial_last(w: &mut Draft) -> Option<()> {
 
 /// Brings an `arr` behind members, which looks at one of them alone, to what it does with that.
 pub fn one_heard(w: &mut Draft) -> Option<()> {
-    let (members, e) = (w.at(&[0]).filter(|net| net.op == Op::Par)?, w.arr_at(&[1])?);
-    let looks = looked_at(e, members.kids.len() as i64)?;
-    let way = as_behind(&w.budget, e, looks)?;
+    let (e, heard, _) = heard_at(w)?;
+    let way = as_behind(&w.budget, e, *heard.first()?)?;
     w.took(&[1, 0], way.to, &way.steps())
 }
 
-/// The first part of the expression that is a known element of its input, one of so many.
-fn looked_at(e: Term, count: i64) -> Option<Term> {
-    if is_known_element(e) {
-        return Some(e).filter(|_| (0..count).contains(&e.kids[1].number));
-    }
-    e.kids[..own_parts(e)].iter().find_map(|kid| looked_at(kid, count))
+/// The expression of an `arr` behind members, the elements of its input that it looks at, and how many members there are.
+fn heard_at(w: &Draft) -> Option<(Term, Vec<Term>, usize)> {
+    let (members, e) = (w.at(&[0]).filter(|net| net.op == Op::Par)?, w.arr_at(&[1])?);
+    let is_element = |e: &Term| e.op == Op::Nth && e.kids[0].op == Op::Input && e.kids[1].op == Op::Int;
+    let is_member = |e: &Term| is_element(e) && (0..members.kids.len() as i64).contains(&e.kids[1].number);
+    let heard = parts_in(e).into_iter().map(|(part, _)| part).filter(is_member).collect();
+    Some((e, heard, members.kids.len()))
 }
 
 /// Takes the stage with which all of two or more members begin before them.
@@ -228,49 +180,19 @@ fn take_members(w: &mut Draft, path: &[u32], count: usize) -> Option<()> {
 
 /// Drops the members that an `arr` behind them doesn't look at, where it looks at two others or more, and at nothing else.
 pub fn some_heard(w: &mut Draft) -> Option<()> {
-    let (members, e) = (w.at(&[0]).filter(|net| net.op == Op::Par)?, w.arr_at(&[1])?);
-    let mut heard = vec![];
-    add_heard(e, members.kids.len() as i64, &mut heard)?;
-    if heard.len() < 2 || heard.len() == members.kids.len() {
+    let (e, heard, count) = heard_at(w)?;
+    let mut members = heard.clone();
+    members.sort_by_key(|element| element.kids[1].number);
+    members.dedup_by_key(|element| element.kids[1]);
+    if members.len() < 2 || members.len() == count {
         return None;
     }
-    heard.sort_by_key(|member| member.kids[1].number);
-    let list = put(Op::List, 0, Some(told_type(heard[0].kids[2])?), &heard);
-    let way = as_then(&w.budget, e, list, renumbered(e, &heard))?;
+    let place = |element: Term| members.iter().position(|member| member.kids[1] == element.kids[1]);
+    let seen: Vec<(Term, Term)> = heard.iter().map(|e| (*e, e.with_kid(1, int(place(e).map_or(0, |k| k as i64))))).collect();
+    let list = put(Op::List, 0, Some(told_type(members[0].kids[2])?), &members);
+    let way = as_then(&w.budget, e, list, seen_as(&w.budget, e, &seen)?)?;
     w.took(&[1, 0], way.to, &way.steps())?;
     w.back(laws::FUSE, &[1])?;
     w.back(laws::NEST, &[])?;
-    take_members(w, &[0], heard.len())
-}
-
-/// Whether the expression is a known element of its input.
-fn is_known_element(e: Term) -> bool {
-    e.op == Op::Nth && e.kids[0].op == Op::Input && e.kids[1].op == Op::Int
-}
-
-/// Adds the elements, of so many, that the expression looks at in its input, each once; nothing where it uses that otherwise.
-fn add_heard(e: Term, count: i64, heard: &mut Vec<Term>) -> Option<()> {
-    if is_known_element(e) && (0..count).contains(&e.kids[1].number) && e.kids[2].is_constant() {
-        if heard.iter().all(|other| other.kids[1] != e.kids[1]) {
-            heard.push(e);
-        }
-        return Some(());
-    }
-    if matches!(e.op, Op::Input | Op::On) {
-        return None;
-    }
-    e.kids[..own_parts(e)].iter().try_for_each(|part| add_heard(part, count, heard))
-}
-
-/// The expression with the elements of its input that it looks at numbered as they stand here.
-fn renumbered(e: Term, heard: &[Term]) -> Term {
-    if is_known_element(e) {
-        let place = heard.iter().position(|other| other.kids[1] == e.kids[1]);
-        return place.map_or(e, |k| e.with_kid(1, int(k as i64)));
-    }
-    let mut kids = e.kids.clone();
-    for kid in kids.iter_mut().take(own_parts(e)) {
-        *kid = renumbered(kid, heard);
-    }
-    e.with_kids(&kids)
+    take_members(w, &[0], members.len())
 }

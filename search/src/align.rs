@@ -1,9 +1,9 @@
 //! Two chains, of stages or of `then`s, nested alike.
 use crate::chain::links;
-use crate::draft::{joined, Draft, Path};
+use crate::draft::{joined, Budget, Draft, Path};
 use crate::laws::{self, Law};
 use crate::term::{Op, Term};
-use crate::tuning::MOST_STAGE_PAIRS;
+use crate::tuning::{LOOK, MOST_STAGE_PAIRS};
 
 /// After how many links of either chain both are cut.
 type Cut = (usize, usize);
@@ -30,21 +30,18 @@ fn count(op: Op, part: Term) -> usize {
 pub fn nested_alike(first: &mut Draft, second: &mut Draft, path: &[u32], one_by_one: bool) -> Option<Vec<Path>> {
     let (a, b) = (first.at(path)?, second.at(path)?);
     let (a, b) = (links(a.op, a), links(b.op, b));
-    if !first.budget.spend((a.len() * b.len()) as u64) {
-        return None;
-    }
-    let cuts = cuts(&a, &b, one_by_one);
+    let cuts = cuts(&first.budget, &a, &b, one_by_one);
     let mut places = vec![];
     nest(first, second, path, &cuts, &mut places)?;
     Some(places).filter(|places| places.len() > 1)
 }
 
 /// Where both chains are cut, between which there are links of both.
-fn cuts(a: &[Term], b: &[Term], one_by_one: bool) -> Vec<Cut> {
+fn cuts(budget: &Budget, a: &[Term], b: &[Term], one_by_one: bool) -> Vec<Cut> {
     let end = (a.len(), b.len());
     let mut all = vec![];
     let mut from = (0, 0);
-    for (i, j) in same_links(a, b).into_iter().chain([end]) {
+    for (i, j) in same_links(budget, a, b).into_iter().chain([end]) {
         if one_by_one && i - from.0 == j - from.1 {
             all.extend((0..i - from.0).map(|k| (from.0 + k, from.1 + k)));
         }
@@ -63,13 +60,14 @@ fn cuts(a: &[Term], b: &[Term], one_by_one: bool) -> Vec<Cut> {
 }
 
 /// Links of both that are the same, as many as there are in one order.
-fn same_links(a: &[Term], b: &[Term]) -> Vec<Cut> {
+fn same_links(budget: &Budget, a: &[Term], b: &[Term]) -> Vec<Cut> {
     let alike = |(f, g): &(&Term, &Term)| f == g;
     let front = a.iter().zip(b).take_while(alike).count();
     let back = a[front..].iter().rev().zip(b[front..].iter().rev()).take_while(alike).count();
     let (m, n) = (a.len() - back, b.len() - back);
     let mut found: Vec<Cut> = (0..front).map(|k| (k, k)).collect();
-    if (m - front) * (n - front) <= MOST_STAGE_PAIRS {
+    let pairs = (m - front) * (n - front);
+    if pairs <= MOST_STAGE_PAIRS && budget.spend((a.len() + b.len() + pairs / LOOK as usize) as u64) {
         found.extend(in_one_order(&a[front..m], &b[front..n]).into_iter().map(|(i, j)| (front + i, front + j)));
     }
     found.extend((0..back).map(|k| (m + k, n + k)));

@@ -6,7 +6,6 @@ use crate::print::{certificate, position, text_of};
 use crate::read::{MOST_BYTES, MOST_OPEN};
 use crate::single::Form;
 use crate::term::{node, Op, Term};
-use crate::told::{cut, pair_of_lines};
 use crate::tuning::{MOST_BETWEEN, MOST_IMPROVING};
 use crate::ways::Search;
 use crate::wires::Graph;
@@ -14,6 +13,18 @@ use crate::Refusal;
 
 /// The last number of a child that a certificate can name.
 const LAST_CHILD: u32 = 65_535;
+
+/// The most bytes of a text that isn't cut.
+const LINE: usize = 100;
+
+/// How deep in brackets a part may be that is shown of a text that is cut.
+const DEEPEST: usize = 8;
+
+/// The most bytes that are shown of a text of which only a part is.
+const PART: usize = LINE - 4;
+
+/// The most of them that stand before what differs.
+const FRONT: usize = 20;
 
 /// A certificate from a source to a target, each with its input type; or why none is found.
 pub fn certified(source: (Term, Term), target: (Term, Term)) -> Result<String, Refusal> {
@@ -40,14 +51,9 @@ fn within_limits(steps: &[Step]) -> Result<String, Refusal> {
 
 /// How many brackets are open at once in a text.
 fn deepest(text: &str) -> usize {
-    let mut open: usize = 0;
-    let opened = text.bytes().map(|byte| {
-        match byte {
-            b'(' => open += 1,
-            b')' => open = open.saturating_sub(1),
-            _ => {}
-        }
-        open
+    let opened = text.bytes().scan(0usize, |open, byte| {
+        *open = (*open + usize::from(byte == b'(')).saturating_sub(usize::from(byte == b')'));
+        Some(*open)
     });
     opened.max().unwrap_or(0)
 }
@@ -121,4 +127,55 @@ fn first_difference(a: Term, b: Term) -> (Vec<u32>, Term, Term) {
 /// The certificate to what costs less than a network.
 pub fn improving(input: Term, net: Term) -> String {
     certificate(&improved(&Budget::new(MOST_IMPROVING), input, net).1)
+}
+
+/// Both trees, a line each behind `- ` and `+ `; where cutting leaves no difference to see, the part of each round the first byte at which
+/// they differ.
+fn pair_of_lines(before: Term, after: Term) -> String {
+    let (before, after) = (text_of(before), text_of(after));
+    let (mut first, mut second) = (cut(&before), cut(&after));
+    if first == second && before != after {
+        let at = before.bytes().zip(after.bytes()).take_while(|(a, b)| a == b).count();
+        first = around(&before, at);
+        second = around(&after, at);
+    }
+    format!("- {}\n+ {}\n", first, second)
+}
+
+/// The text; a long one with two dots for each part that is too deep in brackets, as deep as a line holds; else its first word, and two dots
+/// for the rest.
+fn cut(whole: &str) -> String {
+    if whole.len() <= LINE {
+        return whole.to_string();
+    }
+    let fitting = (1..=DEEPEST).rev().map(|most| to_depth(whole, most)).find(|shown| shown.len() <= LINE);
+    fitting.unwrap_or_else(|| format!("{} ..)", whole.split(' ').next().unwrap_or("")))
+}
+
+/// The text with two dots for each part in so many brackets.
+fn to_depth(whole: &str, most: usize) -> String {
+    let mut text = String::new();
+    let mut depth = 0;
+    for c in whole.chars() {
+        if depth == most && c == '(' {
+            text.push_str("..");
+        } else if depth <= most {
+            text.push(c);
+        }
+        match c {
+            '(' => depth += 1,
+            ')' => depth -= 1,
+            _ => {}
+        }
+    }
+    text
+}
+
+/// The part of a text round a byte, with two dots for what stands before and behind.
+fn around(whole: &str, at: usize) -> String {
+    let from = at.saturating_sub(FRONT).min(whole.len());
+    let to = whole.len().min(from + PART);
+    let front = if from > 0 { ".." } else { "" };
+    let back = if to < whole.len() { ".." } else { "" };
+    format!("{}{}{}", front, &whole[from..to], back)
 }

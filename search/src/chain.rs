@@ -125,14 +125,4 @@ impl Draft {
         way.push(0);
         Some(way)
     }
-
-    /// Nests to the right again what `gather` made one tree.
-    pub fn scatter(&mut self, path: &[u32]) -> Option<()> {
-        let mut way = path.to_vec();
-        while parts(self.at(&way)?).map_or(false, |(f, _)| f.op == Op::Seq) {
-            self.forward(laws::NEST, &way)?;
-            way.push(1);
-        }
-        Some(())
-    }
 }

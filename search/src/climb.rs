@@ -4,25 +4,14 @@
 //! which the search goes on, until the two are one or don't get nearer for long.
 use crate::chain::stages;
 use crate::draft::{Budget, Path, Step};
+use crate::improve::Found;
 use crate::laws::{forward, laws_at};
 use crate::memo::Memo;
 use crate::term::{replaced, Op, Term};
 use crate::tuning::{self, LOOK};
 
-/// Two networks, and the steps from where they began.
-pub struct Nearer {
-    /// The one network.
-    pub first: Term,
-    /// The other network.
-    pub second: Term,
-    /// The steps to the one.
-    pub there: Vec<Step>,
-    /// The steps to the other.
-    pub back: Vec<Step>,
-}
-
-/// The nearest two networks that are found from these, by laws up to this version; nothing where these are too large.
-pub fn brought_nearer(budget: &Budget, first: Term, second: Term, version: u8) -> Option<Nearer> {
+/// The nearest two networks that are found from these, by laws up to this version, each with the steps to it; nothing where these are too large.
+pub fn brought_nearer(budget: &Budget, first: Term, second: Term, version: u8) -> Option<(Found, Found)> {
     let pairs = first.size.saturating_mul(second.size);
     let width = tuning::WIDTHS.iter().find(|(most, _)| pairs <= *most)?.1;
     let mut climb = Climb { budget, version, width, taken: vec![], seen: Memo::default(), apart: Memo::default(), next: vec![] };
@@ -92,7 +81,7 @@ impl Climb<'_> {
         let (version, mut places) = (self.version, vec![]);
         add_places(from, beside, &mut vec![], 0, &mut places);
         for (path, here, olds) in places {
-            for law in laws_at(here).filter(|law| law.version() <= version) {
+            for &law in laws_at(here).iter().filter(|law| law.version() <= version) {
                 if !self.budget.spend(1) {
                     return;
                 }
@@ -187,17 +176,12 @@ impl Climb<'_> {
     }
 
     /// A pair, with the steps to it.
-    fn way_to(&self, both: &Both) -> Nearer {
-        let (mut there, mut back) = (vec![], vec![]);
-        let mut last = both.last;
-        while let Some(taken) = last.map(|number| &self.taken[number]) {
-            let steps = if taken.is_first { &mut there } else { &mut back };
-            steps.push(taken.step.clone());
-            last = taken.before;
-        }
-        there.reverse();
-        back.reverse();
-        Nearer { first: both.first, second: both.second, there, back }
+    fn way_to(&self, both: &Both) -> (Found, Found) {
+        let numbers = std::iter::successors(both.last, |&number| self.taken[number].before);
+        let mut all: Vec<&Taken> = numbers.map(|number| &self.taken[number]).collect();
+        all.reverse();
+        let steps = |is_first: bool| all.iter().filter(|taken| taken.is_first == is_first).map(|taken| taken.step.clone()).collect();
+        ((both.first, steps(true)), (both.second, steps(false)))
     }
 }
 

@@ -68,11 +68,6 @@ struct Costs {
 }
 
 impl Costs {
-    /// How many pairs, events and lists a value of the expression is made of anew, in quarters.
-    fn made(&mut self, e: Term) -> u64 {
-        self.weight(e).made
-    }
-
     fn weight(&mut self, e: Term) -> Weight {
         if let Some(&weight) = self.weights.get(&e) {
             return weight;
@@ -109,7 +104,7 @@ impl Costs {
             Op::Arr => total(&[cost::ARR, self.root(kid(0))]),
             Op::Seq => total(&[self.net(kid(0)), self.net(kid(1)), self.between(kid(0), head(kid(1)))]),
             Op::First => total(&[cost::FIRST, self.net(kid(0))]),
-            Op::InitialOut | Op::InitialIn => total(&[cost::INITIAL, self.net(kid(1))]),
+            Op::InitialOut | Op::InitialIn => total(&[cost::CELL, self.net(kid(1))]),
             Op::Par => total(&[cost::MEMBERS, self.members(&net.kids, cost::MEMBER)]),
             Op::LoopPre => {
                 let more = if has_loop(kid(1)) { cost::LOOP_ROUND_LOOP } else { 0 };
@@ -153,11 +148,11 @@ impl Costs {
         }
         let e = stage.kids[0];
         let made = match next {
-            Next::Feedback if e.op == Op::Pair => self.made(e.kids[1]),
-            Next::Feedback => self.made(e) / 2,
-            Next::Stage(next) if is_cell(next) => self.made(e),
+            Next::Feedback if e.op == Op::Pair => self.weight(e.kids[1]).made,
+            Next::Feedback => self.weight(e).made / 2,
+            Next::Stage(next) if is_cell(next) => self.weight(e).made,
             Next::Stage(next) if next.op == Op::Arr && self.led != Led::WithoutHeld => self.held(e, next.kids[0]),
-            Next::Stage(first) if first.op == Op::First && is_cell(first.kids[0]) && e.op == Op::Pair => self.made(e.kids[0]),
+            Next::Stage(first) if first.op == Op::First && is_cell(first.kids[0]) && e.op == Op::Pair => self.weight(e.kids[0]).made,
             Next::Stage(_) | Next::Nothing => 0,
         };
         total(&[made.saturating_mul(cost::FRESH_QUARTER), self.copied(e, next)])
@@ -176,7 +171,7 @@ impl Costs {
         match next.op {
             Op::Pair | Op::Event | Op::List => next.kids.iter().fold(0, |sum, kid| total(&[sum, self.held(e, kid)])),
             Op::If => total(&[self.held(e, next.kids[1]), self.held(e, next.kids[2])]) / 2,
-            _ => part_by(e, next).map_or(0, |part| self.made(part)),
+            _ => part_by(e, next).map_or(0, |part| self.weight(part).made),
         }
     }
 }

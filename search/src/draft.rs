@@ -1,4 +1,5 @@
 //! A network being rewritten, with the steps so far. Each step knows both its trees, so any stretch of steps can be undone.
+use crate::exprs::Aim;
 use crate::laws::{forward, Law};
 use crate::place::Place;
 use crate::term::{Op, Term};
@@ -81,15 +82,6 @@ impl Budget {
     }
 }
 
-/// How far expressions are cleared up.
-#[derive(Clone, Copy, PartialEq, Eq, Debug)]
-pub enum Clearing {
-    /// As far as that costs less.
-    ByCost,
-    /// Always, to their normal form.
-    Always,
-}
-
 /// A network that is rewritten by laws, with the steps so far. Types aren't looked at: who takes the steps does that. A move that doesn't
 /// fit answers `None`, and may leave a draft behind that is to be thrown away.
 #[derive(Clone, Debug)]
@@ -101,7 +93,7 @@ pub struct Draft {
     /// How high it may be.
     pub room: usize,
     /// How far expressions are cleared up.
-    pub clearing: Clearing,
+    pub clearing: Aim,
     /// The steps, in the order in which they were taken.
     pub steps: Vec<Step>,
     /// How many steps there were at the end of each move.
@@ -109,29 +101,25 @@ pub struct Draft {
     place: Place,
 }
 
-/// Where a draft was.
-#[derive(Clone, Debug)]
-pub struct Mark {
-    place: Place,
-    steps: usize,
-}
+/// Where a draft was, and how many steps it had.
+pub type Mark = (Place, usize);
 
 impl Draft {
     /// The network, with no step yet.
-    pub fn new(budget: &Budget, net: Term, olds: usize, clearing: Clearing) -> Draft {
+    pub fn new(budget: &Budget, net: Term, olds: usize, clearing: Aim) -> Draft {
         let place = Place::new(net);
         Draft { budget: budget.clone(), olds, room: MOST_HEIGHT, clearing, steps: vec![], ends: vec![], place }
     }
 
     /// Where it is.
     pub fn mark(&self) -> Mark {
-        Mark { place: self.place.clone(), steps: self.steps.len() }
+        (self.place.clone(), self.steps.len())
     }
 
     /// Goes back to where it was.
     pub fn back_to(&mut self, mark: &Mark) {
-        self.place = mark.place.clone();
-        self.steps.truncate(mark.steps);
+        self.place = mark.0.clone();
+        self.steps.truncate(mark.1);
     }
 
     /// The network.
@@ -162,16 +150,7 @@ impl Draft {
 
     /// The expression of the `arr` at a path.
     pub fn arr_at(&self, path: &[u32]) -> Option<Term> {
-        self.child_of(Op::Arr, path)
-    }
-
-    /// The network inside the `first` at a path.
-    pub fn first_at(&self, path: &[u32]) -> Option<Term> {
-        self.child_of(Op::First, path)
-    }
-
-    fn child_of(&self, op: Op, path: &[u32]) -> Option<Term> {
-        self.at(path).filter(|tree| tree.op == op).and_then(|tree| tree.kid(0))
+        self.at(path).filter(|tree| tree.op == Op::Arr).map(|tree| tree.kids[0])
     }
 
     /// Puts a tree at a path that is there, by no step.
@@ -199,13 +178,14 @@ impl Draft {
         Some(())
     }
 
-    /// Takes a step again that stands below a path: the tree there must be the one that it was taken at.
-    pub fn follow(&mut self, path: &[u32], step: &Step) -> Option<()> {
-        let step = step.below(path);
-        self.at(&step.at).filter(|&tree| tree == step.before)?;
-        self.put(&step.at, step.after);
-        self.steps.push(step);
-        Some(())
+    /// Takes steps again below a path: where each is taken there must be the tree that it was taken at.
+    pub fn follow(&mut self, path: &[u32], steps: &[Step]) -> Option<()> {
+        steps.iter().map(|step| step.below(path)).try_for_each(|step| {
+            self.at(&step.at).filter(|&tree| tree == step.before)?;
+            self.put(&step.at, step.after);
+            self.steps.push(step);
+            Some(())
+        })
     }
 
     /// Puts a tree at a path, to which steps lead there.

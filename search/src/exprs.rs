@@ -6,10 +6,12 @@ use crate::cost::{expr_cost, is_path, is_simple, own_parts};
 use crate::draft::Budget;
 use crate::laws;
 use crate::memo::{kept, Memo};
+use crate::read::{of, template};
 use crate::sums;
 use crate::term::{node, Op, Term};
 use crate::trail::{Walk, Way};
 use crate::tuning;
+use crate::wires::is_wire;
 use std::cell::{Cell, RefCell};
 use std::cmp::Reverse;
 
@@ -43,11 +45,6 @@ thread_local! {
     static DEPTH: Cell<u32> = const { Cell::new(0) };
 }
 
-/// What costs less than the expression.
-pub fn cheap(budget: &Budget, e: Term) -> Way {
-    within(budget, Aim::Cheap, e)
-}
-
 /// How many steps an expression may take: a check of each goes over all of it.
 fn most_steps(e: Term) -> usize {
     tuning::MOST_EXPRESSION_STEPS.min((tuning::MOST_CHECKED / e.size) as usize)
@@ -78,6 +75,13 @@ pub fn seen_through(budget: &Budget, e: Term, f: Term) -> Option<Term> {
             replaced(budget, e, &views, &mut Memo::default())
         },
     )
+}
+
+/// The expression with others in place of these parts, where it uses its input by them alone.
+pub fn seen_as(budget: &Budget, e: Term, parts: &[(Term, Term)]) -> Option<Term> {
+    let mut views = Views::default();
+    parts.iter().for_each(|&(part, to)| views.put(part, to));
+    replaced(budget, e, &views, &mut Memo::default())
 }
 
 /// The way from e back to `(then f g)`, where f carried into g leads to e, or to another expression of which what costs less, or what has
@@ -118,7 +122,7 @@ pub fn as_late(budget: &Budget, e: Term) -> Option<Way> {
     if e.op != Op::Pair {
         return None;
     }
-    as_then(budget, e, pair(e.kids[0], input()), on_right(e.kids[1]))
+    as_then(budget, e, pair(e.kids[0], input()), of("RIGHT(g)", &[('g', e.kids[1])]))
 }
 
 /// `(on x (none T) (event (then (snd x) g)))`, of the expression that is that.
@@ -127,7 +131,7 @@ pub fn as_map(budget: &Budget, e: Term) -> Option<Way> {
     if !is_map {
         return None;
     }
-    let back = looked_through(budget, e.kids[2].kids[0], second_input())?;
+    let back = looked_through(budget, e.kids[2].kids[0], template("(snd x)"))?;
     let body = e.kids[2].with_kid(0, back.to);
     Some(Way { to: e.with_kid(2, body), trail: back.trail.below(&[2, 0]) })
 }
@@ -135,16 +139,6 @@ pub fn as_map(budget: &Budget, e: Term) -> Option<Way> {
 /// `x`.
 pub fn input() -> Term {
     node(Op::Input, &[])
-}
-
-/// `(fst x)`.
-pub fn first_input() -> Term {
-    node(Op::Fst, &[input()])
-}
-
-/// `(snd x)`.
-pub fn second_input() -> Term {
-    node(Op::Snd, &[input()])
 }
 
 /// `(pair a b)`.
@@ -157,17 +151,8 @@ pub fn then(f: Term, g: Term) -> Term {
     node(Op::Then, &[f, g])
 }
 
-/// `(pair (then (fst x) g) (snd x))`: the left part alone is changed.
-pub fn on_left(g: Term) -> Term {
-    pair(then(first_input(), g), second_input())
-}
-
-/// `(pair (fst x) (then (snd x) g))`: the right part alone is changed.
-pub fn on_right(g: Term) -> Term {
-    pair(first_input(), then(second_input(), g))
-}
-
-fn reached(budget: &Budget, aim: Aim, e: Term) -> Way {
+/// What the aim leads to from the expression.
+pub fn reached(budget: &Budget, aim: Aim, e: Term) -> Way {
     if aim == Aim::Normal {
         normal(budget, e)
     } else {
@@ -286,9 +271,22 @@ fn settled(budget: &Budget, aim: Aim, e: Term) -> Way {
         if is_certain && walk.now.op == Op::Then {
             walk.then(|now| pushed(budget, aim, now));
         }
-        if aim == Aim::Cheap {
-            walk.then(|now| taken_out(budget, now));
+        match aim {
+            Aim::Cheap => walk.then(|now| taken_out(budget, now)),
+            _ => walk.then(|now| looked_at_once(budget, aim, now)),
         }
+    })
+}
+
+/// An `on` of an `on` whose branches tell whether there is an event, as one.
+fn looked_at_once(budget: &Budget, aim: Aim, e: Term) -> Way {
+    let is_told = |branch: &Term| matches!(branch.op, Op::Event | Op::NoEvent);
+    if e.op != Op::On || e.kids[0].op != Op::On || !e.kids[0].kids[1..].iter().all(is_told) {
+        return Way::still(e);
+    }
+    Way::made(e, |walk| {
+        walk.forward(laws::ON_OUT);
+        walk.then(|now| improved(budget, aim, now));
     })
 }
 
@@ -338,7 +336,7 @@ fn kept_before(budget: &Budget, f: Term, e: Term) -> Way {
 /// `(then (pair a b) e)`, where this part of the pair puts parts of the input together: the input in its place, of which e takes those.
 fn rearranged(budget: &Budget, f: Term, e: Term, k: usize) -> Option<Way> {
     let part = f.kid(k).filter(|&part| f.op == Op::Pair && part.op == Op::Pair && is_put_together(part) && !is_put_together(f))?;
-    let wanted = if k == 0 { on_left(part) } else { on_right(part) };
+    let wanted = of(if k == 0 { "LEFT(g)" } else { "RIGHT(g)" }, &[('g', part)]);
     let rest = improved(budget, Aim::Plain, wanted).to;
     let back = as_then(budget, f, f.with_kid(k, input()), rest)?;
     Some(Way::made(then(f, e), |walk| {
@@ -353,8 +351,8 @@ fn narrowed(budget: &Budget, f: Term, e: Term) -> Option<Way> {
     if f.op != Op::Pair {
         return None;
     }
-    let first = narrowed_to(budget, f, e, first_input(), laws::FST_OF_PAIR);
-    first.or_else(|| narrowed_to(budget, f, e, second_input(), laws::SND_OF_PAIR))
+    let first = narrowed_to(budget, f, e, template("(fst x)"), laws::FST_OF_PAIR);
+    first.or_else(|| narrowed_to(budget, f, e, template("(snd x)"), laws::SND_OF_PAIR))
 }
 
 /// The same for the part at which it looks, which the law picks.
@@ -372,7 +370,7 @@ fn narrowed_to(budget: &Budget, f: Term, e: Term, look: Term, picks: laws::Law) 
     }))
 }
 
-/// The expression with what is seen written in its place; nothing where the input is left.
+/// The expression with what is seen written in its place; nothing where the input is left, or a wire.
 fn replaced(budget: &Budget, e: Term, views: &Views, done: &mut Memo<Term, Option<Term>>) -> Option<Term> {
     if let Some(&to) = views.seen.get(&e) {
         return Some(to);
@@ -380,7 +378,7 @@ fn replaced(budget: &Budget, e: Term, views: &Views, done: &mut Memo<Term, Optio
     if let Some(&found) = done.get(&e) {
         return found;
     }
-    if e.op == Op::Input || !budget.spend(1) {
+    if e.op == Op::Input || is_wire(e) || !budget.spend(1) {
         return None;
     }
     let found = replaced_parts(budget, e, views, done);
@@ -405,11 +403,11 @@ fn replaced_parts(budget: &Budget, e: Term, views: &Views, done: &mut Memo<Term,
 fn lifted(budget: &Budget, views: &Views) -> Views {
     let mut lifted = Views::default();
     for &(from, to) in &views.all {
-        let from = pushed(budget, Aim::Plain, then(first_input(), from)).to;
-        let to = pushed(budget, Aim::Plain, then(first_input(), to)).to;
+        let from = pushed(budget, Aim::Plain, then(template("(fst x)"), from)).to;
+        let to = pushed(budget, Aim::Plain, then(template("(fst x)"), to)).to;
         lifted.put(from, to);
     }
-    lifted.put(second_input(), second_input());
+    lifted.put(template("(snd x)"), template("(snd x)"));
     lifted
 }
 
@@ -421,12 +419,12 @@ fn looked_through(budget: &Budget, e: Term, f: Term) -> Option<Way> {
 
 /// The way from e back to `(then f g)`, where f carried into g leads to e.
 fn back_to_then(budget: &Budget, e: Term, f: Term, g: Term) -> Option<Way> {
-    let way = pushed(budget, Aim::Plain, then(f, g));
+    let way = carried(budget, f, g);
     (way.to == e).then(|| Way { to: then(f, g), trail: way.trail.undone() })
 }
 
 fn as_part(budget: &Budget, e: Term, changed: usize) -> Option<Way> {
-    let looks = [first_input(), second_input()];
+    let looks = [template("(fst x)"), template("(snd x)")];
     let mut walk = Walk::of(e);
     if e.op == Op::Input {
         walk.backward(laws::PAIR_OF_PARTS, pair(looks[0], looks[1]));
@@ -627,7 +625,7 @@ fn begins_with(path: Term, other: Term) -> bool {
 /// The path in the body of an `on`, where the input is the first part.
 fn behind_first(path: Term) -> Term {
     match path.op {
-        Op::Input => first_input(),
+        Op::Input => template("(fst x)"),
         _ => path.with_kid(0, behind_first(path.kids[0])),
     }
 }

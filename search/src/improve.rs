@@ -4,11 +4,12 @@
 //! meanwhile: at the end the moves are taken as a check would take them, and one that it would reject is left out.
 use crate::chain::{behind, front, head, length, rest, seq, stage_way, stages};
 use crate::cost::{be_led, cost_before, has_lists, net_cost, Led, Next};
-use crate::draft::{joined, Budget, Clearing, Draft, Step};
+use crate::draft::{joined, Budget, Draft, Step};
+use crate::exprs::Aim;
 use crate::joining::loops_made_one;
 use crate::laws;
 use crate::memo::Memo;
-use crate::moves::{cells_behind, windows, Built, Move, Shape, MOVES, WIDEST};
+use crate::moves::{cells_behind, window, windows, Built, Move, MOVES, WIDEST};
 use crate::optimise::optimised;
 use crate::print;
 use crate::read::MOST_BYTES;
@@ -17,6 +18,7 @@ use crate::single::normal_form;
 use crate::term::{Op, Term};
 use crate::tuning;
 use crate::types::Replay;
+use crate::wires::states_of;
 
 /// The most steps of a certificate.
 pub const MOST_STEPS: usize = 10_000;
@@ -37,6 +39,12 @@ pub fn improved(budget: &Budget, input: Term, source: Term) -> Found {
         found.into_iter().for_each(|found| take_if_better(&mut best, found));
     }
     best
+}
+
+/// What the search makes of a network, whatever its types are, where so many frozen networks are in scope.
+pub fn cheaper(budget: &Budget, net: Term, olds: usize) -> Found {
+    let made = Search::new().made(budget, net, olds);
+    (made.net(), made.steps)
 }
 
 /// What is found. What `optimise` makes isn't searched where the first was more than a certificate holds.
@@ -61,14 +69,14 @@ fn take_if_better(best: &mut Found, found: Found) {
 }
 
 /// Whether steps are within the limits of certificates.
-fn fits(steps: &[Step]) -> bool {
+pub fn fits(steps: &[Step]) -> bool {
     steps.len() <= MOST_STEPS && print::length(steps) <= MOST_BYTES
 }
 
 /// What the search makes of a network, and of that with loops made one, where this costs less and a certificate holds it.
 fn searched(search: &mut Search, budget: &Budget, input: Term, source: Term) -> Found {
     let before = budget.left();
-    let found = taken(input, source, search.moves(budget, source));
+    let found = taken(input, source, moves_of(&search.made(budget, source, 0)));
     let room = search.room;
     if search.is_full() {
         return found;
@@ -79,7 +87,7 @@ fn searched(search: &mut Search, budget: &Budget, input: Term, source: Term) -> 
         return found;
     }
     let (net, steps) = taken(input, found.0, joined);
-    let (net, more) = taken(input, net, search.moves(&few, net));
+    let (net, more) = taken(input, net, moves_of(&search.made(&few, net, 0)));
     search.room = room;
     let all = [found.1.clone(), steps, more].concat();
     if net_cost(net) < net_cost(found.0) && fits(&all) {
@@ -91,13 +99,8 @@ fn searched(search: &mut Search, budget: &Budget, input: Term, source: Term) -> 
 
 /// The steps of a draft, by moves.
 fn moves_of(draft: &Draft) -> Vec<Vec<Step>> {
-    let mut begin = 0;
-    let mut moves = vec![];
-    for end in draft.ends.iter().copied().chain([draft.steps.len()]) {
-        moves.push(draft.steps[begin..end].to_vec());
-        begin = end;
-    }
-    moves
+    let ends = [&[0], &draft.ends[..], &[draft.steps.len()]].concat();
+    ends.windows(2).map(|ends| draft.steps[ends[0]..ends[1]].to_vec()).collect()
 }
 
 /// The network to which the moves lead, as far as a certificate has room for their steps, but for those that a check would reject.
@@ -128,7 +131,7 @@ fn made_again(replay: &Replay, made: &[Step]) -> Option<Vec<Step>> {
     if replay.at(&first.at) == Some(first.before) {
         return Some(made.to_vec());
     }
-    let mut draft = Draft::new(&Budget::new(u64::MAX), replay.net(), 0, Clearing::ByCost);
+    let mut draft = Draft::new(&Budget::new(u64::MAX), replay.net(), 0, Aim::Cheap);
     for step in made {
         match (step.law, step.ahead) {
             (laws::NEST, false) => draft.back(laws::NEST, &step.at)?,
@@ -148,19 +151,15 @@ type Case = (Term, Next, usize, usize, u32);
 struct Search {
     room: (usize, usize),
     forming: u64,
-    shapes: Vec<(&'static Move, Shape)>,
+    moves: Vec<(&'static Move, Option<Term>)>,
     tries: u32,
     built: Memo<Case, Option<Draft>>,
     parts: Memo<Case, Draft>,
     fruitless: Memo<Case, ()>,
 }
 
-/// A move that pays, of so many stages, and what it makes of them.
-struct Paying {
-    moved: &'static Move,
-    stages: usize,
-    made: Draft,
-}
+/// How many stages a move that pays is made of, and what it makes of them.
+type Paying = (usize, Draft);
 
 fn case_of(draft: &Draft, next: Next, depth: u32) -> Case {
     let net = draft.net();
@@ -170,18 +169,18 @@ fn case_of(draft: &Draft, next: Next, depth: u32) -> Case {
 
 impl Search {
     fn new() -> Search {
-        let shapes = MOVES.iter().map(|moved| (moved, moved.shape())).collect();
-        Search { room: (0, 0), forming: 0, shapes, tries: 0, built: Memo::default(), parts: Memo::default(), fruitless: Memo::default() }
+        let moves = MOVES.iter().map(|moved| (moved, moved.form())).collect();
+        Search { room: (0, 0), forming: 0, moves, tries: 0, built: Memo::default(), parts: Memo::default(), fruitless: Memo::default() }
     }
 
-    /// The moves that make a network cost less.
-    fn moves(&mut self, budget: &Budget, net: Term) -> Vec<Vec<Step>> {
+    /// What moves make of a network that makes it cost less, where so many frozen networks are in scope.
+    fn made(&mut self, budget: &Budget, net: Term, olds: usize) -> Draft {
         self.tries = tuning::MOST_TRIES;
         self.forming = tuning::MOST_FORMING;
         self.room = (MOST_STEPS, MOST_BYTES);
-        let mut draft = Draft::new(budget, net, 0, Clearing::ByCost);
+        let mut draft = Draft::new(budget, net, olds, Aim::Cheap);
         self.improve(&mut draft, Next::Nothing);
-        moves_of(&draft)
+        draft
     }
 
     /// Counts steps that were found, not those of what stands in the network.
@@ -291,17 +290,17 @@ impl Search {
         chain.flatten(&[])?;
         chain.end_move();
         let mut stages = Stages::of(chain.net());
-        let mut place = stages.count();
+        let mut place = stages.stages.len();
         for _ in 0..tuning::MOST_PLACES {
             if place == 0 || self.is_full() || !chain.budget.spend(place as u64) {
                 break;
             }
             place -= 1;
             if let Some(paying) = self.find(chain, stages.from(place), next, depth) {
-                let reach = place + 1 + paying.stages;
-                let count = stages.count();
+                let reach = place + 1 + paying.0;
+                let count = stages.stages.len();
                 stages.put(place, &paying)?;
-                place = (reach + stages.count()).saturating_sub(count).min(stages.count());
+                place = (reach + stages.stages.len()).saturating_sub(count).min(stages.stages.len());
             }
         }
         stages.end(chain)
@@ -314,12 +313,10 @@ impl Search {
             return None;
         }
         let windows = windows(here);
-        let found = (0..self.shapes.len()).find_map(|k| {
-            let (moved, shape) = &self.shapes[k];
-            let (moved, window) = (*moved, shape.of(here, &windows)?);
-            let stages = length(window);
-            let made = self.attempt(chain, here, moved, window, next, depth)?;
-            Some(Paying { moved, stages, made })
+        let found = (0..self.moves.len()).find_map(|k| {
+            let (moved, form) = self.moves[k];
+            let window = window(form, here, &windows)?;
+            Some((length(window), self.attempt(chain, here, moved, window, next, depth)?))
         });
         if let (None, Some(case), true) = (&found, case, chain.budget.left() > 0) {
             self.fruitless.insert(case, ());
@@ -357,7 +354,7 @@ impl Search {
 
     /// Improves the networks that a move built.
     fn improve_built(&mut self, made: &mut Draft, built: Built, depth: u32) -> Option<()> {
-        let next = if built == Built::Body { Next::Feedback } else { Next::Nothing };
+        let next = if made.net().op == Op::LoopPre { Next::Feedback } else { Next::Nothing };
         built.places(made.net()).iter().try_for_each(|path| self.improve_at(made, path, next, depth))
     }
 
@@ -387,20 +384,12 @@ impl Search {
 /// How much stands in a network: what its loops, cells and accumulators keep, and all that isn't made of these, `first`s and `arr`s.
 fn contents(net: Term) -> u64 {
     let own = match net.op {
-        Op::LoopPre | Op::IPre | Op::Hold => leaves(net.kids[0]),
-        Op::AccumBy => leaves(net.kids[1]),
+        Op::LoopPre | Op::IPre | Op::Hold => states_of(net.kids[0]).len() as u64,
+        Op::AccumBy => states_of(net.kids[1]).len() as u64,
         Op::Arr | Op::Seq | Op::First => 0,
         _ => 1,
     };
     net.kids.iter().filter(|kid| kid.op.is_net()).fold(own, |sum, kid| sum.saturating_add(contents(kid)))
-}
-
-/// How many parts a value has that are no pairs.
-fn leaves(e: Term) -> u64 {
-    match e.op {
-        Op::Pair => leaves(e.kids[0]).saturating_add(leaves(e.kids[1])),
-        _ => 1,
-    }
 }
 
 /// Improves the expressions of the chain's `arr`s.
@@ -430,32 +419,29 @@ impl Stages {
         Stages { stages: stages(chain), rests: vec![], moves: vec![] }
     }
 
-    fn count(&self) -> usize {
-        self.stages.len()
-    }
-
     /// The chain from a place on.
     fn from(&mut self, place: usize) -> Term {
-        while self.rests.len() < self.count() - place {
-            let stage = self.stages[self.count() - 1 - self.rests.len()];
+        while self.rests.len() < self.stages.len() - place {
+            let stage = self.stages[self.stages.len() - 1 - self.rests.len()];
             self.rests.push(self.rests.last().map_or(stage, |more| seq(stage, more)));
         }
-        self.rests[self.count() - 1 - place]
+        self.rests[self.stages.len() - 1 - place]
     }
 
     /// Puts what a move makes in place of the stages, where so many stand before.
     fn put(&mut self, place: usize, paying: &Paying) -> Option<()> {
-        let Paying { moved, stages: count, made } = paying;
-        let behind_them = self.count() - place - count;
+        let (count, made) = paying;
+        let behind_them = self.stages.len() - place - count;
         let mut here = Draft::new(&Budget::new(u64::MAX), self.from(place), made.olds, made.clearing);
-        if moved.fuses() && made.net().op == Op::Arr && behind_them > 0 {
-            // In place of its first step, which makes one `arr` of two, the law that has a stage behind them.
+        let fuses = made.steps.first().map_or(false, |step| step.law == laws::FUSE && step.ahead && step.at.is_empty());
+        if fuses && made.net().op == Op::Arr && behind_them > 0 {
+            // In place of the first step, which makes one `arr` of two, the law that has a stage behind them.
             here.forward(laws::FUSE_FRONT, &[])?;
             here.took(&[0], made.net(), &made.steps[1..])?;
         } else {
             let whole = here.gather(&[], 0, *count)?;
             here.adopt(&whole, made)?;
-            here.scatter(&[])?;
+            here.flatten(&[])?;
         }
         self.stages.splice(place..place + count, stages(made.net()));
         self.rests.truncate(behind_them);
@@ -483,8 +469,7 @@ mod tests {
 
     /// What is found for a network of numbers, by steps that a check takes.
     fn found(net: &str) -> (Term, Term) {
-        let read = |net: &str| read_file(format!("yampa 1 input Int {}", net).as_bytes()).expect("a network");
-        let (input, net) = read(net);
+        let (input, net) = read_file(format!("yampa 1 input Int {}", net).as_bytes()).expect("a network");
         let (better, steps) = improved(&Budget::new(tuning::MOST_IMPROVING), input, net);
         assert!(lead(input, net, better, &steps));
         assert!(net_cost(better) <= net_cost(net));
@@ -498,16 +483,14 @@ mod tests {
 
     #[test]
     fn forms_of_moves_are_read() {
-        assert!(MOVES.iter().all(|moved| match moved.shape() {
-            Shape::Stages(count, _) => (1..=crate::moves::WIDEST).contains(&count),
-            Shape::Cells => true,
-        }));
+        assert!(MOVES.iter().all(|moved| moved.form().map_or(true, |form| (1..=WIDEST).contains(&length(form)))));
     }
 
     #[test]
     fn stages_become_one() {
         is_found("(>>> (arr (add x 1)) (arr (add x 2)))", "(arr (add x 3))");
         is_found("(>>> (>>> time (iPre 0)) (>>> (arr x) time))", "time");
+        is_found("(>>> time (>>> (arr 5) (>>> (iPre 5) (delay 3 5))))", "(arr 5)");
     }
 
     #[test]
@@ -566,11 +549,6 @@ mod tests {
         let (net, better) =
             found("(>>> (arr (mul (add (mul x 3) 7) (mul (sub (mul x 5) 2) (add (mul x 11) 13)))) (parB integral (iPre 0)))");
         assert_eq!(net, better);
-    }
-
-    #[test]
-    fn constants_pass_cells() {
-        is_found("(>>> time (>>> (arr 5) (>>> (iPre 5) (delay 3 5))))", "(arr 5)");
     }
 
     #[test]

@@ -1,17 +1,15 @@
 //! Loops and cells made one loop round one `arr`.
 use crate::chain::{before_chain, behind, front, head, length, rest, stage_way};
 use crate::cost::net_cost;
-use crate::draft::{joined, Budget, Clearing, Draft, Path, Step};
-use crate::laws;
-use crate::read::of;
+use crate::draft::{joined, Budget, Draft, Path, Step};
+use crate::exprs::Aim;
 use crate::single::single;
 use crate::term::{Op, Term};
 use crate::tuning;
-use crate::types::told_type;
 
 /// Moves that make loops and cells of the network, of which some are in a `first`, one loop, where that costs much less.
 pub fn loops_made_one(budget: &Budget, net: Term) -> Vec<Vec<Step>> {
-    let mut joining = Joining { draft: Draft::new(budget, net, 0, Clearing::ByCost), todo: vec![vec![]], moves: vec![] };
+    let mut joining = Joining { draft: Draft::new(budget, net, 0, Aim::Cheap), todo: vec![vec![]], moves: vec![] };
     while let Some(way) = joining.todo.pop() {
         if joining.join_at(&way).is_none() {
             break;
@@ -62,7 +60,7 @@ impl Joining {
             if let Some(made) = self.made_one(path, here, stages) {
                 let way = self.draft.gather(path, stage, stages)?;
                 self.draft.adopt(&way, &made)?;
-                self.draft.scatter(&behind(path, stage))?;
+                self.draft.flatten(&behind(path, stage))?;
                 self.moves.push(std::mem::take(&mut self.draft.steps));
                 return Some(());
             }
@@ -77,57 +75,32 @@ impl Joining {
         if rest(here, stages).map_or(false, |more| head(more).op == Op::First) {
             return None;
         }
-        let enough = Parts::of(window)?.most_cost(net_cost(window))?;
-        let mut made = Draft::new(&self.draft.budget, window, self.draft.olds_at(path), Clearing::ByCost);
+        let enough = most_cost(window)?;
+        let mut made = Draft::new(&self.draft.budget, window, self.draft.olds_at(path), Aim::Cheap);
         single(&mut made, &[])?;
         self.draft.budget.spend(made.steps.len() as u64);
         Some(made).filter(|made| net_cost(made.net()) <= enough)
     }
 }
 
-/// What a network is made of, beside `arr`s and chains.
-#[derive(Clone, Copy, Default)]
-struct Parts {
-    firsts: u64,
-    states: u64,
-}
-
-impl Parts {
-    /// What the network is made of; nothing where there are others in it than `arr`s, `first`s, loops and cells, or many.
-    fn of(net: Term) -> Option<Parts> {
-        let mut found = Parts::default();
-        let mut todo = vec![net];
-        for _ in 0..tuning::MOST_JOINED_NETS {
-            let net = match todo.pop() {
-                Some(net) => net,
-                None => return Some(found),
-            };
-            match net.op {
-                Op::Arr | Op::Seq => {}
-                Op::IPre | Op::Hold | Op::AccumBy | Op::LoopPre => found.states += 1,
-                Op::First => found.firsts += 1,
-                _ => return None,
-            }
-            todo.extend(net.kids.iter().filter(|kid| kid.op.is_net()));
+/// What one loop of what stands in the network may cost at most: a part less than that costs, and less for each state beyond two. Nothing where
+/// no `first` stands beside a loop or a cell, or others than these and `arr`s, or many.
+fn most_cost(net: Term) -> Option<u64> {
+    let (mut firsts, mut states): (u64, u64) = (0, 0);
+    let mut todo = vec![net];
+    for _ in 0..tuning::MOST_JOINED_NETS {
+        let part = match todo.pop() {
+            Some(part) => part,
+            None => break,
+        };
+        match part.op {
+            Op::Arr | Op::Seq => {}
+            Op::IPre | Op::Hold | Op::AccumBy | Op::LoopPre => states += 1,
+            Op::First => firsts += 1,
+            _ => return None,
         }
-        None
+        todo.extend(part.kids.iter().filter(|kid| kid.op.is_net()));
     }
-
-    /// What one loop of them may cost at most, where they cost so much: a part less, and less for each state beyond two. Nothing where no
-    /// `first` stands beside a loop or a cell.
-    fn most_cost(self, cost: u64) -> Option<u64> {
-        if self.firsts == 0 || self.states == 0 {
-            return None;
-        }
-        let more = self.states.saturating_sub(2).saturating_mul(tuning::STATE);
-        Some((cost - cost / tuning::LEAST_SAVED).saturating_sub(more))
-    }
-}
-
-/// Makes the accumulator at a path a loop, where the type of its values is known; whether it is.
-pub fn accumulator_as_loop(w: &mut Draft, path: &[u32]) -> Option<bool> {
-    let net = w.at(path)?;
-    let (g, start) = (net.kids[0], net.kids[1]);
-    let found = told_type(start).map(|carried| of("(loopPre z (arr ACCUM(g)))", &[('g', g), ('z', start), ('T', carried)]));
-    found.map_or(Some(false), |found| w.backward(laws::LOOP_ACCUM, path, found).map(|()| true))
+    let (cost, more) = (net_cost(net), states.saturating_sub(2).saturating_mul(tuning::STATE));
+    Some((cost - cost / tuning::LEAST_SAVED).saturating_sub(more)).filter(|_| todo.is_empty() && firsts > 0 && states > 0)
 }

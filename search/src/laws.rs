@@ -1,7 +1,9 @@
 //! The laws, from left to right: those of tools/workbench/laws.tsv that are two patterns, and the others by hand.
 use crate::cost::own_parts;
+use crate::memo::{kept, Memo};
 use crate::read::{filled, fits, template, Letters};
 use crate::term::{int, node, truth, Op, Term};
+use crate::types::MOST_MEMBERS;
 use std::cell::RefCell;
 use std::fmt;
 use std::rc::Rc;
@@ -66,9 +68,6 @@ names! { l:
 /// The table that the tools in Python read too: a law a line, its name, its sides, and words on its letters.
 const TABLE: &str = include_str!("../../tools/workbench/laws.tsv");
 
-/// The most members of a `parB` that a law makes.
-const MOST_MEMBERS: usize = 64;
-
 impl fmt::Display for Law {
     fn fmt(&self, f: &mut fmt::Formatter<'_>) -> fmt::Result {
         write!(f, "{}{}", if self.is_of_nets { "L" } else { "E" }, self.number)
@@ -97,38 +96,28 @@ impl Law {
 }
 
 /// The laws that may be taken forward at a tree, by its form, in their order.
-pub fn laws_at(term: Term) -> impl Iterator<Item = Law> {
+pub fn laws_at(term: Term) -> Rc<[Law]> {
     thread_local! {
-        static LAWS: RefCell<Vec<Option<Rc<[Law]>>>> = RefCell::new(vec![None; Op::Scope as usize + 1]);
+        static LAWS: RefCell<Memo<Op, Rc<[Law]>>> = RefCell::default();
     }
-    let laws = LAWS.with(|laws| laws.borrow_mut()[term.op as usize].get_or_insert_with(|| laws_of_form(term.op)).clone());
-    (0..laws.len()).map(move |k| laws[k])
+    let of_form = |law: &Law| sides_of(*law).map_or(true, |(left, _)| left.op == term.op || left.op == Op::Letter);
+    kept(
+        &LAWS,
+        term.op,
+        || true,
+        || if term.op.is_net() { of_nets().filter(of_form).collect() } else { of_exprs().filter(of_form).collect() },
+    )
 }
 
-/// The laws that may be taken forward at trees of a form.
-fn laws_of_form(op: Op) -> Rc<[Law]> {
-    let all = if op.is_net() { (1..=LAST_OF_NETS).map(l as fn(u8) -> Law) } else { (1..=LAST_OF_EXPRS).map(e as fn(u8) -> Law) };
-    let of_form = |law: &Law| sides_of(*law).map_or(true, |(left, _)| left.op == op || left.op == Op::Letter);
-    all.filter(of_form).collect()
+/// All laws of expressions.
+fn of_exprs() -> impl Iterator<Item = Law> {
+    (1..=LAST_OF_EXPRS).map(e)
 }
 
-/// The laws that are no two patterns.
-const BY_HAND: [Law; 14] = [
-    INTO_PARTS,
-    CONSTANT_BEHIND,
-    COMPUTE,
-    NTH_KNOWN,
-    AND_OR,
-    EQUAL,
-    IF_OUT,
-    SOURCE,
-    K_SWITCH_RESUMED,
-    P_SWITCH_NEVER,
-    MEMBER,
-    MEMBERS_IN,
-    MEMBERS_ARR,
-    RP_SWITCH_NEVER,
-];
+/// All laws of networks.
+fn of_nets() -> impl Iterator<Item = Law> {
+    (1..=LAST_OF_NETS).map(l)
+}
 
 /// The patterns of a law that is two.
 pub type Sides = Option<(Term, Term)>;
@@ -137,9 +126,11 @@ pub type Sides = Option<(Term, Term)>;
 fn read_table() -> Vec<Sides> {
     let rows: Vec<Vec<&'static str>> = TABLE.lines().map(|line| line.split('\t').collect()).collect();
     let mut sides = vec![None];
-    for law in (1..=LAST_OF_EXPRS).map(e).chain((1..=LAST_OF_NETS).map(l)) {
+    for law in of_exprs().chain(of_nets()) {
         let row = rows.iter().find(|row| row[0] == law.to_string()).expect("a row of each law");
-        sides.push(if BY_HAND.contains(&law) { None } else { Some((template(row[1]), template(row[2]))) });
+        // In a row that is more than two patterns there are words, or dots for more parts.
+        let is_two = row.len() == 3 && !row[1..].iter().any(|side| side.contains(" where ") || side.contains(" .. "));
+        sides.push(if is_two { Some((template(row[1]), template(row[2]))) } else { None });
     }
     sides
 }
@@ -296,7 +287,7 @@ mod tests {
         let mut count = 0;
         for cells in rows.map(|row| row.split(" | ").collect::<Vec<&'static str>>()) {
             let sides = [cells[2], cells[3]].map(|side| filled(template(side), &[('T', node(Op::IntType, &[]))]));
-            if let Some(law) = laws_at(sides[0]).find(|law| law.to_string() == cells[0]) {
+            if let Some(&law) = laws_at(sides[0]).iter().find(|law| law.to_string() == cells[0]) {
                 assert_eq!(forward(law, sides[0], 0), Some(sides[1]), "{}", law);
                 count += 1;
             }

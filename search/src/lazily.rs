@@ -2,20 +2,20 @@
 //!
 //! A search clears up expressions wherever it comes by. Here its laws of networks are taken again, one by one: on a network of the same form
 //! whose expressions stay as they are until a law asks for one, or the certificate ends.
-use crate::draft::{joined, undone, Budget, Clearing, Draft, Step};
+use crate::draft::{joined, undone, Budget, Draft, Step};
+use crate::exprs::Aim;
 use crate::laws::sides_of;
-use crate::meeting::follow_all;
 use crate::places::ways_between;
 use crate::read::{filled, fits, Letters};
 use crate::term::{Op, Term};
 
 /// Steps that lead from the source to the target as these do.
 pub fn lazily(budget: &Budget, source: Term, target: Term, steps: &[Step]) -> Option<Vec<Step>> {
-    let mut lazy = Draft::new(budget, source, 0, Clearing::Always);
+    let mut lazy = Draft::new(budget, source, 0, Aim::Normal);
     for step in steps.iter().filter(|step| step.law.is_of_nets()) {
         if take(&mut lazy, step).is_none() {
             bring(&mut lazy, &step.at, step.before)?;
-            lazy.follow(&[], step)?;
+            lazy.follow(&[], std::slice::from_ref(step))?;
         }
     }
     bring(&mut lazy, &[], target)?;
@@ -52,7 +52,7 @@ fn bring_asked(lazy: &mut Draft, path: &[u32], pattern: Term, wanted: Term) -> O
 
 /// Brings what stands at a path to what is wanted there.
 fn bring(lazy: &mut Draft, path: &[u32], wanted: Term) -> Option<()> {
-    let ways = ways_between(&lazy.budget, lazy.at(path)?, wanted, lazy.olds_at(path))?;
-    follow_all(lazy, path, &ways.there)?;
-    follow_all(lazy, path, &undone(&ways.back))
+    let (there, back) = ways_between(&lazy.budget, lazy.at(path)?, wanted, lazy.olds_at(path))?;
+    lazy.follow(path, &there)?;
+    lazy.follow(path, &undone(&back))
 }

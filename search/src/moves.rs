@@ -39,12 +39,8 @@ pub enum Act {
 pub enum Built {
     /// None.
     Nothing,
-    /// The one at this place.
-    Inside(At),
-    /// What a loop repeats.
-    Body,
-    /// Both of a switch.
-    Both,
+    /// Those at these places.
+    Inside(&'static [At]),
     /// All members.
     Members,
 }
@@ -54,9 +50,7 @@ impl Built {
     pub fn places(self, made: Term) -> Vec<Path> {
         match self {
             Built::Nothing => vec![],
-            Built::Inside(path) => vec![path.to_vec()],
-            Built::Body => vec![vec![1]],
-            Built::Both => vec![vec![0], vec![1]],
+            Built::Inside(places) => places.iter().map(|place| place.to_vec()).collect(),
             Built::Members => (0..made.kids.len() as u32).map(|k| vec![k]).collect(),
         }
     }
@@ -72,7 +66,7 @@ pub struct Move {
 }
 
 use Act::{Ahead, Any, Back, By, Clear, Open, Rewrite};
-use Built::{Body, Both, Inside, Members, Nothing};
+use Built::{Inside, Members, Nothing};
 
 /// A move.
 const fn row(form: &'static str, script: &'static [Act], built: Built) -> Move {
@@ -104,34 +98,20 @@ pub const MOVES: &[Move] = &[
     row("(>>> (arr e) (first (arr g)))", &[Ahead(laws::FIRST_ARR, &[1]), Ahead(laws::FUSE, &[]), Clear(&[0])], Nothing),
     // (first (arr e)) >>> (arr g) => (arr (then LEFT(e) g))
     row("(>>> (first (arr e)) (arr g))", &[Ahead(laws::FIRST_ARR, &[0]), Ahead(laws::FUSE, &[]), Clear(&[0])], Nothing),
-    // (kSwitch f (arr (none T)) t) => f
-    row("(kSwitch f (arr (none T)) t)", &[Ahead(laws::K_SWITCH_NEVER, &[])], Nothing),
-    // (kSwitch f e (old k)) => f
-    row("(kSwitch f e (old q))", &[Ahead(laws::K_SWITCH_RESUMED, &[])], Nothing),
+    // (kSwitch f (arr (none T)) t) => f, (kSwitch f e (old k)) => f, (switch (arr (pair e v)) (arr e)) => (arr e), also `dSwitch`
+    row("f", &[Any(NO_SWITCH, &[])], Nothing),
     // (switch (f >>> (arr (pair e (none T)))) t) => f >>> (arr e), also `dSwitch`
-    row("(switch f t)", &[By(acts::part_never), Ahead(laws::SWITCH_NEVER, &[])], Nothing),
-    row("(dSwitch f t)", &[By(acts::part_never), Ahead(laws::D_SWITCH_NEVER, &[])], Nothing),
+    row("f", &[By(acts::part_never), Any(&[laws::SWITCH_NEVER, laws::D_SWITCH_NEVER], &[])], Nothing),
     // (pSwitch r (col f ..) (arr (none T)) t) => (parB ((arr r0) >>> f) ..)
     row("f", &[Ahead(laws::P_SWITCH_NEVER, &[])], Members),
-    // (arr (pair e (none T))) >>> (rSwitch f t) => (arr e) >>> f
-    row("(>>> (arr (pair e (none T))) (rSwitch f t))", &[Ahead(laws::R_SWITCH_NEVER, &[])], Nothing),
-    // (arr (pair e (none T))) >>> (drSwitch f t) => (arr e) >>> f
-    row("(>>> (arr (pair e (none T))) (drSwitch f t))", &[Ahead(laws::DR_SWITCH_NEVER, &[])], Nothing),
-    // (switch (arr (pair e v)) (arr e)) => (arr e), also `dSwitch`
-    row("(switch (arr (pair e v)) (arr e))", &[Ahead(laws::SWITCH_SAME, &[])], Nothing),
-    row("(dSwitch (arr (pair e v)) (arr e))", &[Ahead(laws::D_SWITCH_SAME, &[])], Nothing),
-    // (arr (pair e (none T))) >>> (rpSwitchB (col f ..) m t) => (arr e) >>> (parB f ..)
-    row("(>>> (arr (pair e (none T))) f)", &[Ahead(laws::RP_SWITCH_NEVER, &[])], Nothing),
-    // (--> c (--> d f)) => (--> c f)
-    row("(--> c (--> d f))", &[Ahead(laws::INITIAL_TWICE, &[])], Nothing),
-    // (--> c (iPre d)) => (iPre c)
-    row("(--> c (iPre d))", &[Ahead(laws::INITIAL_CELL, &[])], Nothing),
-    // (--> (event c) (arr (none T))) => (after 0 c)
-    row("(--> (event c) (arr (none T)))", &[Ahead(laws::INITIAL_EVENT, &[])], Nothing),
+    // (arr (pair e (none T))) >>> (rSwitch f t) => (arr e) >>> f, also `drSwitch`, and of `rpSwitchB` its members
+    row("(>>> (arr (pair e (none T))) f)", &[Any(NEVER_AGAIN, &[])], Nothing),
+    // (--> c (--> d f)) => (--> c f), (--> c (iPre d)) => (iPre c), (--> (event c) (arr (none T))) => (after 0 c)
+    row("(--> c f)", &[Any(&[laws::INITIAL_TWICE, laws::INITIAL_CELL, laws::INITIAL_EVENT], &[])], Nothing),
     // (--> c (f >>> (iPre d))) => f >>> (iPre c), also where the last stage is another `-->`
     row("(--> c f)", &[By(acts::initial_last), Any(&[laws::INITIAL_TWICE, laws::INITIAL_CELL], &[1])], Nothing),
     // (--> c f) >>> (arr e) => (--> (then c e) (f >>> (arr e)))
-    row("(>>> (--> c f) (arr e))", INITIAL_OUT, Inside(&[1])),
+    row("(>>> (--> c f) (arr e))", INITIAL_OUT, Inside(&[&[1]])),
     // (arr e) >>> (>-- c ((arr g) >>> f)) => (arr (then e g)) >>> (>-- (then c g) f)
     row("(>>> (arr e) (>-- c (>>> (arr g) f)))", INITIAL_IN, Nothing),
     // (arr k) >>> (iPre k) => (arr k), also `delay`
@@ -155,7 +135,7 @@ pub const MOVES: &[Move] = &[
     // (parB f g) >>> (arr (then (nth x 0 d) e)) => f >>> (arr e)
     row("(>>> f (arr e))", &[By(acts::one_heard), Back(laws::FUSE, &[1]), Back(laws::NEST, &[]), Ahead(laws::MEMBER, &[0])], Nothing),
     // (parB f g h) >>> (arr (add (nth x 0 d) (nth x 2 d))) => (parB f h) >>> (arr (add (nth x 0 d) (nth x 1 d)))
-    row("(>>> f (arr e))", &[By(acts::some_heard)], Inside(&[0])),
+    row("(>>> f (arr e))", &[By(acts::some_heard)], Inside(&[&[0]])),
     // (parB (arr e) (arr g)) => (arr (list T e g))
     row("f", &[By(acts::members_as_arr)], Nothing),
     // (parB (f >>> g) (f >>> h)) => f >>> (parB g h)
@@ -173,7 +153,7 @@ pub const MOVES: &[Move] = &[
     // (first (delay q c)) >>> (arr SWAP) >>> (first (delay q d)) >>> (arr SWAP) => (delay q (pair c d))
     row("(>>> (first (delay q c)) (>>> (arr SWAP) (>>> (first (delay q d)) (arr SWAP))))", &[Back(laws::DELAY_PAIR, &[])], Nothing),
     // (first f) >>> (first g) => (first (f >>> g))
-    row("(>>> (first f) (first g))", &[Back(laws::FIRST_CHAIN, &[])], Inside(&[0])),
+    row("(>>> (first f) (first g))", &[Back(laws::FIRST_CHAIN, &[])], Inside(&[&[0]])),
     // (loopPre c (first f)) => f
     row("(loopPre c (first f))", &[Ahead(laws::LOOP_UNHEARD, &[])], Nothing),
     // (loopPre c (arr LEFT(e))) => (arr e)
@@ -181,17 +161,17 @@ pub const MOVES: &[Move] = &[
     // (loopPre c ((first f) >>> g)) => f >>> (loopPre c g)
     row("(loopPre c (>>> (first f) g))", &[Back(laws::LOOP_IN, &[])], Nothing),
     // (loopPre c (loopPre d f)) => (loopPre (pair c d) ((arr UNASSOC) >>> f >>> (arr ASSOC)))
-    row("(loopPre c (loopPre d f))", &[Ahead(laws::LOOP_INNER, &[]), Clear(&[0])], Body),
+    row("(loopPre c (loopPre d f))", &[Ahead(laws::LOOP_INNER, &[]), Clear(&[0])], Inside(&[&[1]])),
     // (loopPre c f) >>> g => (loopPre c (f >>> (first g)))
-    row("(>>> (loopPre c f) g)", &[Ahead(laws::LOOP_OUT, &[]), Open(&[1, 1])], Body),
+    row("(>>> (loopPre c f) g)", &[Ahead(laws::LOOP_OUT, &[]), Open(&[1, 1])], Inside(&[&[1]])),
     // f >>> (loopPre c g) => (loopPre c ((first f) >>> g))
-    row("(>>> f (loopPre c g))", &[Ahead(laws::LOOP_IN, &[]), Open(&[1, 0])], Body),
+    row("(>>> f (loopPre c g))", &[Ahead(laws::LOOP_IN, &[]), Open(&[1, 0])], Inside(&[&[1]])),
     // (arr e) >>> (iPre c) >>> .. >>> (arr g) => (arr (then e g)) >>> (iPre (then c g)) >>> ..
     row(CELLS, &[By(acts::pass), Ahead(laws::FUSE_FRONT, &[]), Clear(&[0, 0])], Nothing),
     // (arr e) >>> (first ((arr g) >>> f)) => (arr (then e LEFT(g))) >>> (first f)
-    row("(>>> (arr e) (first (>>> (arr g) f)))", FRONT_OF_FIRST, Inside(&[1, 0])),
+    row("(>>> (arr e) (first (>>> (arr g) f)))", FRONT_OF_FIRST, Inside(&[&[1, 0]])),
     // (first (f >>> (arr g))) >>> (arr e) => (first f) >>> (arr (then LEFT(g) e))
-    row("(>>> (first (>>> f g)) (arr e))", END_OF_FIRST, Inside(&[0, 0])),
+    row("(>>> (first (>>> f g)) (arr e))", END_OF_FIRST, Inside(&[&[0, 0]])),
     // (arr e) >>> (first f) >>> (arr RIGHT(g)) => (arr (then e RIGHT(g))) >>> (first f)
     row(ARR_FIRST_ARR, &[Rewrite(as_right, &[1, 1]), Ahead(laws::EXCHANGE, &[1]), Ahead(laws::FUSE_FRONT, &[]), Clear(&[0, 0])], Nothing),
     // (arr RIGHT(e)) >>> (first f) >>> (arr g) => (first f) >>> (arr (then RIGHT(e) g))
@@ -201,21 +181,23 @@ pub const MOVES: &[Move] = &[
     // (arr e) >>> (first (first f)) >>> (arr g) => (arr (then e ASSOC)) >>> (first f) >>> (arr (then UNASSOC g))
     row("(>>> (arr e) (>>> (first (first f)) (arr g)))", NESTED_BETWEEN, Nothing),
     // (arr e) >>> (switch f t) => (switch ((arr e) >>> f) ((arr e) >>> t)), also `dSwitch`
-    row("(>>> (arr e) f)", &[Any(SWITCH_IN, &[])], Both),
+    row("(>>> (arr e) f)", &[Any(SWITCH_IN, &[])], Inside(&[&[0], &[1]])),
     // (arr LEFT(e)) >>> (rSwitch f t) => (rSwitch ((arr e) >>> f) ((arr e) >>> t)), also `drSwitch`
-    row("(>>> (arr e) f)", &[Rewrite(as_left, &[0]), Any(&[laws::R_SWITCH_IN, laws::DR_SWITCH_IN], &[])], Both),
+    row("(>>> (arr e) f)", &[Rewrite(as_left, &[0]), Any(&[laws::R_SWITCH_IN, laws::DR_SWITCH_IN], &[])], Inside(&[&[0], &[1]])),
     // (switch f t) >>> (arr e) => (switch (f >>> (arr LEFT(e))) (t >>> (arr e))), also the others
-    row("(>>> f (arr e))", &[Any(SWITCH_OUT, &[])], Both),
+    row("(>>> f (arr e))", &[Any(SWITCH_OUT, &[])], Inside(&[&[0], &[1]])),
     // (first (switch f t)) >>> (arr e): the `arr` goes into the switch, the `first` too
-    row("(>>> (first f) (arr e))", &[Any(SWITCH_FIRST, &[0]), Any(SWITCH_OUT, &[])], Both),
+    row("(>>> (first f) (arr e))", &[Any(SWITCH_FIRST, &[0]), Any(SWITCH_OUT, &[])], Inside(&[&[0], &[1]])),
     // (arr LEFT(e)) >>> (first f) => (first ((arr e) >>> f))
-    row("(>>> (arr e) (first f))", &[Rewrite(as_left, &[0]), Back(laws::FIRST_ARR, &[0]), Back(laws::FIRST_CHAIN, &[])], Inside(&[0])),
+    row("(>>> (arr e) (first f))", &[Rewrite(as_left, &[0]), Back(laws::FIRST_ARR, &[0]), Back(laws::FIRST_CHAIN, &[])], Inside(&[&[0]])),
     // (first f) >>> (arr LEFT(e)) => (first (f >>> (arr e)))
-    row("(>>> (first f) (arr e))", &[Rewrite(as_left, &[1]), Back(laws::FIRST_ARR, &[1]), Back(laws::FIRST_CHAIN, &[])], Inside(&[0])),
+    row("(>>> (first f) (arr e))", &[Rewrite(as_left, &[1]), Back(laws::FIRST_ARR, &[1]), Back(laws::FIRST_CHAIN, &[])], Inside(&[&[0]])),
 ];
 
 const ARR_FIRST_ARR: &str = "(>>> (arr e) (>>> (first f) (arr g)))";
 
+const NO_SWITCH: &[Law] = &[laws::K_SWITCH_NEVER, laws::K_SWITCH_RESUMED, laws::SWITCH_SAME, laws::D_SWITCH_SAME];
+const NEVER_AGAIN: &[Law] = &[laws::R_SWITCH_NEVER, laws::DR_SWITCH_NEVER, laws::RP_SWITCH_NEVER];
 const SWITCH_IN: &[Law] = &[laws::SWITCH_IN, laws::D_SWITCH_IN];
 const SWITCH_OUT: &[Law] = &[laws::SWITCH_OUT, laws::D_SWITCH_OUT, laws::R_SWITCH_OUT, laws::DR_SWITCH_OUT];
 const SWITCH_FIRST: &[Law] = &[laws::SWITCH_FIRST, laws::D_SWITCH_FIRST];
@@ -292,48 +274,25 @@ const NESTED_BETWEEN: &[Act] = &[
     Clear(&[1, 1, 0]),
 ];
 
-/// What a move looks at.
-pub enum Shape {
-    /// So many stages that are of this form.
-    Stages(usize, Term),
-    /// An `arr`, then as many cells as there are, then an `arr`.
-    Cells,
-}
-
 impl Move {
-    /// What it looks at.
-    pub fn shape(&self) -> Shape {
-        if self.form == CELLS {
-            Shape::Cells
-        } else {
-            let form = template(self.form);
-            Shape::Stages(length(form), form)
-        }
+    /// The form of the stages that it looks at; nothing where that is an `arr`, then as many cells as there are, then an `arr`.
+    pub fn form(&self) -> Option<Term> {
+        Some(self.form).filter(|&form| form != CELLS).map(template)
     }
 
     /// Makes it.
     pub fn make(&self, w: &mut Draft) -> Option<()> {
         self.script.iter().try_for_each(|act| act.take(w))
     }
-
-    /// Whether it makes one `arr` of two, by `FUSE` first.
-    pub fn fuses(&self) -> bool {
-        std::ptr::eq(self.script, FUSED)
-    }
 }
 
-impl Shape {
-    /// The first stages of those that are there, where they are of this form; the windows are those here.
-    pub fn of(&self, here: Term, windows: &[Option<Term>]) -> Option<Term> {
-        match *self {
-            Shape::Stages(count, form) => windows[count].filter(|stages| fits(form, stages, &mut Letters::new())),
-            Shape::Cells => {
-                let cells = cells_behind(here);
-                let stages = front(here, cells + 2)?;
-                Some(stages).filter(|stages| cells > 0 && head(stages).op == Op::Arr && last(stages).op == Op::Arr)
-            }
-        }
+/// The first stages of those that are there, where they are of this form; the windows are those here.
+pub fn window(form: Option<Term>, here: Term, windows: &[Option<Term>]) -> Option<Term> {
+    if let Some(form) = form {
+        return windows[length(form)].filter(|stages| fits(form, stages, &mut Letters::new()));
     }
+    let cells = cells_behind(here);
+    front(here, cells + 2).filter(|stages| cells > 0 && head(stages).op == Op::Arr && last(stages).op == Op::Arr)
 }
 
 /// The most stages of a form.

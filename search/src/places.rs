@@ -3,21 +3,22 @@
 //! The two are walked together from the root. What is the same in both is left alone; where they differ steps are looked for that make it the
 //! same, at the smallest places first: a few of any laws, then one by one, and normal forms at last.
 use crate::align::{nested_alike, nesting};
-use crate::draft::{joined, Budget, Clearing, Draft};
-use crate::exprs::normal;
+use crate::draft::{joined, Budget, Draft};
+use crate::exprs::{normal, Aim};
+use crate::improve::cheaper;
 use crate::laws::laws_at;
-use crate::meeting::{cut_at_meeting, follow_all, Ways};
 use crate::memo::Memo;
+use crate::shorten::{cut_at_meeting, Ways};
 use crate::single::normal_form;
 use crate::term::Term;
-use crate::tuning::{LOOK, MOST_DEPTH, MOST_EFFORT};
+use crate::tuning::{LOOK, MANY_STAGES, MOST_DEPTH, MOST_EFFORT, MOST_TWICE};
 
 /// Steps from two networks to a third, where the search finds some: of what differs as little as serves is made the same.
 pub fn ways_between(budget: &Budget, first: Term, second: Term, olds: usize) -> Option<Ways> {
-    let draft = |net| Draft::new(budget, net, olds, Clearing::Always);
+    let draft = |net| Draft::new(budget, net, olds, Aim::Normal);
     let mut pair = Pair { first: draft(first), second: draft(second), apart: Memo::default() };
     pair.join(&[], MOST_EFFORT)?;
-    Some(Ways { there: pair.first.steps, back: pair.second.steps })
+    Some((pair.first.steps, pair.second.steps))
 }
 
 /// Two networks on the way to one.
@@ -77,7 +78,7 @@ impl Pair {
 
     /// Makes what both have at a path the same by a step in the one or in the other, and then with less effort.
     fn join_step(&mut self, path: &[u32], effort: u32, is_first: bool) -> Option<()> {
-        for law in laws_at(self.first.at(path)?) {
+        for &law in laws_at(self.first.at(path)?).iter() {
             let draft = if is_first { &mut self.first } else { &mut self.second };
             if !draft.budget.spend(LOOK) {
                 return None;
@@ -113,22 +114,26 @@ impl Pair {
         places.iter().try_for_each(|place| self.join(place, effort))
     }
 
-    /// Brings what both have at a path to its normal form, where that is one.
+    /// Brings what both have at a path to its normal form, or long chains to what costs less, where that is one.
     fn join_forms(&mut self, path: &[u32]) -> Option<()> {
         let (a, b) = self.at(path)?;
         let budget = self.first.budget.clone();
+        let is_long = a.stages.max(b.stages) > MANY_STAGES;
         let form = |net: Term, olds: usize| {
-            if net.op.is_net() {
-                let formed = normal_form(&budget, net, olds);
-                return (formed.net, formed.steps);
+            if !net.op.is_net() {
+                let way = normal(&budget, net);
+                return (way.to, way.steps());
             }
-            let way = normal(&budget, net);
-            (way.to, way.steps())
+            if is_long && net.size <= MOST_TWICE {
+                return cheaper(&budget, net, olds);
+            }
+            let formed = normal_form(&budget, net, olds);
+            (formed.net, formed.steps)
         };
         let ((to, there), (other, back)) = (form(a, self.first.olds_at(path)), form(b, self.second.olds_at(path)));
-        let mut ways = Some(Ways { there, back }).filter(|_| to == other)?;
+        let mut ways = Some((there, back)).filter(|_| to == other)?;
         cut_at_meeting(a, b, &mut ways);
-        follow_all(&mut self.first, path, &ways.there)?;
-        follow_all(&mut self.second, path, &ways.back)
+        self.first.follow(path, &ways.0)?;
+        self.second.follow(path, &ways.1)
     }
 }

@@ -2,9 +2,9 @@
 //!
 //! What it takes is held to the grammar by the proved program, which reads each file first: here it is enough that no text is taken for
 //! another one, and that none makes the reader fail.
+use crate::memo::{kept, Memo};
 use crate::term::{int, put, Follows, Op, Term, ANY_NUMBER, FORMS};
 use std::cell::RefCell;
-use std::collections::HashMap;
 
 /// The most bytes of a file.
 pub const MOST_BYTES: usize = 1 << 20;
@@ -15,7 +15,8 @@ pub const MOST_OPEN: usize = 600;
 /// The letter of such a number.
 const NUMBER_LETTER: char = 'q';
 
-/// Shorter ways to write expressions and networks: their words, their parameters, and what they mean.
+/// Shorter ways to write expressions and networks: their words, their parameters, and what they mean. Those in capitals are read in sides of
+/// laws alone; those with a letter are written before it there, as in `LEFT(g)`.
 const SHORTER: &[(&str, &str, &str)] = &[
     ("gate", "Tab", "(if b a (none T))"),
     ("tag", "Tab", "(on a (none T) (event (then (fst x) b)))"),
@@ -30,10 +31,6 @@ const SHORTER: &[(&str, &str, &str)] = &[
     ("now", "c", "(after 0 c)"),
     ("edge", "", "(>>> (&&& identity (iPre true)) (arr (if (and (fst x) (not (snd x))) (event unit) (none Unit))))"),
     ("accumHoldBy", "gz", "(>>> (accumBy g z) (hold z))"),
-];
-
-/// What words in capitals mean in sides of laws; those with a letter are written before it, as in `LEFT(g)`.
-const MEANINGS: &[(&str, &str, &str)] = &[
     ("SWAP", "", "(pair (snd x) (fst x))"),
     ("ASSOC", "", "(pair (fst (fst x)) (pair (snd (fst x)) (snd x)))"),
     ("UNASSOC", "", "(pair (pair (fst x) (fst (snd x))) (snd (snd x)))"),
@@ -74,16 +71,14 @@ pub fn read_file(text: &[u8]) -> Result<(Term, Term), Fault> {
 /// The pattern of a template; panics where it is none, since templates stand in this program's text.
 pub fn template(text: &'static str) -> Term {
     thread_local! {
-        static READ: RefCell<HashMap<&'static str, Term>> = RefCell::new(HashMap::new());
+        static READ: RefCell<Memo<&'static str, Term>> = RefCell::default();
     }
-    if let Some(found) = READ.with(|read| read.borrow().get(text).copied()) {
-        return found;
-    }
-    let mut reader = Reader { text: text.as_bytes(), at: 0, open: 0, is_template: true };
-    let found = reader.tree().and_then(|found| if reader.next().is_none() { Ok(found) } else { Err(reader.at) });
-    let pattern = found.unwrap_or_else(|at| panic!("template {} at {}", text, at));
-    READ.with(|read| read.borrow_mut().insert(text, pattern));
-    pattern
+    let read = || {
+        let mut reader = Reader { text: text.as_bytes(), at: 0, open: 0, is_template: true };
+        let found = reader.tree().ok().filter(|_| reader.next().is_none());
+        found.unwrap_or_else(|| panic!("template {} at {}", text, reader.at))
+    };
+    kept(&READ, text, || true, read)
 }
 
 /// The tree of a template with what stands for its letters: `of("(>>> f (arr x))", &[('f', f)])`.
@@ -176,21 +171,13 @@ impl<'t> Reader<'t> {
         }
     }
 
-    fn opened(&mut self) -> Result<(), Fault> {
-        if self.next() != Some(b'(') || self.open == MOST_OPEN {
+    /// Goes on past a bracket, behind which so many are open.
+    fn bracket(&mut self, bracket: u8, open: usize) -> Result<(), Fault> {
+        if self.next() != Some(bracket) || open > MOST_OPEN {
             return Err(self.at);
         }
         self.at += 1;
-        self.open += 1;
-        Ok(())
-    }
-
-    fn closed(&mut self) -> Result<(), Fault> {
-        if self.next() != Some(b')') {
-            return Err(self.at);
-        }
-        self.at += 1;
-        self.open -= 1;
+        self.open = open;
         Ok(())
     }
 
@@ -198,7 +185,7 @@ impl<'t> Reader<'t> {
     fn tree(&mut self) -> Result<Term, Fault> {
         let is_open = self.next() == Some(b'(');
         if is_open {
-            self.opened()?;
+            self.bracket(b'(', self.open + 1)?;
         }
         let from = self.at;
         let word = self.word()?;
@@ -209,7 +196,7 @@ impl<'t> Reader<'t> {
             None => self.meaning(word).ok_or(from)??,
         };
         if is_open {
-            self.closed()?;
+            self.bracket(b')', self.open - 1)?;
         }
         Ok(found)
     }
@@ -220,8 +207,8 @@ impl<'t> Reader<'t> {
         if let (true, Some(name), None) = (self.is_template, all.next(), all.next()) {
             return Some(Ok(put(Op::Letter, i64::from(u32::from(name)), None, &[])));
         }
-        let more = if self.is_template { MEANINGS } else { &[] };
-        let &(_, parameters, text) = SHORTER.iter().chain(more).find(|short| short.0 == word)?;
+        let is_read = self.is_template || !word.starts_with(|c: char| c.is_ascii_uppercase());
+        let &(_, parameters, text) = SHORTER.iter().find(|short| is_read && short.0 == word)?;
         let parts: Result<Letters, Fault> = parameters.chars().map(|name| self.tree().map(|part| (name, part))).collect();
         Some(parts.map(|letters| filled(template(text), &letters)))
     }
@@ -279,13 +266,13 @@ impl<'t> Reader<'t> {
 
     /// The members of `(col ..)`.
     fn column(&mut self, kids: &mut Vec<Term>) -> Result<(), Fault> {
-        self.opened()?;
+        self.bracket(b'(', self.open + 1)?;
         let from = self.at;
         if self.word()? != "col" {
             return Err(from);
         }
         self.more_kids(kids)?;
-        self.closed()
+        self.bracket(b')', self.open - 1)
     }
 }
 

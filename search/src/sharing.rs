@@ -2,9 +2,10 @@
 use crate::chain::head;
 use crate::cost::{expr_cost, is_path, own_parts};
 use crate::draft::{Budget, Draft};
-use crate::exprs::{as_then, carried, copies, input, pair, parts_in, second_input, seen_through, then};
+use crate::exprs::{as_then, carried, copies, input, pair, parts_in, seen_through, then};
 use crate::laws;
 use crate::print;
+use crate::read::template;
 use crate::term::{node, Op, Term};
 use crate::trail::{Walk, Way};
 use crate::tuning;
@@ -74,7 +75,7 @@ fn gathered(parts: &[Term]) -> Term {
 /// way of the input.
 fn merged(budget: &Budget, e: Term, f: Term) -> Option<Way> {
     let g = seen_through(budget, e, f)?;
-    let behind = carried(budget, second_input(), e);
+    let behind = carried(budget, template("(snd x)"), e);
     let mut walk = Walk::of(e);
     if behind.to == g && !e.is_constant() {
         walk.backward(laws::INPUT_BEFORE, then(input(), e));
@@ -103,7 +104,7 @@ fn input_beside(f: Term) -> Way {
     let mut walk = Walk::of(input());
     walk.backward(laws::SND_OF_PAIR, node(Op::Snd, &[f]));
     walk.part(0, |whole| whole.backward(laws::INPUT_BEHIND, then(f, input())));
-    walk.backward(laws::INTO_PARTS, then(f, second_input()));
+    walk.backward(laws::INTO_PARTS, then(f, template("(snd x)")));
     walk.done()
 }
 

@@ -1,9 +1,14 @@
 //! Steps that lead nowhere are left out.
-use crate::draft::Step;
-use crate::meeting::hashes_on;
-use crate::term::Term;
+use crate::chain::{head, parts, seq};
+use crate::draft::{joined, Step};
+use crate::laws;
+use crate::place::Place;
+use crate::term::{hash_of, Term};
 use crate::tuning::MOST_LOOKS_BACK;
 use std::collections::HashMap;
+
+/// Steps from each of two trees to a third.
+pub type Ways = (Vec<Step>, Vec<Step>);
 
 /// The steps, which are taken from a network on, without those that lead nowhere: to what stood at a position before, or to a network that was
 /// on the way.
@@ -52,4 +57,45 @@ fn on_the_way(start: Term, steps: &[Step]) -> Vec<Step> {
         k = last[&hashes[k + 1]];
     }
     kept
+}
+
+/// The hashes of the trees on a way, from its start to its end. None of them is made.
+fn hashes_on(start: Term, steps: &[Step]) -> Vec<u64> {
+    let mut place = Place::new(start);
+    let mut all = vec![start.hash];
+    for step in steps {
+        place.go(&step.at);
+        place.put(step.after);
+        let whole = place.above().iter().zip(place.path()).rev().fold(step.after.hash, |inner, (outer, &own)| {
+            let kids = outer.kids.iter().zip(0u32..).map(|(kid, k)| if k == own { inner } else { kid.hash });
+            hash_of(outer.op, outer.number, outer.ty, kids)
+        });
+        all.push(whole);
+    }
+    all
+}
+
+/// Cuts off the steps from two trees that end at one, behind where they meet with the fewest steps.
+pub fn cut_at_meeting(first: Term, second: Term, ways: &mut Ways) {
+    let mut places = HashMap::new();
+    for (j, hash) in hashes_on(second, &ways.1).into_iter().enumerate() {
+        places.entry(hash).or_insert(j);
+    }
+    let all = hashes_on(first, &ways.0);
+    let meetings = all.iter().enumerate().filter_map(|(i, hash)| places.get(hash).map(|&j| (i, j)));
+    if let Some((i, j)) = meetings.min_by_key(|(i, j)| i + j) {
+        ways.0.truncate(i);
+        ways.1.truncate(j);
+    }
+}
+
+/// The steps, of which those that take `FUSE_FRONT` backward are two, `FUSE` backward and `NEST`, so that no text tells what stands behind.
+pub fn told_briefly(steps: &[Step]) -> Vec<Step> {
+    let in_two = |step: &Step| {
+        let ((_, rest), (f, more)) = (parts(step.before)?, parts(step.after).filter(|_| step.law == laws::FUSE_FRONT && !step.ahead)?);
+        let (two, at) = (seq(f, head(more)), joined(&step.at, &[0]));
+        let fused = Step { law: laws::FUSE, ahead: false, at, before: head(step.before), after: two };
+        Some(vec![fused, Step { law: laws::NEST, ahead: true, before: seq(two, rest), ..step.clone() }])
+    };
+    steps.iter().flat_map(|step| in_two(step).unwrap_or_else(|| vec![step.clone()])).collect()
 }

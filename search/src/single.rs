@@ -2,9 +2,8 @@
 //!
 //! Each stage adds what a box outputs to all that was there. Cells, holds and accumulators become states of the loop.
 use crate::chain::behind;
-use crate::draft::{joined, undone, Budget, Clearing, Draft, Step};
-use crate::exprs::{normal, pair, then};
-use crate::joining::accumulator_as_loop;
+use crate::draft::{joined, undone, Budget, Draft, Step};
+use crate::exprs::{normal, pair, then, Aim};
 use crate::laws::{self, Law};
 use crate::read::{of, template};
 use crate::term::{node, put, Op, Term};
@@ -24,7 +23,7 @@ pub struct Formed {
 
 /// The normal form of a network, where so many frozen networks are in scope, as far as the search comes.
 pub fn normal_form(budget: &Budget, net: Term, olds: usize) -> Formed {
-    let mut d = Draft::new(budget, net, olds, Clearing::Always);
+    let mut d = Draft::new(budget, net, olds, Aim::Normal);
     if net.size <= MOST_SINGLE_SIZE && reduced(&mut d, &[]).is_some() {
         return Formed { net: d.net(), steps: d.steps, is_done: budget.is_whole() };
     }
@@ -74,12 +73,15 @@ fn again_by(d: &mut Draft, law: Law, path: &[u32]) -> Option<()> {
     single(d, path)
 }
 
+/// An accumulator as a loop, where the type of its values is known.
 fn accumulator(d: &mut Draft, path: &[u32]) -> Option<()> {
-    if accumulator_as_loop(d, path)? {
-        single(d, path)
-    } else {
-        boxed(d, path)
-    }
+    let (g, start) = (d.at(path)?.kids[0], d.at(path)?.kids[1]);
+    let carried = match told_type(start) {
+        Some(carried) => carried,
+        None => return boxed(d, path),
+    };
+    d.backward(laws::LOOP_ACCUM, path, of("(loopPre z (arr ACCUM(g)))", &[('g', g), ('z', start), ('T', carried)]))?;
+    single(d, path)
 }
 
 /// Whether an expression is the same at every sample.
@@ -239,7 +241,7 @@ pub fn go_back(d: &mut Draft, path: &[u32], wanted: Term) -> Option<()> {
 
 /// Goes back from what stands at a path to a network of which that makes it.
 fn go_back_by(d: &mut Draft, path: &[u32], wanted: Term, making: fn(&mut Draft, &[u32]) -> Option<()>) -> Option<()> {
-    let mut made = Draft::new(&d.budget, wanted, d.olds_at(path), Clearing::Always);
+    let mut made = Draft::new(&d.budget, wanted, d.olds_at(path), Aim::Normal);
     making(&mut made, &[])?;
     Some(()).filter(|()| d.at(path) == Some(made.net()))?;
     d.took(path, wanted, &undone(&made.steps))

@@ -15,7 +15,10 @@ pub fn clear(aim: Aim, walk: &mut Walk) {
     }
     let e = walk.now;
     match e.op {
-        Op::Sub if aim.orders_all() && e.height <= tuning::MOST_DIFFERENCE => sum(aim, walk),
+        Op::Sub if aim.orders_all() && e.height <= tuning::MOST_DIFFERENCE => {
+            walk.forward(laws::SUB_AS_ADD);
+            clear_with(aim, &[1], walk);
+        }
         Op::Neg if aim.orders_all() => negate(aim, walk),
         Op::Mul if aim.orders_all() && e.kids.iter().any(|kid| kid.op == Op::Neg) => negate_product(aim, walk),
         Op::Mul if wants_multiplying(aim, e) => multiply(aim, walk),
@@ -59,11 +62,11 @@ fn laws_of(op: Op) -> &'static [Law] {
 fn halve(aim: Aim, walk: &mut Walk) {
     let halves = [node(Op::Fst, &[walk.now]), node(Op::Snd, &[walk.now])];
     walk.backward(laws::PAIR_OF_PARTS, node(Op::Pair, &halves));
-    (0..2).for_each(|k| walk.part(k, |half| halve_branches(aim, half)));
+    (0..2).for_each(|k| walk.part(k, |half| in_branches(aim, half)));
 }
 
-/// Makes the half of an `if` or `on` one of the halves of its branches.
-fn halve_branches(aim: Aim, walk: &mut Walk) {
+/// Makes `fst`, `snd` or `neg` of an `if` or `on` one of those of its branches.
+fn in_branches(aim: Aim, walk: &mut Walk) {
     if !walk.forward(laws::IF_OUT) {
         let (half, on, input) = (walk.now, walk.now.kids[0], node(Op::Input, &[]));
         walk.part(0, |inner| inner.backward(laws::INPUT_BEHIND, node(Op::Then, &[on, input])));
@@ -77,15 +80,11 @@ fn halve_branches(aim: Aim, walk: &mut Walk) {
     clear_with(aim, &[1, 2], walk);
 }
 
-/// Makes a difference a sum, its terms in order.
-fn sum(aim: Aim, walk: &mut Walk) {
-    walk.forward(laws::SUB_AS_ADD);
-    clear_with(aim, &[1], walk);
-}
-
-/// Makes a negated sum one of negated terms, and a negated product with a literal one with the negated literal.
+/// Makes a negated sum one of negated terms, a negated product with a literal one with the negated literal; negates the branches of an `on`.
 fn negate(aim: Aim, walk: &mut Walk) {
-    if walk.forward(laws::NEG_SUM) {
+    if walk.now.kids[0].op == Op::On {
+        in_branches(aim, walk);
+    } else if walk.forward(laws::NEG_SUM) {
         clear_with(aim, &[0, 1], walk);
     } else if factor(walk.now.kids[0]).is_some() {
         make_multiple(walk);
@@ -223,7 +222,9 @@ fn sorting_laws(op: Op) -> (Law, Law) {
 /// more, or of a literal before another term of a sum.
 fn order_terms(aim: Aim, walk: &mut Walk) {
     let e = walk.now;
-    let is_wanted = matches!(e.op, Op::Add | Op::Mul) && (aim.orders_all() || literals_in(e) > 1 || begins_with_literal(e));
+    let begins_with_literal = e.op == Op::Add && e.kids[0].op.is_literal() && e.kids[1].op != Op::Add;
+    let literals = || links(e.op, e).iter().filter(|term| term.op.is_literal()).count();
+    let is_wanted = matches!(e.op, Op::Add | Op::Mul) && (aim.orders_all() || begins_with_literal || literals() > 1);
     if is_wanted && may_nest(e) {
         order(aim, e.op, walk);
         if walk.now.op == Op::Mul && aim.orders_all() {
@@ -232,20 +233,10 @@ fn order_terms(aim: Aim, walk: &mut Walk) {
     }
 }
 
-/// Whether the expression is the sum of a literal and one other term.
-fn begins_with_literal(e: Term) -> bool {
-    e.op == Op::Add && e.kids[0].op.is_literal() && e.kids[1].op != Op::Add
-}
-
 /// Whether the terms, nested to the right, are within the limits of expressions.
 fn may_nest(e: Term) -> bool {
     let terms = links(e.op, e);
-    terms.iter().fold(0, |most, term| term.height.max(most)) + terms.len() as u32 <= tuning::MOST_NESTED
-}
-
-/// How many terms of the expression are literals.
-fn literals_in(e: Term) -> usize {
-    links(e.op, e).iter().filter(|term| term.op.is_literal()).count()
+    terms.iter().fold(0, |most, term| term.height.max(most)) + terms.len() as u32 <= tuning::MOST_SUM
 }
 
 /// Nests the terms to the right, and puts them in order.
@@ -349,7 +340,7 @@ fn wants_multiplying(aim: Aim, e: Term) -> bool {
     let terms = m.saturating_mul(n);
     let size = a.size.saturating_mul(u64::from(n)).saturating_add(b.size.saturating_mul(u64::from(m)));
     let height = a.height.saturating_add(b.height).saturating_add(terms);
-    terms <= tuning::MOST_TERMS && size <= tuning::MOST_TERMS_SIZE && height <= tuning::MOST_TERMS_HEIGHT
+    terms <= tuning::MOST_TERMS && size <= tuning::MOST_TERMS_SIZE && height <= tuning::MOST_SUM
 }
 
 /// Multiplies a product out as long as a factor is a sum; puts terms and factors in order.

@@ -36,17 +36,11 @@ impl Trail {
 
     /// The same steps in a larger term, which has the one that they begin at at the path.
     pub fn below(self, path: &[u32]) -> Trail {
-        if self.count == 0 {
-            return self;
-        }
         Trail::made(self.count, Part::Below(path.to_vec(), self))
     }
 
     /// The way back.
     pub fn undone(self) -> Trail {
-        if self.count == 0 {
-            return self;
-        }
         Trail::made(self.count, Part::Undone(self))
     }
 
@@ -162,15 +156,9 @@ impl Walk {
 
     /// Rewrites part k.
     pub fn part(&mut self, k: usize, rewrite: impl FnOnce(&mut Walk)) {
-        let mut part = Walk::of(self.now.kids[k]);
-        rewrite(&mut part);
-        self.follow_in(k as u32, &part.done());
-    }
-
-    /// Goes a way from part k.
-    pub fn follow_in(&mut self, k: u32, way: &Way) {
-        self.now = self.now.with_kid(k as usize, way.to);
-        self.trails.push(way.trail.clone().below(&[k]));
+        let way = Way::made(self.now.kids[k], rewrite);
+        self.now = self.now.with_kid(k, way.to);
+        self.trails.push(way.trail.below(&[k as u32]));
     }
 
     /// Goes the way that is found from part k.

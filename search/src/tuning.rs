@@ -78,8 +78,6 @@ pub const FIRST: u64 = 200;
 pub const LOOP: u64 = 275;
 /// `loopPre` in which another one stands, which takes the memory of its pair.
 pub const LOOP_ROUND_LOOP: u64 = 220;
-/// `-->` or `>--`.
-pub const INITIAL: u64 = 90;
 /// `parB` or `kSwitch`.
 pub const MEMBERS: u64 = 200;
 /// A member, beside what it costs itself.
@@ -90,7 +88,7 @@ pub const SWITCH: u64 = 150;
 pub const COLLECTION: u64 = 300;
 /// `delay`.
 pub const DELAY: u64 = 300;
-/// Another cell.
+/// Another cell, `-->` or `>--`.
 pub const CELL: u64 = 90;
 /// A frozen network.
 pub const FROZEN: u64 = 60;
@@ -120,7 +118,7 @@ pub const LEAST_SAVED: u64 = 8;
 pub const MOST_LIFTED: u64 = 200;
 /// Where the product of two sizes passes this, one expression isn't carried into the other: what comes of it could be too large.
 pub const MOST_PRODUCT: u64 = 100_000;
-/// Where the sum of two heights passes this, it isn't either.
+/// Where the sum of two heights passes this, it isn't either; nor are terms put in order, or products multiplied out, where that gets higher.
 pub const MOST_SUM: u32 = 240;
 /// How deep `then` is carried inwards.
 pub const MOST_CARRIED: u32 = 1_000;
@@ -130,16 +128,12 @@ pub const MOST_PARTS: usize = 200;
 pub const MOST_EXPRESSION_STEPS: usize = 9_000;
 /// How many expressions a check may go over, for the steps of one: it goes over all of it for each.
 pub const MOST_CHECKED: u64 = 130_000_000;
-/// The greatest height of terms that are put in order.
-pub const MOST_NESTED: u32 = 250;
 /// The greatest height of a difference that becomes a sum: each one in it makes the sum higher by one.
 pub const MOST_DIFFERENCE: u32 = 100;
 /// The most terms that a product may become.
 pub const MOST_TERMS: u32 = 64;
 /// The greatest size of all these together.
 pub const MOST_TERMS_SIZE: u64 = 10_000;
-/// The greatest height of their sum.
-pub const MOST_TERMS_HEIGHT: u32 = 240;
 
 /// How much work `improve` may take: expressions rewritten, and moves tried.
 pub const MOST_IMPROVING: u64 = 10_000_000;
@@ -174,8 +168,6 @@ pub const ROOM: usize = 40;
 pub const MOST_WORK: u64 = 5_000_000;
 /// The same, between what others of these searches lead to.
 pub const MOST_BETWEEN: u64 = 1_000_000;
-/// The most steps to normal forms that are taken.
-pub const MOST_STEPS_TAKEN: usize = 100_000;
 /// Where so few steps were found, it isn't looked at what `optimise` makes of both.
 pub const FEW_STEPS: usize = 10;
 /// Where so few steps were found, it isn't looked for what costs less than both, or for steps that bring them nearer.
@@ -191,7 +183,9 @@ pub const MOST_DEPTH: usize = 1_000;
 /// How much is tried where two differ, beside what is tried at their parts: so many steps there; with the greatest number, normal forms.
 pub const MOST_EFFORT: u32 = 4;
 /// The most pairs of stages that are compared.
-pub const MOST_STAGE_PAIRS: usize = 40_000;
+pub const MOST_STAGE_PAIRS: usize = 400_000;
+/// Two chains of which one has more stages, and that are searched twice, are made the same by what costs less, not by normal forms.
+pub const MANY_STAGES: u32 = 100;
 /// The most nodes of a network, once for each step from it, where laws of networks are taken again.
 pub const MOST_TAKEN_AGAIN: u64 = 2_000_000;
 /// How many nodes are visited where steps are looked for that bring two networks nearer.

@@ -22,7 +22,7 @@ pub const MOST_EXPR_SIZE: u64 = 100_000;
 pub const MOST_HEIGHT: usize = 256;
 
 /// The most members of a collection.
-const MOST_MEMBERS: usize = 64;
+pub const MOST_MEMBERS: usize = 64;
 
 /// The longest delay.
 const MOST_DELAY: i64 = 4_096;

@@ -1,12 +1,12 @@
 //! The ways from a network to another that are tried.
-use crate::climb::{brought_nearer, Nearer};
+use crate::climb::brought_nearer;
 use crate::draft::{undone, Budget, Step};
-use crate::improve::{improved, Found, MOST_STEPS};
+use crate::improve::{fits, improved, Found, MOST_STEPS};
 use crate::laws::LAST_VERSION;
 use crate::lazily::lazily;
 use crate::optimise::{gathered, optimised};
 use crate::places::ways_between;
-use crate::shorten::shortened;
+use crate::shorten::{shortened, told_briefly, Ways};
 use crate::single::{normal_form, Formed};
 use crate::term::Term;
 use crate::tuning;
@@ -14,7 +14,7 @@ use crate::types::lead;
 use std::collections::HashMap;
 
 /// The steps of both to a third network.
-type Both = Option<(Vec<Step>, Vec<Step>)>;
+type Both = Option<Ways>;
 
 /// A way, and so few steps as are enough: where they were found, neither it nor any behind it is tried.
 type Looking = (usize, fn(&mut Search) -> Both);
@@ -65,11 +65,6 @@ pub struct Search {
     rewritten: HashMap<(Rewriting, Term), Option<Found>>,
 }
 
-/// The steps, where the source's lead to the target.
-fn alone(steps: Option<Vec<Step>>) -> Both {
-    Some((steps?, vec![]))
-}
-
 impl Search {
     /// A search from a source to a target, of this input type.
     pub fn new(input: Term, source: Term, target: Term) -> Search {
@@ -84,9 +79,7 @@ impl Search {
                 break;
             }
             let found = by(self).and_then(|(there, back)| self.led([there, undone(&back)].concat()));
-            if found.as_ref().map_or(false, |found| best.as_ref().map_or(true, |steps| found.len() < steps.len())) {
-                best = found;
-            }
+            best = best.into_iter().chain(found).min_by_key(|steps| (!fits(steps), steps.len()));
         }
         best
     }
@@ -98,10 +91,12 @@ impl Search {
         let direct = shortened(source, &steps);
         let is_small = source.size.saturating_mul(direct.len() as u64) <= tuning::MOST_TAKEN_AGAIN;
         let lazy = self.within(tuning::MOST_WORK, |budget| {
-            Some(budget).filter(|_| is_small).and_then(|budget| lazily(budget, source, target, &direct))
+            Some(budget).filter(|_| is_small || !fits(&direct)).and_then(|budget| lazily(budget, source, target, &direct))
         });
-        let mut all = [lazy.map_or(vec![], |lazy| vec![shortened(source, &lazy)]), vec![direct, steps]].concat();
-        all.sort_by_key(Vec::len);
+        let mut all =
+            [lazy.map_or(vec![], |lazy| vec![told_briefly(&lazy), shortened(source, &lazy)]), vec![told_briefly(&direct), direct, steps]]
+                .concat();
+        all.sort_by_key(|steps| (!fits(steps), steps.len()));
         all.into_iter().find(|steps| lead(self.input, source, target, steps))
     }
 
@@ -130,19 +125,22 @@ impl Search {
     /// The steps of the source, where it is rewritten to the target.
     fn of_source(&mut self, how: Rewriting) -> Both {
         let (net, steps) = self.rewritten(how, self.source)?;
-        alone(Some(steps).filter(|_| net == self.target))
+        Some((steps, vec![])).filter(|_| net == self.target)
     }
 
     /// The steps to what both are rewritten to.
     fn of_both(&mut self, how: Rewriting) -> Both {
         let (source, target) = (self.rewritten(how, self.source)?, self.rewritten(how, self.target)?);
+        if target.0 == self.source {
+            return Some((vec![], target.1));
+        }
         self.on_from(source, target, tuning::MOST_BETWEEN)
     }
 
     /// The steps to two networks, and on to where these are one, at the places where they differ, which visits so many nodes at most.
     fn on_from(&mut self, first: Found, second: Found, most: u64) -> Both {
-        let ways = self.within(most, |budget| ways_between(budget, first.0, second.0, 0))?;
-        Some(([first.1, ways.there].concat(), [second.1, ways.back].concat()))
+        let (there, back) = self.within(most, |budget| ways_between(budget, first.0, second.0, 0))?;
+        Some(([first.1, there].concat(), [second.1, back].concat()))
     }
 
     fn gathered(&mut self) -> Both {
@@ -153,8 +151,8 @@ impl Search {
     /// The steps to the nearest two networks that are found, and on to one, at the places where these differ.
     fn nearer(&mut self, version: u8, most: u64) -> Both {
         let (source, target) = (self.source, self.target);
-        let Nearer { first, second, there, back } = self.within(most, |budget| brought_nearer(budget, source, target, version))?;
-        self.on_from((first, there), (second, back), tuning::MOST_BETWEEN)
+        let (first, second) = self.within(most, |budget| brought_nearer(budget, source, target, version))?;
+        self.on_from(first, second, tuning::MOST_BETWEEN)
     }
 
     /// The steps to the normal forms of both, where these are one; else the forms are kept.
@@ -163,7 +161,7 @@ impl Search {
         let there = self.within(tuning::MOST_WORK, |budget| normal_form(budget, source, 0));
         let back = self.within(tuning::MOST_WORK, |budget| normal_form(budget, target, 0));
         if there.net == back.net {
-            return Some((there.steps, back.steps)).filter(|(there, back)| there.len() + back.len() <= tuning::MOST_STEPS_TAKEN);
+            return Some((there.steps, back.steps));
         }
         self.forms = Some((there, back));
         None

@@ -4,7 +4,7 @@
 //! numbers, in any network; who reads a wire has a greater number than it. Each reduction writes down a network that a law changes as needed,
 //! and of which what stands there is made: the steps that make it, undone, lead there.
 use crate::draft::{joined, Budget, Draft};
-use crate::exprs::{normal, pair, then};
+use crate::exprs::{normal, pair, seen_as, then};
 use crate::laws;
 use crate::read::{filled, of, template};
 use crate::single::{chain_of, flat, go_back, is_closed, part, single, turn, Form};
@@ -55,6 +55,11 @@ pub fn wire(number: i64) -> Term {
     put(Op::Param, number, None, &[])
 }
 
+/// Whether an expression is a wire.
+pub fn is_wire(e: Term) -> bool {
+    e.op == Op::Param && e.number >= WIRE
+}
+
 /// The normal form of g behind f.
 pub fn composed(budget: &Budget, f: Term, g: Term) -> Term {
     normal(budget, then(f, g)).to
@@ -62,7 +67,7 @@ pub fn composed(budget: &Budget, f: Term, g: Term) -> Term {
 
 /// The wires that a content reads, in the order of their first place.
 pub fn reads(e: Term, found: &mut Vec<Term>) {
-    if e.op == Op::Param && e.number >= WIRE {
+    if is_wire(e) {
         if !found.contains(&e) {
             found.push(e);
         }
@@ -71,48 +76,10 @@ pub fn reads(e: Term, found: &mut Vec<Term>) {
     e.kids.iter().for_each(|kid| reads(kid, found));
 }
 
-/// The expression over wires with others in place of its parts.
-pub fn replaced(e: Term, new: &[(Term, Term)]) -> Term {
-    match new.iter().find(|(old, _)| *old == e) {
-        Some((_, part)) => part,
-        None => e.with_kids(&e.kids.iter().map(|kid| replaced(kid, new)).collect::<Vec<Term>>()),
-    }
-}
-
-/// The expression over wires with paths in place of these of its parts; nothing where a wire is left, or is behind a `then`.
-pub fn written(e: Term, paths: &[(Term, Term)]) -> Option<Term> {
-    if let Some((_, path)) = paths.iter().find(|(part, _)| *part == e) {
-        return Some(path);
-    }
-    if e.op == Op::Param && e.number >= WIRE {
-        return None;
-    }
-    let inside = |path: Term| node(Op::Then, &[template("(fst x)"), path]);
-    let parts: Option<Vec<Term>> = (e.kids.iter().enumerate())
-        .map(|(k, kid)| match (e.op, k) {
-            (Op::On, 2) => written(kid, &paths.iter().map(|&(part, path)| (part, inside(path))).collect::<Vec<_>>()),
-            (Op::Then, 1) => written(kid, &[]),
-            _ => written(kid, paths),
-        })
-        .collect();
-    Some(e.with_kids(&parts?))
-}
-
-/// Adds where the wires stand in pairs of them that are found at a path.
-fn add_places(env: Term, path: Term, found: &mut Vec<(Term, Term)>) {
-    if env.op == Op::Pair {
-        add_places(env.kids[0], node(Op::Fst, &[path]), found);
-        add_places(env.kids[1], node(Op::Snd, &[path]), found);
-    } else {
-        found.push((env, path));
-    }
-}
-
-/// Where the wires stand in pairs of them.
-fn places_in(env: Term) -> Vec<(Term, Term)> {
-    let mut found = vec![];
-    add_places(env, template("x"), &mut found);
-    found
+/// The expression over wires with paths in place of the wires, which are found in pairs of them; nothing where another is left.
+fn written(budget: &Budget, e: Term, env: Term) -> Option<Term> {
+    let paths: Vec<(Term, Term)> = states_of(env).into_iter().map(|(place, wire)| (wire, place)).collect();
+    seen_as(budget, e, &paths)
 }
 
 impl Graph {
@@ -122,13 +89,13 @@ impl Graph {
     }
 
     /// The chain of some stages, where these wires are there before them, and what comes out.
-    fn chain(&self, env: Term, stages: Range<usize>, out: Term) -> Option<Term> {
+    fn chain(&self, budget: &Budget, env: Term, stages: Range<usize>, out: Term) -> Option<Term> {
         let (mut env, mut all) = (env, vec![]);
         for i in stages {
-            all.push((written(self.inputs[i], &places_in(env))?, self.form.stages[i].1));
+            all.push((written(budget, self.inputs[i], env)?, self.form.stages[i].1));
             env = pair(self.wires[i], env);
         }
-        Some(chain_of(&all, node(Op::Arr, &[written(out, &places_in(env))?])))
+        Some(chain_of(&all, node(Op::Arr, &[written(budget, out, env)?])))
     }
 
     /// The graph of such a network.
@@ -184,19 +151,32 @@ impl Graph {
         let mut now: Vec<Term> = self.states.iter().map(|state| state.start).collect();
         let mut signs = now.clone();
         for sample in 0..2 {
-            now = self.states.iter().map(|state| normal(budget, self.with_states(state.next, &now)).to).collect();
-            now = now.iter().map(|e| replaced(e, &[(wire(WIRE), wire(WIRE - 1 - sample))])).collect();
+            let input = wire(WIRE - 1 - sample);
+            now = self.states.iter().map(|state| normal(budget, self.with_wires(state.next, input, &now)).to).collect();
             signs = signs.iter().zip(&now).map(|(sign, e)| pair(sign, e)).collect();
         }
         signs
     }
 
-    /// An expression with these in place of the wires of the states.
-    fn with_states(&self, e: Term, now: &[Term]) -> Term {
+    /// Whether a number of the state is next computed by less where it is kept negated, or begins as less than 0 else.
+    fn is_less_negated(&self, budget: &Budget, k: usize) -> bool {
+        let State { start, next, .. } = self.states[k];
+        let wires: Vec<Term> = (1..=self.states.len() as i64).map(|number| wire(WIRE + number)).collect();
+        let negated = |e: Term| node(Op::Neg, &[e]);
+        let mut others = wires.clone();
+        others[k] = negated(wires[k]);
+        let kept = |states: &[Term]| self.with_wires(next, wire(WIRE), states);
+        let (plain, other) = (normal(budget, kept(&wires)).to.size, normal(budget, negated(kept(&others))).to.size);
+        start.op == Op::Int && (other < plain || other == plain && start.number < 0)
+    }
+
+    /// An expression with these in place of the wires of the input and of the states.
+    fn with_wires(&self, e: Term, input: Term, states: &[Term]) -> Term {
         match e.op {
             Op::Param if e.number >= BOXED => wire(BOXED),
-            Op::Param if e.number > WIRE => now[(e.number - WIRE - 1) as usize],
-            _ => e.with_kids(&e.kids.iter().map(|kid| self.with_states(kid, now)).collect::<Vec<Term>>()),
+            Op::Param if e.number > WIRE => states[(e.number - WIRE - 1) as usize],
+            Op::Param if e.number == WIRE => input,
+            _ => e.with_kids(&e.kids.iter().map(|kid| self.with_wires(kid, input, states)).collect::<Vec<Term>>()),
         }
     }
 }
@@ -260,7 +240,7 @@ fn dead_stage(d: &mut Draft, path: &[u32], graph: &Graph, i: usize) -> Option<()
     if graph.read.contains(graph.wires.get(i)?) {
         return None;
     }
-    let rest = graph.chain(graph.env(i), i + 1..graph.wires.len(), graph.out)?;
+    let rest = graph.chain(&d.budget, graph.env(i), i + 1..graph.wires.len(), graph.out)?;
     go_back(d, path, graph.form.upto(i + 1, of("(>>> (arr (snd x)) n)", &[('n', rest)])))?;
     drop_box(d, &graph.form.way_to(path, i))?;
     single(d, path)
@@ -356,7 +336,7 @@ fn exchange(d: &mut Draft, path: &[u32], graph: &Graph, i: usize) -> Option<()> 
     single(d, path)
 }
 
-/// Puts the state in order: constants and doubles out, the dead ones behind the others. These come as they are at first and after one sample,
+/// Puts the state in order: constants and doubles out, the dead ones behind the others, what is less when it is negated that. These come as they are at first and after one sample,
 /// and where that is the same as they are asked for.
 fn restate(d: &mut Draft, path: &[u32], graph: &Graph, i: usize) -> Option<()> {
     let init = graph.form.init.filter(|_| i == 0)?;
@@ -370,7 +350,9 @@ fn restate(d: &mut Draft, path: &[u32], graph: &Graph, i: usize) -> Option<()> {
     asked.sort_by(|&i, &j| compared(signs[i], signs[j]));
     let dead: Vec<usize> = (0..states.len()).filter(|k| !asked.contains(k)).filter(|k| stays(k)).collect();
     let order: Vec<usize> = asked.into_iter().filter(|k| stays(k)).collect();
-    let from = |ks: &[usize]| nested(&ks.iter().map(|&k| states[k].place).collect::<Vec<Term>>());
+    let negated: Vec<bool> = (0..states.len()).map(|k| graph.is_less_negated(&d.budget, k)).collect();
+    let turned = |k: usize, e: Term| if negated[k] { node(Op::Neg, &[e]) } else { e };
+    let from = |ks: &[usize]| nested(&ks.iter().map(|&k| turned(k, states[k].place)).collect::<Vec<Term>>());
     let perm = match (from(&order), from(&dead)) {
         (Some(a), Some(b)) => pair(a, b),
         (Some(all), None) | (None, Some(all)) => all,
@@ -388,7 +370,7 @@ fn restate(d: &mut Draft, path: &[u32], graph: &Graph, i: usize) -> Option<()> {
             return Some(states[k].start);
         }
         let own = twin(k).unwrap_or(k);
-        all.iter().position(|&other| other == own).map(|i| now[i])
+        all.iter().position(|&other| other == own).map(|i| turned(own, now[i]))
     };
     let parts: Option<Vec<Term>> = (0..states.len()).map(place).collect();
     let back = with_states(init, &mut parts?.into_iter());
@@ -436,14 +418,14 @@ fn dead_state(d: &mut Draft, path: &[u32], graph: &Graph, i: usize) -> Option<()
     let env = if all_dead { graph.base.kids[0] } else { pair(graph.base.kids[0], live) };
     let shown = if all_dead { graph.shown } else { pair(graph.shown, live_next) };
     let within = graph.wires[..n].iter().fold(env, |env, own| pair(own, env));
-    let out = written(shown, &places_in(within))?;
+    let out = written(&d.budget, shown, within)?;
     if form.stages.is_empty() && dead_next == dead {
         go_back(d, path, small.upto(0, of("(loopPre c (first (arr e)))", &[('c', start), ('e', out)])))?;
         d.forward(laws::LOOP_UNHEARD, &small.way_to(path, 0))?;
         return single(d, path);
     }
-    let inner = graph.chain(pair(within, dead), n..graph.wires.len(), pair(template("unit"), dead_next))?;
-    let kept = graph.chain(env, 0..n, template("unit"))?;
+    let inner = graph.chain(&d.budget, pair(within, dead), n..graph.wires.len(), pair(template("unit"), dead_next))?;
+    let kept = graph.chain(&d.budget, env, 0..n, template("unit"))?;
     let small = Form { stages: Form::read(kept)?.stages, ..small };
     let tail =
         of("(>>> (arr (pair x o)) (>>> (first (loopPre c d)) (>>> (arr (snd x)) (arr x))))", &[('o', out), ('c', start), ('d', inner)]);
