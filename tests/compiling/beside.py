@@ -57,8 +57,11 @@ def random_network(bench, seed, number):
     most = most_of(given, streams)
     if most and rng.random() < 0.3:
         most = rng.randint(1, most)
-    source = bench.source("net.c", file, *(["--most", most] if most else []))
-    built = built_by_turns(bench, [source], number // 2)
+    words = [file, *(["--most", most] if most else [])]
+    if bench.compile(*words).error.startswith(b"network: state too large"):
+        bench.tally["states that are too large"] += 1
+        return
+    built = built_by_turns(bench, [bench.source("net.c", *words)], number // 2)
     for stream in streams:
         fault = fault_of(stream, given, most)
         if fault:

@@ -30,8 +30,8 @@ PACKAGES = {
     "device": ["gcc-arm-none-eabi"],
 }
 SLOW = ["gcc", "-std=c99", "-O0", *STRICT]
-# With this gcc also looks at what is never reached, and warns of the places of lists there.
-QUICK = ["gcc", "-std=c99", "-O3"]
+# With this gcc also looks at what is never reached.
+QUICK = ["gcc", "-std=c99", "-O3", *STRICT]
 SANITIZED = ["gcc", "-std=c99", "-O1", "-g", *STRICT, "-fsanitize=undefined,address", "-fno-sanitize-recover=all"]
 SECONDS = 900
 
@@ -118,7 +118,7 @@ def holding(text):
     """A line that no compiler takes unless the state has at most the bytes that are told at the top, and an eighth of them: one byte
     counts as eight at most."""
     told = re.search(rb"The state has at most (\d+) bytes", text)[1]
-    state = re.search(rb"struct (\w+_state) \{", text)[1]
+    state = re.search(rb"#define (\w+_state) ", text)[1]
     return b"typedef char %b_told[(sizeof(struct %b) <= %b && sizeof(struct %b) >= %b / 8) ? 1 : -1];\n" % (state, state, told, state, told)
 
 

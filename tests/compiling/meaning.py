@@ -11,7 +11,6 @@ RANGES = {"u8": (0, 2**8 - 1), "u32": (0, 2**32 - 1), "i64": (-(2**63), 2**63 - 
 # What a number of one type may become without a cast, since each number of the one is one of the other.
 WIDER = {("u8", "u32"), ("u8", "i64"), ("u8", "u64"), ("u32", "u64"), ("u32", "i64")}
 MOST_ROUNDS = 1_000_000
-BROKEN = ("break",)
 
 
 class Undefined(Exception):
@@ -42,8 +41,7 @@ def remainder(a, b):
     return a % b
 
 
-COMPARED = {"<": lambda a, b: a < b, "<=": lambda a, b: a <= b, ">": lambda a, b: a > b, ">=": lambda a, b: a >= b}
-COMPARED |= {"==": lambda a, b: a == b, "!=": lambda a, b: a != b}
+COMPARED = {"<": lambda a, b: a < b, "<=": lambda a, b: a <= b, "==": lambda a, b: a == b}
 
 
 def common(one, other):
@@ -117,7 +115,7 @@ class Body:
             raise Undefined("what a pointer to const leads to is written")
         frame = [copied(one) for one in given] + [None] * (len(self.types) - len(given))
         outcome = self.run(frame)
-        if outcome is None or outcome is BROKEN:
+        if outcome is None:
             if self.function.result != "void":
                 raise Undefined("a function answers nothing")
             return None
@@ -218,12 +216,6 @@ class Body:
         value = self.truth(tree[1])
         return "bool", lambda frame: not value(frame)
 
-    def minus_value(self, tree):
-        type_, value = self.value(tree[1])
-        if type_ not in ("i64", "int"):
-            raise Unread(f"- of {type_}")
-        return type_, lambda frame: in_range(-value(frame), type_)
-
     def cast_value(self, tree):
         """To u64 modulo 2^64; else the number itself."""
         type_, value = self.value(tree[2])
@@ -242,7 +234,7 @@ class Body:
             one, other = self.truth(left), self.truth(right)
             return "bool", (lambda frame: one(frame) and other(frame)) if sign == "&&" else (lambda frame: one(frame) or other(frame))
         (left_type, one), (right_type, other) = self.value(left), self.value(right)
-        if sign in ("==", "!=") and left_type == right_type == "bool":
+        if sign == "==" and left_type == right_type == "bool":
             type_ = "bool"
         else:
             type_ = common(left_type, right_type)
@@ -299,7 +291,7 @@ class Body:
         rest = types[len(parts) :]
         return lambda frame: [copied(part(frame)) for part in parts] + [self.meaning.fresh(one, 0) for one in rest]
 
-    # ---- commands: functions that answer None to go on, BROKEN, or what is returned in a list
+    # ---- commands: functions that answer None to go on, or what is returned in a list
 
     def command(self, tree):
         return getattr(self, f"{tree[0]}_command")(*tree[1:])
@@ -319,23 +311,14 @@ class Body:
 
         return work
 
-    def assign_command(self, place, sign, tree):
+    def assign_command(self, place, tree):
         type_, where = self.place(place)
-        value = self.value_of(type_, tree) if not sign else self.value_of(type_, ("binary", sign, place, tree))
+        value = self.value_of(type_, tree)
 
         def work(frame):
             made = copied(value(frame))
             within, at, _ = where(frame)
             within[at] = made
-
-        return work
-
-    def zero_command(self, place):
-        type_, where = self.place(place)
-
-        def work(frame):
-            within, at, _ = where(frame)
-            within[at] = self.meaning.fresh(type_, 0)
 
         return work
 
@@ -351,9 +334,6 @@ class Body:
         holds, one, two = self.truth(test), self.command(then), self.command(other)
         return lambda frame: one(frame) if holds(frame) else two(frame)
 
-    def while_command(self, test, body):
-        return repeated(self.truth(test), self.command(body), lambda frame: None)
-
     def for_command(self, first, test, after, body):
         if first[2] in written(body, self.meaning.program.functions):
             raise Unread(f"the counter {first[2]} is written")
@@ -362,32 +342,11 @@ class Body:
         self.scopes.pop()
         return in_order([begin, repeated(holds, work, then)])
 
-    def switch_command(self, tree, cases):
-        type_, value = self.value(tree)
-        if type_ not in RANGES or not cases or cases[-1][0] is not None:
-            raise Unread("a switch without numbers, or without a default at its end")
-        ways = {case: self.case_of(body) for case, body in cases}
-
-        def work(frame):
-            outcome = ways.get(value(frame), ways[None])(frame)
-            return None if outcome is BROKEN else outcome
-
-        return work
-
-    def case_of(self, body):
-        """A case's commands, of which the last one ends it."""
-        if not body or body[-1][0] not in ("break", "return"):
-            raise Unread("a case that runs into the next one")
-        return self.block_command(body)
-
     def return_command(self, tree):
         if tree is None:
             return lambda frame: [None]
         value = self.value_of(self.function.result, tree)
         return lambda frame: [value(frame)]
-
-    def break_command(self):
-        return lambda frame: BROKEN
 
 
 def content(place):
@@ -427,7 +386,7 @@ def repeated(holds, body, then):
                 return None
             outcome = body(frame)
             if outcome is not None:
-                return None if outcome is BROKEN else outcome
+                return outcome
             then(frame)
         raise Undefined("a loop without an end")
 

@@ -1,18 +1,19 @@
 """A reader of the C that is printed, from its text alone: structs, and functions as trees.
 
 A type is a word of SCALARS or `void`, or ("struct", name), ("array", of, count) or ("pointer", to, whether that is const). An expression is
-a tuple that begins with its kind: number, true or false ("truth"), name, member, at, deref, address, not, minus, cast, binary, choice,
-call, braces, compound. A command is one too: block, declare, assign, call, zero, if, while, for, switch, return, break. What isn't one of these is
-refused, so that nothing is passed over.
+a tuple that begins with its kind: number, true or false ("truth"), name, member, at, deref, address, not, cast, binary, choice, call,
+braces, compound. A command is one too: block, declare, assign, call, if, for, return. What isn't one of these is refused, so that nothing
+is passed over.
 """
 import re
 from dataclasses import dataclass, field
 
 SCALARS = {"bool": "bool", "int64_t": "i64", "uint64_t": "u64", "uint32_t": "u32", "uint8_t": "u8", "void": "void"}
 LITERALS = {"INT64_C": "i64", "UINT64_C": "u64", "UINT32_C": "u32", "UINT8_C": "u8"}
-NAMED = {"INT64_MAX": (2**63 - 1, "i64"), "INT64_MIN": (-(2**63), "i64"), "UINT64_MAX": (2**64 - 1, "u64")}
-TOKEN = re.compile(r"\s*(?:(\d+U?(?!\w))|([A-Za-z_]\w*)|(->|\+\+|--|<=|>=|==|!=|&&|\|\||[-+*%]=|[-+*%<>=!&?:;,.(){}\[\]]))")
-LEVELS = [["||"], ["&&"], ["==", "!="], ["<", "<=", ">", ">="], ["+", "-"], ["*", "%"]]
+NAMED = {"INT64_MIN": (-(2**63), "i64")}
+TOKEN = re.compile(r"\s*(?:(\d+(?!\w))|([A-Za-z_]\w*)|(->|\+\+|<=|==|&&|\|\||[-+*%<=!&?:;,.(){}\[\]]))")
+LEVELS = [["||"], ["&&"], ["=="], ["<", "<="], ["+", "-"], ["*", "%"]]
+DEFINED = re.compile(r"#define (\w+)(?:\((\w+)\))?(?: (.*))?")
 
 
 class Unread(Exception):
@@ -30,18 +31,21 @@ class Function:
 
 @dataclass
 class Program:
-    """The structs, each with its members' types by name, and the functions."""
+    """The structs, each with its members' types by name, the functions, and what the text defines as what, by name: a parameter or None,
+    and tokens."""
 
     structs: dict = field(default_factory=dict)
     functions: dict = field(default_factory=dict)
+    defined: dict = field(default_factory=dict)
+
+    def meant(self, name):
+        """The name that a defined name stands for."""
+        return self.defined[name][1][0]
 
 
 def tokens_of(text):
-    """The words and signs of the C that a compiler of C sees, which isn't of C++ nor clang's."""
-    text = re.sub(r"/\*.*?\*/", " ", text, flags=re.S)
-    text = re.sub(r"^#ifdef \w+\n.*?^#endif\n", "", text, flags=re.S | re.M)
-    text = re.sub(r"^#.*\n", "", text, flags=re.M).rstrip()
-    found, at = [], 0
+    """The words and signs of a text without comments."""
+    found, at, text = [], 0, text.rstrip()
     while at < len(text):
         match = TOKEN.match(text, at)
         if not match:
@@ -51,11 +55,47 @@ def tokens_of(text):
     return found
 
 
+def preprocessed(text):
+    """What a compiler of C sees, which isn't of C++ nor clang's: tokens in which all that is defined has its place, and what is defined."""
+    defined, seen, kept = {}, [True], []
+    for line in re.sub(r"/\*.*?\*/", " ", text, flags=re.S).splitlines():
+        word, _, rest = line.partition(" ")
+        if word in ("#ifdef", "#ifndef"):
+            seen.append(seen[-1] and (rest in defined) == (word == "#ifdef"))
+        elif word == "#else":
+            seen.append(not seen.pop() and seen[-1])
+        elif word == "#endif":
+            seen.pop()
+        elif word == "#define" and seen[-1]:
+            name, parameter, tokens = DEFINED.fullmatch(line.rstrip()).groups()
+            defined[name] = parameter, tokens_of(tokens or "")
+        elif seen[-1] and not line.startswith("#"):
+            kept.append(line)
+    return expanded(tokens_of("\n".join(kept)), defined), defined
+
+
+def expanded(tokens, defined):
+    """The tokens with what is defined in the place of its name."""
+    found, at = [], 0
+    while at < len(tokens):
+        parameter, made = defined.get(tokens[at], (None, None))
+        if made is None:
+            found.append(tokens[at])
+        else:
+            if parameter:
+                made = [tokens[at + 2] if token == parameter else token for token in made]
+                at += 3
+            found += expanded(made, defined)
+        at += 1
+    return found
+
+
 class Reader:
     """Reads tokens from the first to the last."""
 
     def __init__(self, text):
-        self.tokens, self.at, self.program, self.named = [*tokens_of(text), "", ""], 0, Program(), dict(SCALARS)
+        tokens, defined = preprocessed(text)
+        self.tokens, self.at, self.program, self.named = [*tokens, "", ""], 0, Program(defined=defined), dict(SCALARS)
 
     # ---- tokens
 
@@ -134,8 +174,7 @@ class Reader:
             self.program.structs[name] = self.members()
             self.want(";")
         else:
-            while self.next_is("static", "inline"):
-                self.at += 1
+            self.has("static")
             self.function(*self.declared())
 
     def assertion(self):
@@ -171,7 +210,7 @@ class Reader:
         if self.next_is("{"):
             return self.block()
         word = self.tokens[self.at]
-        if word in ("if", "while", "for", "switch", "return", "break"):
+        if word in ("if", "for", "return"):
             self.at += 1
             return getattr(self, f"{word}_command")()
         made = self.declaration() if self.begins_type() else self.simple()
@@ -195,21 +234,11 @@ class Reader:
             self.at -= 1
         place = self.prefix()
         if place[0] == "call":
-            return self.zeroed(place[2]) if place[1] == "memset" else place
-        sign = self.take()
-        if sign in ("++", "--"):
-            return ("assign", place, sign[0], ("number", 1, "int"))
-        if sign not in ("=", "+=", "-="):
-            raise Unread(f"the command {sign}")
-        return ("assign", place, sign[:-1], self.expression())
-
-    @staticmethod
-    def zeroed(given):
-        where, byte, size = given
-        wanted = ("sizeof", where[1]) if where[0] == "address" else ("sizeof", ("deref", where))
-        if byte != ("number", 0, "int") or size != wanted:
-            raise Unread(f"memset of {given}")
-        return ("zero", wanted[1])
+            return place
+        if self.has("++"):
+            return ("assign", place, ("binary", "+", place, ("number", 1, "int")))
+        self.want("=")
+        return ("assign", place, self.expression())
 
     def in_brackets(self):
         self.want("(")
@@ -221,9 +250,6 @@ class Reader:
         test, then = self.in_brackets(), self.command()
         return ("if", test, then, self.command() if self.has("else") else ("block", []))
 
-    def while_command(self):
-        return ("while", self.in_brackets(), self.command())
-
     def for_command(self):
         self.want("(")
         first = self.declaration()
@@ -234,30 +260,10 @@ class Reader:
         self.want(")")
         return ("for", first, test, after, self.command())
 
-    def switch_command(self):
-        value, cases = self.in_brackets(), []
-        self.want("{")
-        while not self.has("}"):
-            case = None if self.has("default") else self.case()
-            self.want(":")
-            body = []
-            while not self.next_is("case", "default", "}"):
-                body.append(self.command())
-            cases.append((case, body))
-        return ("switch", value, cases)
-
-    def case(self):
-        self.want("case")
-        return int(self.take())
-
     def return_command(self):
         value = None if self.next_is(";") else self.expression()
         self.want(";")
         return ("return", value)
-
-    def break_command(self):
-        self.want(";")
-        return ("break",)
 
     # ---- expressions
 
@@ -278,11 +284,9 @@ class Reader:
         return found
 
     def prefix(self):
-        for sign, kind in (("!", "not"), ("-", "minus"), ("*", "deref"), ("&", "address")):
+        for sign, kind in (("!", "not"), ("*", "deref"), ("&", "address")):
             if self.has(sign):
                 return (kind, self.prefix())
-        if self.has("sizeof"):
-            return ("sizeof", self.prefix())
         if self.next_is("("):
             self.at += 1
             if self.begins_type():
@@ -310,7 +314,7 @@ class Reader:
             return self.in_brackets()
         word = self.take()
         if word[:1].isdigit():
-            return ("number", int(word.rstrip("U")), "u32" if word.endswith("U") else "int")
+            return ("number", int(word), "int")
         if word in ("true", "false"):
             return ("truth", word == "true")
         if word in NAMED:

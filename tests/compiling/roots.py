@@ -28,7 +28,7 @@ def written(tree, functions):
     """The names of what commands write, themselves or through a pointer that they pass."""
     found = set()
     for one in parts(tree):
-        if one[0] in ("assign", "zero"):
+        if one[0] == "assign":
             found.add(root(one[1]))
         elif one[0] == "call":
             given = zip(functions[one[1]].parameters, one[2])

@@ -15,6 +15,14 @@ BEFORE = """
 #include <stdbool.h>
 #include <stdint.h>
 
+#ifdef __cplusplus
+#define P_of(T) T
+#define P_zeros(T) T()
+#else
+#define P_of(T) (struct T)
+#define P_zeros(T) (struct T){0}
+#endif
+
 struct P_t0 {
     int64_t m0;
     bool m1;
@@ -51,8 +59,8 @@ static int64_t P_f3(void)
 """
 INT = "static int64_t P_f4(int64_t r0)"
 PAIR = "    struct P_t0 r1;\n    r1.m0 = r0;\n    r1.m1 = true;\n"
-FIXED = "    const struct P_t1 r1 = {{r0, true}, {r0, r0}, {{(struct P_t0){0}}}};\n"
-WHOLE = "    struct P_t1 r1;\n    r1 = (struct P_t1){0};\n    r1.m0.m0 = r0;\n"
+FIXED = "    const struct P_t1 r1 = {{r0, true}, {r0, r0}, {{P_zeros(P_t0)}}};\n"
+WHOLE = "    struct P_t1 r1;\n    r1 = P_zeros(P_t1);\n    r1.m0.m0 = r0;\n"
 LOOP = "    for (uint32_t r1 = 0; (r1 < UINT32_C(5)) && true; r1++) {\n"
 # The head of a function, its lines, what it gets, and what it answers.
 ROWS = [
@@ -102,7 +110,7 @@ ROWS = [
     (INT, "    int64_t r1;\n    r1 = r0;\n    const struct P_t0 r2 = {r1, true};\n    return r2.m1 ? r0 : INT64_C(0);\n", 7, 7),
     # structs and arrays
     (INT, "    const struct P_t0 r1 = {r0, true};\n    return r1.m1 ? r1.m0 : INT64_C(0);\n", 3, 3),
-    (INT, "    struct P_t0 r1;\n    r1 = (struct P_t0){r0, false};\n    r1 = (struct P_t0){0};\n    return r1.m0;\n", 3, 0),
+    (INT, "    struct P_t0 r1;\n    r1 = P_of(P_t0){r0, false};\n    r1 = P_zeros(P_t0);\n    return r1.m0;\n", 3, 0),
     (INT, WHOLE + "    return r1.m1[r0];\n", 2, 0),
     (INT, WHOLE + "    return r1.m1[r0];\n", 3, NOTHING),
     (INT, WHOLE + "    return r1.m1[r0];\n", -1, NOTHING),
@@ -121,7 +129,7 @@ ROWS = [
     (INT, FIXED + "    const struct P_t0 *const r2 = &r1.m2[r0][0];\n    return r2->m0;\n", 1, 0),
     (INT, FIXED + "    const struct P_t0 *const r2 = &r1.m2[r0][0];\n    return r2->m0;\n", 2, NOTHING),
     # stricter than C99: in the whole function nothing is written of the local that such a pointer leads into
-    (INT, "    struct P_t0 r1;\n    r1 = (struct P_t0){0};\n    const struct P_t0 *const r2 = &r1;\n    r1.m0 = r0;\n    return r2->m0;\n", 4, NOTHING),
+    (INT, "    struct P_t0 r1;\n    r1 = P_zeros(P_t0);\n    const struct P_t0 *const r2 = &r1;\n    r1.m0 = r0;\n    return r2->m0;\n", 4, NOTHING),
     (INT, WHOLE + "    const struct P_t0 *const r2 = &r1.m2[0][0];\n    return r2->m0;\n", 4, NOTHING),
     (INT, WHOLE + "    const bool r2 = P_f2(&r1);\n    return r2 ? r0 : INT64_C(0);\n", 4, 4),
     (INT, "    const int64_t r1 = P_f3();\n    return r0 + r1;\n", 4, 12),

@@ -28,6 +28,12 @@ from workbench.program import answering
 from workbench.proposing import APART
 
 NONE_FOUND = re.compile(rb"equal on [\d,]+ samples; no certificate found\n")
+# Where two normal forms differ, with what each has there; and what is told where none is told whole.
+APART_AT = re.compile(rb"(\(at[ \d]*\))\n- (.+)\n\+ (.+)\n(?:the first wire that differs: .+\n)?")
+UNTOLD = {
+    "too long for a line": re.compile(rb".*\.\.", re.S),
+    "search gave up": re.compile(rb"gave up: \d+ nodes visited\n|too long: \d+ steps, \d+ bytes\n"),
+}
 DIFFER = re.compile(rb"they differ on this recording: line (\d+): (.*) and (.*)\n")
 
 
@@ -345,20 +351,18 @@ class Case:
             raise Find(Command("certify", files), "the normal forms differ elsewhere", told, wanted)
 
     def normal_form(self, text, stream):
-        """The normal form of a network, which does what the network does: all of it is told where the target is `time`, if it fits into a line and has
-        another form at its root, and else None."""
+        """The normal form of a network, which does what the network does: beside that of `time` it is told whole, or nothing is known of it."""
         given = typed_of(text).input
-        told = self.program.searched(Command("certify", [text, network_text(given, "time").encode()]))
-        if b".." in told.output:
-            self.tally["normal forms", "too long for a line"] += 1
-            return None
-        net = whole_of(told.output) if told.status else "time"
-        if net is None and re.match(rb"gave up: \d+ nodes visited\n|too long: \d+ steps, \d+ bytes\n", told.output):
-            self.tally["normal forms", "search gave up"] += 1
-            return None
-        if net is None and re.match(rb"\(at( \d+)+\)\n- .+\n\+ .+\n", told.output):
+        told = self.beside_time(text, given)
+        for end, pattern in UNTOLD.items():
+            if pattern.match(told.output):
+                self.tally["normal forms", end] += 1
+                return None
+        found = APART_AT.fullmatch(told.output)
+        if found and found[1] != b"(at)":
             self.tally["normal forms", "differ from that of `time` within"] += 1
-            return None
+            return self.within_time(told, found, given)
+        net = net_in(found[2]) if found else None if told.status else "time"
         if net is None:
             raise Find(Command("certify", [text]), "a normal form other than `time` isn't told", told)
         form = network_text(given, net).encode()
@@ -366,6 +370,18 @@ class Case:
         if outputs[0] != outputs[1]:
             raise Find(Command("run", [text, form], stream), "the normal form writes other bytes", *outputs[::-1])
         return net
+
+    def beside_time(self, text, given):
+        """What the searches tell of the normal forms of a network and of `time`."""
+        return self.program.searched(Command("certify", [text, network_text(given, "time").encode()]))
+
+    def within_time(self, told, found, given):
+        """Holds what is told of `time`'s normal form at a position to the whole of it, which is told beside a constant's."""
+        whole = APART_AT.fullmatch(self.beside_time(network_text(given, ("arr", 0)).encode(), given).output)
+        places = typed_of(network_text(given, net_in(whole[3])).encode()).places
+        position = tuple(map(int, found[1].strip(b"(at )").split()))
+        if position not in places or shown(places[position].tree).encode() != found[3]:
+            raise Find(Command("certify", []), "the normal form of `time` has something else there", told)
 
     def ill_typed(self):
         """Networks with a part that may not fit."""
@@ -448,7 +464,7 @@ WRONG_WORDS = [
     ["laws", "--at", "(at 0", "first"],
     ["laws", "--at", "(at 65536)", "first"],
     ["certify", "first"],
-    ["certify", "first", "second", "third"],
+    ["certify", "first", "second", "third", "fourth"],
     ["optimise", "--certificates", "first"],
     ["types", "-x", "first"],
     [b"types", b"\xff"],
@@ -487,13 +503,10 @@ def text_of(typed):
     return network_text(typed.input, typed.places[()].tree).encode()
 
 
-def whole_of(output):
-    """The network that is told as what the first of two normal forms has at its root, or None."""
-    lines = output.split(b"\n")
-    if len(lines) not in (4, 5) or lines[0] != b"(at)" or not lines[1].startswith(b"- "):
-        return None
+def net_in(text):
+    """The network that a text spells, or None."""
     try:
-        _, net = read_network(b"yampa 2 input Int " + lines[1][2:])
+        _, net = read_network(b"yampa 2 input Int " + text)
     except TextFault:
         return None
-    return net if shown(net).encode() == lines[1][2:] else None
+    return net if shown(net).encode() == text else None

@@ -31,6 +31,9 @@ APART = f"(>>> (&&& {COUNTERS.format(0, 5)} {COUNTERS.format(1, 9)}) (arr (not (
 STEPS = "(>>> (loopPre 0 (arr (then (add (snd x) 1) (pair x x)))) (arr {}))"
 # At most one event of a timer of 3 ticks.
 EVENTS = "(>>> (>>> (repeatedly 3 unit) (accumHoldBy (add (fst x) 1) 0)) (arr (less x 2)))"
+# Each event keeps the first member and starts another, on the other side of what the C keeps: 4 states, the start, one member that has
+# false, and two that have true or false.
+SIDES = "(>>> (arr (pair x (if x (event 5) (none Int)))) (>>> (rpSwitchB (col (iPre false)) (pair (list Int 0) (list Int 1)) (iPre true)) (arr (less (len x) 4))))"
 CYCLE = "(>>> (loopPre 0 (arr (then (if (equal (snd x) 5) 0 (add 1 (snd x))) (pair x x)))) (arr (less x 9)))"
 
 # An observer, more words, the status, and what is told.
@@ -212,6 +215,10 @@ def states_are_searched_without_z3(folder):
     (path,) = in_files(folder, net=TRUTHS + "(>>> (&&& time identity) (arr (or (snd x) (not (snd x)))))")
     status, output, error = tool("prove", path, "--seconds", "30", PYTHONPATH=str(no_z3.parent))
     want("time that nothing reads", status == 0 and "by a search of all states: all 2 seen" in output, output + error)
+    (path,) = in_files(folder, net="yampa 2\ninput Bool\n" + SIDES)
+    status, output, error = tool("prove", path, "--step", "1", "--seconds", "30", PYTHONPATH=str(no_z3.parent))
+    want("members on either side", status == 0 and "by a search of all states: all 4 seen" in output, output + error)
+    (path,) = in_files(folder, net=TRUTHS + "(>>> (&&& time identity) (arr (or (snd x) (not (snd x)))))")
     in_files(folder, **{"z3.py": UNLOADED})
     status, output, error = tool("prove", path, "--seconds", "30", PYTHONPATH=str(folder))
     want("a z3 that can't be loaded", status == 0 and output.startswith("holds ") and error.count("\n") == 1 and "so without z3" in error, output + error)

@@ -1,6 +1,6 @@
 """What stands in the C of a file of Haskell besides what the program prints.
 
-The comment of each function and of each struct of a state also says where the file has that part. A header of a network whose input or
+The comment of each function also says where the file has that part. A header of a network whose input or
 output has names has a second part: structs and enumerations that are called as in the file, and `P_step_named`, which takes and answers
 them, by copies to and from the structs of `P_step`, and returns what that returns.
 
@@ -21,12 +21,11 @@ import re
 from front.shapes import Made, Shape, core_type
 from front.spell import shape_text
 from model.trees import shown
+from workbench.c_structs import rooms_in, types_in
 from workbench.origin import Program
 from workbench.outline import position_in
 
 ENTRY = re.compile(r"^(/\* \S+ at (\(at[ \d]*\))): ", re.M)
-STRUCT = re.compile(r"^struct (\w+) \{ (.*) \}; /\* (.*) \*/$", re.M)
-BOUND = re.compile(r" e\[(\d+)\];")
 CHECKED = re.compile(r"^bool \w+_step\(", re.M)
 SCALARS = {"Int": "int64_t", "Bool": "bool", "Unit": "uint8_t"}
 # What a header ends with, and a whole file doesn't.
@@ -73,7 +72,8 @@ class NamedPart:
 
     def __init__(self, prefix: str, program: Program, header: str):
         self.prefix, self.input, self.output = prefix, program.translation.input, program.translation.output
-        self.structs = {type_: (name, inner) for name, inner, type_ in STRUCT.findall(header)}
+        self.structs = {type_: name for type_, (name, _) in types_in(header).items()}
+        self.rooms = rooms_in(header)
         self.is_checked = CHECKED.search(header) is not None
         self.types: dict[Shape, str] = {}
         # Of each data with constructors, the constants that stand for them.
@@ -120,7 +120,7 @@ class NamedPart:
     def core(self, shape: Shape) -> str:
         """The type of the first part that has the values of a type."""
         type_ = core_type(shape)
-        return SCALARS[type_] if isinstance(type_, str) else f"struct {self.structs[shown(type_)][0]}"
+        return SCALARS[type_] if isinstance(type_, str) else f"struct {self.structs[shown(type_)]}"
 
     def type_of(self, shape: Shape) -> str:
         """A type as C names it; its definition is there then."""
@@ -158,11 +158,9 @@ class NamedPart:
             return [(f"p{number}", part) for number, part in enumerate(shape.parts, 1)]
         return side_members(shape.constructors[0]) or [("unit", Shape("Unit"))]
 
-    def bound(self, shape: Shape) -> str:
+    def bound(self, shape: Shape) -> int:
         """How many elements the first part's list has room for."""
-        found = BOUND.search(self.structs[shown(core_type(shape))][1])
-        assert found is not None
-        return found[1]
+        return self.rooms[shown(core_type(shape))]
 
     def tag(self, name: str) -> str:
         """The name of a struct or an enumeration, that no other one has."""

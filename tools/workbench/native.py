@@ -39,6 +39,8 @@ SUM = re.compile(r"_[0-9a-f]{16}$")
 # What compiler and linker say of values that no program holds.
 TOO_LARGE = [b"relocation truncated", b"exceeds maximum", b"too large"]
 SHORTER = "--most makes lists shorter"
+# What stands before what a compiler says of the text; of its own options it says it otherwise.
+OF_TEXT = b"network.c:"
 GRAPHS = ["-fcallgraph-info=su"]
 # What the C wants of a C library.
 STRING_H = "#include <stddef.h>\nvoid *memset(void *to, int byte, size_t count);\nvoid *memcpy(void *to, const void *from, size_t count);\n"
@@ -110,15 +112,12 @@ def compiled(command: list[str], text: bytes, folder: Path) -> tuple[Path, str]:
 def stack_of(name: str, most: str | None) -> str:
     """What gcc tells of the stack: of what a program calls, as it is without `main`; and of `main`, where it finds what that includes."""
     command = compiler()
-    whole, _ = measured([*command, *GRAPHS], c_of(name, most))
-    text = c_of(name, most, "--no-main")
-    told, ran = measured([*command, *GRAPHS], text)
-    if not told:
-        _, ran = measured(command, text)
-    if ran.returncode:
+    told, ran = measured(command, c_of(name, most, "--no-main"))
+    if ran.returncode and any(words in ran.stderr for words in [OF_TEXT, *TOO_LARGE]):
         raise not_compiled(command, ran)
     if not told:
         raise Refused(f"{command[0]} tells nothing of the stack: it takes gcc (CC=gcc, Debian: apt-get install gcc)", UNREADABLE)
+    whole, _ = measured(command, c_of(name, most))
     return rows_of({**whole, **told})
 
 
@@ -128,7 +127,7 @@ def measured(command: list[str], text: bytes) -> tuple[dict[str, int], subproces
         beside = Path(folder) / "beside"
         beside.mkdir()
         (beside / "string.h").write_text(STRING_H)
-        ran = compile_in(Path(folder), text, [*command, "-c", "-idirafter", str(beside)])
+        ran = compile_in(Path(folder), text, [*command, *GRAPHS, "-c", "-idirafter", str(beside)])
         return stacks_in(Path(folder)), ran
 
 

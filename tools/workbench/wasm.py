@@ -19,6 +19,8 @@ from typing import Any
 
 from front.shapes import Made
 from front.spell import has_fields, named, parts_of, shape_of, shown_type
+from model.trees import shown
+from workbench.c_structs import rooms_in
 from workbench.cache import cache_folder, keep
 from workbench.ending import UNREADABLE, Refused
 from workbench.native import STRING_H
@@ -32,7 +34,6 @@ LINK = ["wasm-ld", "--no-entry", "--stack-first", "-z", f"stack-size={STACK}", "
 MOST_C, MOST_MODULE, MOST_VALUES = 8 << 20, 4 << 20, 16 << 20
 TOO_LARGE = ("too large", "too big", "section size")
 SHORTER = "--most makes lists shorter"
-LETTERS = {"Unit": "u", "Bool": "b", "Int": "i", "Pair": "p", "Event": "e", "List": "l"}
 PLAIN = {"Unit": 1, "Bool": 1, "Int": 8}
 
 # What the C wants of a C library: instructions of WebAssembly.
@@ -65,18 +66,6 @@ class Machine:
     output: dict
 
 
-def letters(type_: Any) -> str:
-    """What the struct of a type is called behind the prefix."""
-    word, *parts = type_ if isinstance(type_, tuple) else (type_,)
-    return LETTERS[word] + "".join(map(letters, parts))
-
-
-def rooms_in(text: str, name: str) -> dict[str, int]:
-    """How many elements the array of each type of lists has room for, by the type's letters."""
-    found = re.findall(rf"^struct {name}_(l[a-z]+) \{{ uint32_t n; [^;]* e\[(\d+)\]; \}};", text, re.M)
-    return {type_: int(room) for type_, room in found}
-
-
 def described(type_: Any, rooms: dict[str, int] | None = None) -> dict:
     """A type for a script: its word, its parts, the names of the parts of nested pairs, which a record has given them, those of an
     enumeration's values, and what else makes one; of a type in a machine also how many bytes a value takes, at which multiples of bytes it
@@ -98,7 +87,7 @@ def described(type_: Any, rooms: dict[str, int] | None = None) -> dict:
     if word in PLAIN:
         return {**made, "size": PLAIN[word], "align": PLAIN[word]}
     if word == "List":
-        made["room"] = rooms[letters(type_)]
+        made["room"] = rooms[shown(type_)]
     return {**made, **placed(made)}
 
 
@@ -132,7 +121,7 @@ def compiled(networks: dict[str, tuple], most: int) -> tuple[bytes, list[Machine
     units, machines = list[str](), list[Machine]()
     for name, (path, given, output) in networks.items():
         text = answered(["compile", "--no-main", "--name", name, "--most", str(most), path]).decode("latin-1")
-        rooms = rooms_in(text, name)
+        rooms = rooms_in(text)
         machine = Machine(name, described(given, rooms), described(output, rooms))
         values = machine.input["size"] + machine.output["size"]
         if values > MOST_VALUES:

@@ -16,6 +16,7 @@ from typing import Any, Iterator, Optional, Sequence
 
 from model.texts import read_network
 from model.trees import expanded, shown
+from workbench.c_structs import SCALARS, Member, structs_in
 from workbench.ending import Refused
 from workbench.native import compiler
 from workbench.program import call, kept
@@ -108,41 +109,68 @@ def as_c(value: Any, type_: Any) -> str:
     return f"{{{len(value) - 1}, {{{items or 0}}}}}"
 
 
-STRUCT = re.compile(r"^struct (observed_\w+) \{\n(.*?)^\};", re.M | re.S)
-FIELD = re.compile(r"^ +(?:struct )?(\w+) (\w+)(?:\[(\d+)\])?;", re.M)
+STATE = re.compile(r"^#define observed_state (\w+)", re.M)
 
 
 def canonical(text: str) -> str:
-    """C that gives states which go on alike the same bytes: the ring of a `delay` is turned to its head, its times count from now on,
-    and what is behind its end is cleared."""
-    made: dict[str, str] = {}
-    for name, body in STRUCT.findall(text):
-        fields = FIELD.findall(body)
-        if {"now", "head", "size", "at", "value"} <= {field for _, field, _ in fields}:
-            lines = ring(name, next(int(count) for _, field, count in fields if field == "at"))
-        else:
-            lines = [each(type_, field, count) for type_, field, count in fields if type_ in made]
-        if lines:
-            made[name] = f"static void canonical_{name}(struct {name} *s)\n{{\n    " + "\n    ".join(lines) + "\n}\n"
-    last = "canonical_observed_state(state);" if "observed_state" in made else "(void)state;"
-    return "".join(made.values()) + f"static void canonical(struct observed_state *state)\n{{\n    {last}\n}}\n"
+    """C that gives states which go on alike the same bytes. Each struct has a function that copies it into zeros: what no value depends on
+    isn't copied."""
+    made = [copying(name, members) for name, members in structs_in(text).items()]
+    state = STATE.search(text)[1]
+    lines = ["static struct observed_state made;", "memset(&made, 0, sizeof made);", f"canonical_{state}(&made, state);", "memcpy(state, &made, sizeof made);"]
+    return "".join([*made, function("static void canonical(struct observed_state *state)", lines)])
 
 
-def ring(name: str, room: int) -> list[str]:
+def function(head: str, lines: Sequence[str]) -> str:
+    return f"{head}\n{{\n    " + "\n    ".join(lines) + "\n}\n"
+
+
+def copying(name: str, members: list[Member]) -> str:
+    """The function of a struct: of the ring of a `delay` its head comes first, and its times count from now on; of a collection those that
+    run are on the first side; of a list the elements that it has are copied."""
+    match [(member.type, len(member.counts)) for member in members]:
+        case [("uint64_t", 0), (_, 0), ("uint32_t", 0), ("uint32_t", 0), ("uint64_t", 1), (_, 1)]:
+            lines = ring(*members)
+        case [("uint32_t", 0), ("uint32_t", 0), (_, 2)]:
+            lines = collection(*members)
+        case [("uint32_t", 0), (_, 1)]:
+            lines = elements(*members)
+        case _:
+            lines = [line for member in members for line in each(member)]
+    return function(f"static void canonical_{name}(struct {name} *to, const struct {name} *from)", lines)
+
+
+def ring(now: Member, out: Member, head: Member, size: Member, times: Member, values: Member) -> list[str]:
+    inner = copied(values, f"{values.name}[i]", f"{values.name}[j]")
+    place = f"const uint32_t j = (from->{head.name} + i) % {values.counts[0]};"
     return [
-        f"struct {name} o = *s;",
-        "memset(s->at, 0, sizeof s->at);",
-        "memset(s->value, 0, sizeof s->value);",
-        f"for (uint32_t i = 0; i < o.size; i++) {{ uint32_t j = (o.head + i) % {room}; s->at[i] = o.at[j] - o.now; s->value[i] = o.value[j]; }}",
-        "s->now = 0;",
-        "s->head = 0;",
+        *each(out),
+        f"to->{size.name} = from->{size.name};",
+        f"for (uint32_t i = 0; i < from->{size.name}; i++) {{ {place} to->{times.name}[i] = from->{times.name}[j] - from->{now.name}; {inner} }}",
     ]
 
 
-def each(type_: str, field: str, count: str) -> str:
-    if count:
-        return f"for (uint32_t i = 0; i < {count}; i++) {{ canonical_{type_}(&s->{field}[i]); }}"
-    return f"canonical_{type_}(&s->{field});"
+def collection(count: Member, side: Member, runs: Member) -> list[str]:
+    inner = copied(runs, f"{runs.name}[0][i]", f"{runs.name}[from->{side.name}][i]")
+    return [f"to->{count.name} = from->{count.name};", f"for (uint32_t i = 0; i < from->{count.name}; i++) {{ {inner} }}"]
+
+
+def elements(count: Member, all_: Member) -> list[str]:
+    inner = copied(all_, f"{all_.name}[i]", f"{all_.name}[i]")
+    return [f"to->{count.name} = from->{count.name};", f"for (uint32_t i = 0; i < from->{count.name}; i++) {{ {inner} }}"]
+
+
+def each(member: Member) -> list[str]:
+    """A member that is copied whole."""
+    place, line = member.name + "".join(f"[i{depth}]" for depth in range(len(member.counts))), ""
+    for depth, count in enumerate(member.counts):
+        line += f"for (uint32_t i{depth} = 0; i{depth} < {count}; i{depth}++) "
+    return [line + copied(member, place, place)]
+
+
+def copied(member: Member, to: str, of: str) -> str:
+    """The statement that copies a value of a member's type."""
+    return f"to->{to} = from->{of};" if member.type in SCALARS else f"canonical_{member.type}(&to->{to}, &from->{of});"
 
 
 def samples_text(text: str, inputs: list, steps: list[int], question: Question) -> str:

@@ -124,6 +124,7 @@ int main(void)
     make_room();
     static struct observed_state start;
     observed_init(&start);
+    canonical(&start);
     keep(&start, (struct origin){0, 0, 0, 0});
     uint32_t depth = 0;
     for (uint32_t at = 0, end = 1; at < end && !(MOST_SAMPLES && depth == MOST_SAMPLES); end = count, depth++) {
