@@ -71,7 +71,7 @@ pub const STAGE: u64 = 45;
 /// `>>>` behind a chain.
 pub const STAGE_BEHIND_CHAIN: u64 = 90;
 /// Lists that an `arr` hands on to the next one: the program shares them, but C copies them.
-pub const LISTS_COPIED: u64 = 800;
+pub const LISTS_COPIED: u64 = 1_600;
 /// `first`.
 pub const FIRST: u64 = 200;
 /// `loopPre`.
