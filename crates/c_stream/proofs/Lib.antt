@@ -1,0 +1,2 @@
+-- Proofs, a file a line.
+pub mod Writing
