@@ -1,5 +1,5 @@
 -- The writers and readers of a filter, behind the functions by hand.
-use Rattle.std.specs.Prelude.{◌≡◌, ℕ, ◌+◌, if◌then◌else◌, List, [], ◌∷◌, ◌++◌, map, length}
+use Rattle.std.specs.Prelude.{◌≡◌, ℕ, ◌+◌, Bool, if◌then◌else◌, List, [], ◌∷◌, ◌++◌, map, length}
 use Rattle.sample_core.specs.TypeTree.{TypeTree, unit_ty, bool_ty, int_ty, pair_ty, event_ty, list_ty}
 use Rattle.leaf_code.specs.Fitting.{Bounds}
 use Rattle.code_fits.specs.Room.{HasRoom}
@@ -8,7 +8,7 @@ use Rattle.c_meaning.specs.Syntax.{File}
 use Rattle.c_meaning.specs.Meaning.{Linked, numbered, link}
 use Rattle.c_leaf.specs.LeafCLaw.{FewElements}
 use Rattle.c_file.specs.Compared.{is_among, number_among}
-use Rattle.c_stream.specs.Streams.{put_unit, put_bool, put_int, read_unit, read_bool, read_int, hand_number, hand_count, AreStreams, Writes, Reads, PutsByHand, TakesByHand}
+use Rattle.c_stream.specs.Streams.{put_unit, put_bool, put_int, read_unit, read_bool, read_int, hand_number, hand_count, Held, AreStreams, Writes, Reads, PutsByHand, TakesByHand}
 use Rattle.c_stream.specs.Writing.{writer}
 use Rattle.c_stream.specs.Reading.{reader}
 
@@ -61,10 +61,11 @@ module _ (l : ℕ) (n : TypeTree → ℕ) (most m : ℕ) (A B : TypeTree) where
 -- behind any functions of which the last ones are those by hand, the output's writer writes its values, and
 -- the input's reader reads its own
 abbrev pub FilterLaw : Type 0
-FilterLaw = (l : ℕ) (Written Unread : List ℕ → Object → Type 0) (n : Bounds) (most m : ℕ)
-    (A B : TypeTree) (fs : List Linked) → AreStreams l Written → AreStreams l Unread
+FilterLaw = (l : ℕ) (written unread : List ℕ → Object → Bool) (n : Bounds) (most m : ℕ)
+    (A B : TypeTree) (fs : List Linked) → AreStreams l (Held written) → AreStreams l (Held unread)
     → FewElements n → HasRoom n most A → length fs ≡ m + hand_count
-    → PutsByHand Written n (numbered fs) m → TakesByHand Unread n most (numbered fs) m
-    → Writes Written n B (numbered (link fs (filter_file l n most m A B)) (writer_number m B B))
-    × Reads Unread n most A
+    → PutsByHand (Held written) n (numbered fs) m → TakesByHand (Held unread) n most (numbered fs) m
+    → Writes (Held written) n B
+    (numbered (link fs (filter_file l n most m A B)) (writer_number m B B))
+    × Reads (Held unread) n most A
     (numbered (link fs (filter_file l n most m A B)) (reader_number m A B A))

@@ -1,5 +1,5 @@
 -- Readers of values, by type: each over those of its parts.
-use Rattle.std.specs.Prelude.{◌≡◌, ◌≤◌, ℕ, pos, true, [], ◌∷◌}
+use Rattle.std.specs.Prelude.{◌≡◌, ◌≤◌, ℕ, pos, Bool, true, List, [], ◌∷◌}
 use Rattle.sample_core.specs.TypeTree.{TypeTree, pair_ty, event_ty, list_ty}
 use Rattle.leaf_code.specs.Fitting.{Bounds}
 use Rattle.c_meaning.specs.Object.{u32, truth_type, Object}
@@ -9,7 +9,7 @@ use Rattle.c_leaf.specs.Representing.{c_type}
 use Rattle.c_leaf.specs.LeafC.{stop_unless}
 use Rattle.c_leaf.specs.LeafCLaw.{FewElements}
 use Rattle.c_forms.specs.Forms.{lines}
-use Rattle.c_stream.specs.Streams.{stream_type, take_pair, is_event, take_none, take_list, take_blank, take_close, is_close, end_list, take, read_part, AreStreams, Reads, TakesByHand}
+use Rattle.c_stream.specs.Streams.{stream_type, take_pair, is_event, take_none, take_list, take_blank, take_close, is_close, end_list, take, read_part, Held, AreStreams, Reads, TakesByHand}
 use Rattle.c_stream.specs.Writing.{has_parts}
 
 -- what an event carries is read
@@ -87,7 +87,7 @@ PartsRead Holds n most F h A = Unit {0}
 
 -- such a function reads a value exactly where one is spelled, where those that it calls do
 abbrev pub ReadingLaw : Type 0
-ReadingLaw = (l : ℕ) (Holds : List ℕ → Object → Type 0) (n : Bounds) (most : ℕ) (F : ℕ → Linked)
-    (m : ℕ) (h : TypeTree → ℕ) (A : TypeTree) → AreStreams l Holds → FewElements n
-    → TakesByHand Holds n most F m → PartsRead Holds n most F h A → has_parts A ≡ true
-    → Reads Holds n most A (function_run F (reader l n most m h A))
+ReadingLaw = (l : ℕ) (test : List ℕ → Object → Bool) (n : Bounds) (most : ℕ) (F : ℕ → Linked) (m : ℕ)
+    (h : TypeTree → ℕ) (A : TypeTree) → AreStreams l (Held test) → FewElements n
+    → TakesByHand (Held test) n most F m → PartsRead (Held test) n most F h A → has_parts A ≡ true
+    → Reads (Held test) n most A (function_run F (reader l n most m h A))

@@ -85,8 +85,11 @@ write_part k e = call no_member k (by_pointer (local 0) ∷ by_const e ∷ [])
 abbrev pub read_part : ℕ → Term → Command
 read_part k e = call truth_type k (by_pointer (local 0) ∷ by_pointer e ∷ [])
 
--- Holds: which bytes a stream holds, those that were written or those that are unread. What holds some is
--- a stream
+-- which bytes a stream holds, those that were written or those that are unread, by a test
+abbrev pub Held : (List ℕ → Object → Bool) → List ℕ → Object → Type 0
+Held test s o = test s o ≡ true
+
+-- what holds bytes is a stream
 abbrev pub AreStreams : ℕ → (List ℕ → Object → Type 0) → Type 0
 AreStreams l Holds = (s : List ℕ) (o : Object) → Holds s o → has_type (stream_type l) o ≡ true
 
@@ -117,32 +120,36 @@ without_word [] bs = if goes_on bs then None else Some bs
 without_word (c ∷ cs) [] = None
 without_word (c ∷ cs) (b ∷ bs) = if nat_eq b c then without_word cs bs else None
 
--- a truth is answered, and these bytes are unread now
-pub record Took (Holds : List ℕ → Object → Type 0) (s : List ℕ) (b : Bool)
+-- what is answered where the bytes s are unread, and these stand behind what is looked for: it is taken; or
+-- it does not stand there, and none is taken
+pub data Tried (Holds : List ℕ → Object → Type 0) (s : List ℕ) (behind : Option (List ℕ))
     (c : Option (List Object × Object)) : Type 0 where
-  pub stream : Object
-  pub result : c ≡ Some (stream ∷ [], truth b)
-  pub holds : Holds s stream
+  tried_there : {rest : List ℕ} {o : Object} → behind ≡ Some rest → c ≡ Some (o ∷ [], truth true)
+      → Holds rest o → Tried Holds s behind c
+  tried_none : {o : Object} → behind ≡ None → c ≡ Some (o ∷ [], truth false) → Holds s o
+      → Tried Holds s behind c
 
--- a function goes on behind what stands in front, or answers that it does not stand there
+-- a function takes what stands in front, if it does
 abbrev pub Takes : (List ℕ → Object → Type 0) → (List ℕ → Option (List ℕ)) → Linked → Type 0
 Takes Holds behind f = (s : List ℕ) (o : Object) → Holds s o
-    → elim (behind s) [ None ↦ Took Holds s false (f (o ∷ [])) | Some r ↦ Took Holds r true (f (o ∷ [])) ]
+    → Tried Holds s (behind s) (f (o ∷ []))
 
 -- a value of the type is spelled in front of the rest, whose lists have at most so many elements
 pub record Stands (most : ℕ) (A : TypeTree) (v : Datum) (s rest : List ℕ) : Type 0 where
   pub spells : SpellsValue v A s rest
   pub fits : Fits (all_at most) v A
 
--- what a reader answers of the bytes s: the value that stands there is read; or none stands there
+-- what a reader answers where the bytes s are unread: the value that stands there is read; or none of the
+-- type stands there
 pub data Read (Holds : List ℕ → Object → Type 0) (n : TypeTree → ℕ) (most : ℕ) (A : TypeTree)
-    (s : List ℕ) : Option (List Object × Object) → Type 0 where
+    (s : List ℕ) (c : Option (List Object × Object)) : Type 0 where
   read_value : {v : Datum} {rest : List ℕ} {o p : Object} → Stands most A v s rest
-      → Represents n A v p → Holds rest o → Read Holds n most A s (Some (o ∷ p ∷ [], truth true))
+      → Represents n A v p → c ≡ Some (o ∷ p ∷ [], truth true) → Holds rest o
+      → Read Holds n most A s c
   read_none : {rest : List ℕ} {o p : Object}
       → ((v : Datum) (behind : List ℕ) → Stands most A v s behind → ⊥)
-      → has_type (c_type n A) p ≡ true → Holds rest o
-      → Read Holds n most A s (Some (o ∷ p ∷ [], truth false))
+      → has_type (c_type n A) p ≡ true → c ≡ Some (o ∷ p ∷ [], truth false) → Holds rest o
+      → Read Holds n most A s c
 
 -- a function reads a value into any object of its type
 abbrev pub Reads : (List ℕ → Object → Type 0) → Bounds → ℕ → TypeTree → Linked → Type 0

@@ -1,5 +1,5 @@
 -- Writers of values, by type: each over those of its parts.
-use Rattle.std.specs.Prelude.{◌≡◌, ℕ, Bool, true, false, [], ◌∷◌}
+use Rattle.std.specs.Prelude.{◌≡◌, ℕ, Bool, true, false, List, [], ◌∷◌}
 use Rattle.sample_core.specs.TypeTree.{TypeTree, unit_ty, bool_ty, int_ty, pair_ty, event_ty, list_ty}
 use Rattle.leaf_code.specs.Fitting.{Bounds}
 use Rattle.c_meaning.specs.Object.{u32, no_member, Object}
@@ -8,7 +8,7 @@ use Rattle.c_meaning.specs.Meaning.{Linked, function_run}
 use Rattle.c_leaf.specs.Representing.{c_type}
 use Rattle.c_leaf.specs.LeafCLaw.{FewElements}
 use Rattle.c_forms.specs.Forms.{lines}
-use Rattle.c_stream.specs.Streams.{stream_type, put_pair, put_event, put_list, put_none, put_blank, put_close, put, write_part, AreStreams, Writes, PutsByHand}
+use Rattle.c_stream.specs.Streams.{stream_type, put_pair, put_event, put_list, put_none, put_blank, put_close, put, write_part, Held, AreStreams, Writes, PutsByHand}
 
 -- whether values of the type have parts; the others are written and read by hand
 abbrev pub has_parts : TypeTree → Bool
@@ -59,7 +59,7 @@ PartsWritten Holds n F w A = Unit {0}
 
 -- such a function writes a value's spelling, where those that it calls do
 abbrev pub WritingLaw : Type 0
-WritingLaw = (l : ℕ) (Holds : List ℕ → Object → Type 0) (n : Bounds) (F : ℕ → Linked) (m : ℕ)
-    (w : TypeTree → ℕ) (A : TypeTree) → AreStreams l Holds → FewElements n
-    → PutsByHand Holds n F m → PartsWritten Holds n F w A → has_parts A ≡ true
-    → Writes Holds n A (function_run F (writer l n m w A))
+WritingLaw = (l : ℕ) (test : List ℕ → Object → Bool) (n : Bounds) (F : ℕ → Linked) (m : ℕ)
+    (w : TypeTree → ℕ) (A : TypeTree) → AreStreams l (Held test) → FewElements n
+    → PutsByHand (Held test) n F m → PartsWritten (Held test) n F w A → has_parts A ≡ true
+    → Writes (Held test) n A (function_run F (writer l n m w A))
