@@ -84,7 +84,7 @@ module _ (l : ℕ) (Holds : List ℕ → Object → Type 0) (n : Bounds) (F : �
         record {
           stream = r5.stream;
           more = C.end ∷ C.end ∷ C.end ∷ C.end ∷ C.end ∷ [];
-          runs = then-run F r1.runs (then-run F r2.runs (then-run F r3.runs (then-run F r4.runs (then-run F r5.runs (ended _)))));
+          runs = then-run F r1.runs (then-run F r2.runs (then-run F r3.runs (then-run F r4.runs (then-run F r5.runs (ended (r5.stream ∷ q ∷ C.end ∷ C.end ∷ C.end ∷ C.end ∷ C.end ∷ []))))));
           holds = subst (λ t. Holds t r5.stream) (five-joined s (codes "(pair ") (spelling v) (codes " ") (spelling x) (codes ")")) r5.holds;
         }
 
@@ -100,7 +100,7 @@ module _ (l : ℕ) (Holds : List ℕ → Object → Type 0) (n : Bounds) (F : �
         record {
           stream = r3.stream;
           more = [];
-          runs = then-run F (chooses-first F {b = put m put_none} (dot (local 1) 0) (o ∷ q ∷ []) (r3.stream ∷ q ∷ C.end ∷ C.end ∷ C.end ∷ []) None refl inside) (ended _);
+          runs = then-run F (chooses-first F {b = put m put_none} (dot (local 1) 0) (o ∷ q ∷ []) (r3.stream ∷ q ∷ C.end ∷ C.end ∷ C.end ∷ []) None refl inside) (ended (r3.stream ∷ q ∷ []));
           holds = subst (λ t. Holds t r3.stream) (three-joined s (codes "(event ") (spelling v) (codes ")")) r3.holds;
         }
 
@@ -111,7 +111,7 @@ module _ (l : ℕ) (Holds : List ℕ → Object → Type 0) (n : Bounds) (F : �
         record {
           stream = r.stream;
           more = [];
-          runs = then-run F (chooses-second F {a = sequence (put m put_event) (sequence (write_part (w A) (dot (local 1) 1)) (put m put_close))} (dot (local 1) 0) (o ∷ q ∷ []) (r.stream ∷ q ∷ C.end ∷ []) None refl r.runs) (ended _);
+          runs = then-run F (chooses-second F {a = sequence (put m put_event) (sequence (write_part (w A) (dot (local 1) 1)) (put m put_close))} (dot (local 1) 0) (o ∷ q ∷ []) (r.stream ∷ q ∷ C.end ∷ []) None refl r.runs) (ended (r.stream ∷ q ∷ []));
           holds = r.holds;
         }
 
@@ -178,7 +178,7 @@ module _ (l : ℕ) (Holds : List ℕ → Object → Type 0) (n : Bounds) (F : �
           record {
             stream = r3.stream;
             more = C.end ∷ C.end ∷ [];
-            runs = then-run F r1.runs (then-run F loops (then-run F r3.runs (ended _)));
+            runs = then-run F r1.runs (then-run F loops (then-run F r3.runs (ended (r3.stream ∷ q ∷ C.end ∷ C.end ∷ []))));
             holds = subst (λ t. Holds t r3.stream) (three-joined s (codes "(list") (spellings vs) (codes ")")) r3.holds;
           }
         where
