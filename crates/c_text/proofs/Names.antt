@@ -131,9 +131,14 @@ one_name P (N.Local k) (N.Local j) o hk hj e = ap N.Local (number_in 114 k j hk 
 one_name P (N.Local k) (N.Member K j) o hk hj e = absurd (member_apart K j (ap first (sym e)))
 one_name P (N.Local k) (N.Function j) o hk hj e =
     absurd (short_apart _ P (102 ∷ decimal j) (local_unmarked k hk) e)
+one_name P (N.Local k) N.Init o hk hj e =
+    absurd (short_apart _ P (codes "init") (local_unmarked k hk) e)
+one_name P (N.Local k) N.Step o hk hj e =
+    absurd (short_apart _ P (codes "step") (local_unmarked k hk) e)
 one_name P (N.Local k) (N.Struct j) o hk hj e =
     absurd (short_apart _ P (116 ∷ decimal j) (local_unmarked k hk) e)
-one_name P (N.Local k) N.Of o hk hj e = absurd (short_apart _ P (codes "of") (local_unmarked k hk) e)
+one_name P (N.Local k) N.Of o hk hj e =
+    absurd (short_apart _ P (codes "of") (local_unmarked k hk) e)
 one_name P (N.Local k) N.Zeros o hk hj e =
     absurd (short_apart _ P (codes "zeros") (local_unmarked k hk) e)
 one_name P (N.Member K k) (N.Local j) o hk hj e = absurd (member_apart K k (ap first e))
@@ -141,6 +146,10 @@ one_name P (N.Member K k) (N.Member L j) o hk hj e =
     ap₂ N.Member o (one_member K k j hk hj (e ∙ ap (λ M. member_text M j) (sym o)))
 one_name P (N.Member K k) (N.Function j) o hk hj e =
     absurd (short_apart _ P (102 ∷ decimal j) (member_unmarked K k hk) e)
+one_name P (N.Member K k) N.Init o hk hj e =
+    absurd (short_apart _ P (codes "init") (member_unmarked K k hk) e)
+one_name P (N.Member K k) N.Step o hk hj e =
+    absurd (short_apart _ P (codes "step") (member_unmarked K k hk) e)
 one_name P (N.Member K k) (N.Struct j) o hk hj e =
     absurd (short_apart _ P (116 ∷ decimal j) (member_unmarked K k hk) e)
 one_name P (N.Member K k) N.Of o hk hj e =
@@ -153,16 +162,39 @@ one_name P (N.Function k) (N.Member K j) o hk hj e =
     absurd (short_apart _ P (102 ∷ decimal k) (member_unmarked K j hj) (sym e))
 one_name P (N.Function k) (N.Function j) o hk hj e =
     ap N.Function (number_behind P 95 102 k j hk hj e)
+one_name P (N.Function k) N.Init o hk hj e = absurd (omega (arith, second P _ _ e))
+one_name P (N.Function k) N.Step o hk hj e = absurd (omega (arith, second P _ _ e))
 one_name P (N.Function k) (N.Struct j) o hk hj e = absurd (omega (arith, second P _ _ e))
 one_name P (N.Function k) N.Of o hk hj e = absurd (omega (arith, second P _ _ e))
 one_name P (N.Function k) N.Zeros o hk hj e = absurd (omega (arith, second P _ _ e))
+one_name P N.Init (N.Local j) o hk hj e =
+    absurd (short_apart _ P (codes "init") (local_unmarked j hj) (sym e))
+one_name P N.Init (N.Member K j) o hk hj e =
+    absurd (short_apart _ P (codes "init") (member_unmarked K j hj) (sym e))
+one_name P N.Init (N.Function j) o hk hj e = absurd (omega (arith, second P _ _ e))
+one_name P N.Init N.Init o hk hj e = refl
+one_name P N.Init N.Step o hk hj e = absurd (omega (arith, second P _ _ e))
+one_name P N.Init (N.Struct j) o hk hj e = absurd (omega (arith, second P _ _ e))
+one_name P N.Init N.Of o hk hj e = absurd (omega (arith, second P _ _ e))
+one_name P N.Init N.Zeros o hk hj e = absurd (omega (arith, second P _ _ e))
+one_name P N.Step (N.Local j) o hk hj e =
+    absurd (short_apart _ P (codes "step") (local_unmarked j hj) (sym e))
+one_name P N.Step (N.Member K j) o hk hj e =
+    absurd (short_apart _ P (codes "step") (member_unmarked K j hj) (sym e))
+one_name P N.Step (N.Function j) o hk hj e = absurd (omega (arith, second P _ _ e))
+one_name P N.Step N.Init o hk hj e = absurd (omega (arith, second P _ _ e))
+one_name P N.Step N.Step o hk hj e = refl
+one_name P N.Step (N.Struct j) o hk hj e = absurd (omega (arith, second P _ _ e))
+one_name P N.Step N.Of o hk hj e = absurd (omega (arith, second P _ _ e))
+one_name P N.Step N.Zeros o hk hj e = absurd (omega (arith, second P _ _ e))
 one_name P (N.Struct k) (N.Local j) o hk hj e =
     absurd (short_apart _ P (116 ∷ decimal k) (local_unmarked j hj) (sym e))
 one_name P (N.Struct k) (N.Member K j) o hk hj e =
     absurd (short_apart _ P (116 ∷ decimal k) (member_unmarked K j hj) (sym e))
 one_name P (N.Struct k) (N.Function j) o hk hj e = absurd (omega (arith, second P _ _ e))
-one_name P (N.Struct k) (N.Struct j) o hk hj e =
-    ap N.Struct (number_behind P 95 116 k j hk hj e)
+one_name P (N.Struct k) N.Init o hk hj e = absurd (omega (arith, second P _ _ e))
+one_name P (N.Struct k) N.Step o hk hj e = absurd (omega (arith, second P _ _ e))
+one_name P (N.Struct k) (N.Struct j) o hk hj e = ap N.Struct (number_behind P 95 116 k j hk hj e)
 one_name P (N.Struct k) N.Of o hk hj e = absurd (omega (arith, second P _ _ e))
 one_name P (N.Struct k) N.Zeros o hk hj e = absurd (omega (arith, second P _ _ e))
 one_name P N.Of (N.Local j) o hk hj e =
@@ -170,6 +202,8 @@ one_name P N.Of (N.Local j) o hk hj e =
 one_name P N.Of (N.Member K j) o hk hj e =
     absurd (short_apart _ P (codes "of") (member_unmarked K j hj) (sym e))
 one_name P N.Of (N.Function j) o hk hj e = absurd (omega (arith, second P _ _ e))
+one_name P N.Of N.Init o hk hj e = absurd (omega (arith, second P _ _ e))
+one_name P N.Of N.Step o hk hj e = absurd (omega (arith, second P _ _ e))
 one_name P N.Of (N.Struct j) o hk hj e = absurd (omega (arith, second P _ _ e))
 one_name P N.Of N.Of o hk hj e = refl
 one_name P N.Of N.Zeros o hk hj e = absurd (omega (arith, second P _ _ e))
@@ -178,6 +212,8 @@ one_name P N.Zeros (N.Local j) o hk hj e =
 one_name P N.Zeros (N.Member K j) o hk hj e =
     absurd (short_apart _ P (codes "zeros") (member_unmarked K j hj) (sym e))
 one_name P N.Zeros (N.Function j) o hk hj e = absurd (omega (arith, second P _ _ e))
+one_name P N.Zeros N.Init o hk hj e = absurd (omega (arith, second P _ _ e))
+one_name P N.Zeros N.Step o hk hj e = absurd (omega (arith, second P _ _ e))
 one_name P N.Zeros (N.Struct j) o hk hj e = absurd (omega (arith, second P _ _ e))
 one_name P N.Zeros N.Of o hk hj e = absurd (omega (arith, second P _ _ e))
 one_name P N.Zeros N.Zeros o hk hj e = refl

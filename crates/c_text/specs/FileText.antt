@@ -1,4 +1,4 @@
--- The text of structs, functions and files.
+-- The text of macros, structs and functions.
 use Rattle.std.specs.Prelude.{ℕ, suc, Bool, true, false, if◌then◌else◌, List, [], ◌∷◌, ◌++◌, codes, map, get_or}
 use Rattle.c_text.specs.declared.name.Name.{Name}
 use Rattle.c_text.specs.declared.name.Name.TheVariants as N
@@ -9,7 +9,6 @@ use Rattle.c_text.specs.declared.tree.Local.{Local}
 use Rattle.c_text.specs.declared.tree.Param.{Param}
 use Rattle.c_text.specs.declared.tree.Param.TheVariants as Q
 use Rattle.c_text.specs.declared.tree.Function.{Function}
-use Rattle.c_text.specs.declared.tree.File.{File}
 use Rattle.c_text.specs.NameText.{name_text}
 use Rattle.c_text.specs.TypeText.{type_text, declared_text, is_empty, left_out, empties}
 use Rattle.c_text.specs.Used.{is_used, command_used}
@@ -38,6 +37,11 @@ abbrev pub unused_param : List ℕ → List Bool → ℕ → List ℕ
 unused_param P U k =
     if is_used U k then [] else codes "    (void)" ++ (name_text P (N.Local k) ++ codes ";\n")
 
+-- before a function of this name: it is the file's own, unless it is one that a program calls
+abbrev pub linkage_text : Name → List ℕ
+linkage_text (N.Function k) = codes "static "
+linkage_text f = codes ""
+
 -- P: the prefix of names; E: which structs have no member
 module _ (P : List ℕ) (E : List Bool) where
   -- the parameters from number k on; whether none was printed before; `void`, if there is none
@@ -58,17 +62,15 @@ module _ (P : List ℕ) (E : List Bool) where
   abbrev pub result_text : CType → List ℕ
   result_text T = if is_empty E T then codes "void" else type_text P T
 
-  -- `T P_fk(`, the parameters, and `)`
-  abbrev pub prototype_text : ℕ → Function → List ℕ
-  prototype_text k f =
-      result_text f.result
-      ++ (codes " "
-      ++ (name_text P (N.Function k)
-      ++ (codes "(" ++ (params_text true 0 f.params.items ++ codes ")"))))
+  -- `T f(`, the parameters, and `)`
+  abbrev pub prototype_text : Name → Function → List ℕ
+  prototype_text f a =
+      result_text a.result
+      ++ (codes " " ++ (name_text P f ++ (codes "(" ++ (params_text true 0 a.params.items ++ codes ")"))))
 
   -- what stands before a body
-  abbrev pub head_text : ℕ → Function → List ℕ
-  head_text k f = codes "static " ++ (prototype_text k f ++ codes "\n")
+  abbrev pub head_text : Name → Function → List ℕ
+  head_text f a = linkage_text f ++ (prototype_text f a ++ codes "\n")
 
   abbrev pub body_text : List Struct → Function → List ℕ
   body_text Ss f =
@@ -78,14 +80,9 @@ module _ (P : List ℕ) (E : List Bool) where
       (map local_of f.params.items) f.body
       ++ codes "}\n"))
 
-  abbrev pub function_text : List Struct → ℕ → Function → List ℕ
-  function_text Ss k f = head_text k f ++ body_text Ss f
-
-  -- functions, from number k on, each behind an empty line
-  abbrev pub functions_text : List Struct → ℕ → List Function → List ℕ
-  functions_text Ss k [] = []
-  functions_text Ss k (f ∷ fs) =
-      (codes "\n" ++ function_text Ss k f) ++ functions_text Ss (suc k) fs
+  -- a function, under this name
+  abbrev pub function_text : List Struct → Name → Function → List ℕ
+  function_text Ss f a = head_text f a ++ body_text Ss a
 
   -- the members of a struct of a kind, from number k on
   abbrev pub members_text : Kind → ℕ → List CType → List ℕ
@@ -117,11 +114,3 @@ macros_text P =
     ++ (macro_text P N.Of (codes "T\n")
     ++ (macro_text P N.Zeros (codes "T()\n#else\n")
     ++ (macro_text P N.Of (codes "(struct T)\n") ++ macro_text P N.Zeros (codes "(struct T){0}\n#endif\n"))))
-
--- a file: what it includes, its macros, its structs and its functions
-abbrev pub file_text : List ℕ → File → List ℕ
-file_text P f =
-    codes "#include <stdbool.h>\n#include <stdint.h>\n\n"
-    ++ (macros_text P
-    ++ (structs_text P (empties f.structs.items) 0 f.structs.items
-    ++ functions_text P (empties f.structs.items) f.structs.items 0 f.functions.items))

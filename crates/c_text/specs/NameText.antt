@@ -23,11 +23,13 @@ member_text K.Event k = member_from (codes "is") (codes "v") k
 member_text K.List k = member_from (codes "n") (codes "e") k
 member_text K.Kept k = numbered_text k
 
--- `r3`, a member, `P_f3`, `P_t3`, `P_of`, `P_zeros`
+-- `r3`, a member, `P_f3`, `P_init`, `P_step`, `P_t3`, `P_of`, `P_zeros`
 abbrev pub name_text : List ℕ → Name → List ℕ
 name_text P (N.Local k) = codes "r" ++ decimal k
 name_text P (N.Member K k) = member_text K k
 name_text P (N.Function k) = P ++ (codes "_f" ++ decimal k)
+name_text P N.Init = P ++ codes "_init"
+name_text P N.Step = P ++ codes "_step"
 name_text P (N.Struct k) = P ++ (codes "_t" ++ decimal k)
 name_text P N.Of = P ++ codes "_of"
 name_text P N.Zeros = P ++ codes "_zeros"
@@ -37,6 +39,8 @@ abbrev pub number_of : Name → ℕ
 number_of (N.Local k) = k
 number_of (N.Member K k) = k
 number_of (N.Function k) = k
+number_of N.Init = 0
+number_of N.Step = 0
 number_of (N.Struct k) = k
 number_of N.Of = 0
 number_of N.Zeros = 0

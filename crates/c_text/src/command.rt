@@ -18,7 +18,7 @@ use std::alloc::{AllocError, Global};
 /// What a command stands under: the prefix of names, the structs and which of them have no member, the
 /// function's result and which locals it uses, what each line begins with, and the locals.
 #[derive(Clone, Copy)]
-pub struct Context<'a> {
+pub(crate) struct Context<'a> {
     pub alloc: Global,
     pub prefix: &'a str,
     pub structs: &'a [Struct],
@@ -333,7 +333,7 @@ impl<'a> Context<'a> {
     /// Adds a command.
     #[cycle(push_command)]
     #[tactic(auto, using(crate::proofs::Rows::block_text))]
-    pub fn push_command(self, text: &mut String, command: &Command) -> Result<(), AllocError>
+    pub(crate) fn push_command(self, text: &mut String, command: &Command) -> Result<(), AllocError>
         ensures { IfOk result (λ _. string_bytes text.new
             ≡ string_bytes text.old ++ printed command_text self.entry command.now) }
     {

@@ -1,14 +1,14 @@
-// Prints structs, functions and files: whole files, or part by part, so that a caller puts a comment
+// Prints the macros, the structs and the functions of a file, part by part, so that a caller puts comments
 // between.
 
 ghost use Rattle.std.specs.Prelude.{◌≡◌, ◌++◌, true, map, IfOk, string_bytes};
 ghost use Rattle.c_text.specs.TypeText.{left_out};
-ghost use Rattle.c_text.specs.FileText.{body_text, file_text, function_text, functions_text, head_text, local_of, macro_text, macros_text, members_text, param_text, param_type, params_text, prototype_text, result_text, struct_text, structs_text, unused_param, unused_params};
+ghost use Rattle.c_text.specs.FileText.{body_text, function_text, head_text, linkage_text, local_of, macro_text, macros_text, members_text, param_text, param_type, params_text, prototype_text, result_text, struct_text, structs_text, unused_param, unused_params};
 
 use crate::command::{Context, push_separator};
 use crate::name::{Name, push_name};
-use crate::tree::{Base, CType, File, Function, Kind, Local, Param, Struct};
-use crate::types::{empties, is_empty, push_declared, push_type};
+use crate::tree::{Base, CType, Function, Kind, Local, Param, Struct};
+use crate::types::{is_empty, push_declared, push_type};
 use crate::used::{is_used, used_in};
 use std::alloc::{AllocError, Global};
 
@@ -20,25 +20,6 @@ pub struct Naming<'a> {
     pub prefix: &'a str,
     pub structs: &'a [Struct],
     pub empty: &'a [bool],
-}
-
-/// A file as C, whose names begin with this prefix. An error only if allocation fails.
-pub fn print_file(alloc: Global, prefix: &str, file: &File) -> Result<String, AllocError>
-    ensures { IfOk result (λ text. string_bytes text ≡ file_text prefix.now file.now) }
-{
-    let empty = empties(alloc, file.structs.as_slice())?;
-    let mut text = String::new(alloc);
-    let naming = Naming {
-        alloc,
-        prefix,
-        structs: file.structs.as_slice(),
-        empty: empty.as_slice(),
-    };
-    text.push_str("#include <stdbool.h>\n#include <stdint.h>\n\n")?;
-    push_macros(&mut text, prefix)?;
-    push_structs(&mut text, naming)?;
-    push_functions(&mut text, naming, file.functions.as_slice())?;
-    Ok(text)
 }
 
 /// Adds the macros that stand before functions, by which the text is C99 and C++11.
@@ -82,7 +63,7 @@ pub fn push_structs(text: &mut String, naming: Naming<'_>) -> Result<(), AllocEr
 }
 
 /// Adds struct k, which has members.
-pub fn push_struct(
+fn push_struct(
     text: &mut String,
     naming: Naming<'_>,
     k: usize,
@@ -119,35 +100,18 @@ fn push_members(
     Ok(())
 }
 
-/// Adds functions, each of which calls earlier ones.
-fn push_functions(
-    text: &mut String,
-    naming: Naming<'_>,
-    functions: &[Function],
-) -> Result<(), AllocError>
-    ensures { IfOk result (λ _. string_bytes text.new ≡ string_bytes text.old
-        ++ functions_text naming.entry.prefix.now naming.entry.empty.now naming.entry.structs.now
-        0 functions.now) }
-{
-    for (k, function) in functions.iter().enumerate() {
-        text.push_str("\n")?;
-        push_function(text, naming, k, function)?;
-    }
-    Ok(())
-}
-
-/// Adds function k.
+/// Adds a function, under this name; it is the file's own, unless it is one that a program calls.
 pub fn push_function(
     text: &mut String,
     naming: Naming<'_>,
-    k: usize,
+    name: Name,
     function: &Function,
 ) -> Result<(), AllocError>
     ensures { IfOk result (λ _. string_bytes text.new ≡ string_bytes text.old
         ++ function_text naming.entry.prefix.now naming.entry.empty.now naming.entry.structs.now
-        k function.now) }
+        name function.now) }
 {
-    push_head(text, naming, k, function)?;
+    push_head(text, naming, name, function)?;
     push_body(text, naming, function)
 }
 
@@ -164,35 +128,46 @@ fn push_result(text: &mut String, naming: Naming<'_>, ty: CType) -> Result<(), A
     Ok(())
 }
 
+/// What stands before a function of this name.
+fn linkage(name: Name) -> &'static str
+    ensures { result.now ≡ linkage_text name }
+{
+    match name {
+        Name::Function(_) => "static ",
+        Name::Init | Name::Step => "",
+        Name::Local(_) | Name::Member(..) | Name::Struct(_) | Name::Of | Name::Zeros => "",
+    }
+}
+
 /// Adds what stands before a function's body.
 fn push_head(
     text: &mut String,
     naming: Naming<'_>,
-    k: usize,
+    name: Name,
     function: &Function,
 ) -> Result<(), AllocError>
     ensures { IfOk result (λ _. string_bytes text.new ≡ string_bytes text.old
-        ++ head_text naming.entry.prefix.now naming.entry.empty.now k function.now) }
+        ++ head_text naming.entry.prefix.now naming.entry.empty.now name function.now) }
 {
-    text.push_str("static ")?;
-    push_prototype(text, naming, k, function)?;
+    text.push_str(linkage(name))?;
+    push_prototype(text, naming, name, function)?;
     text.push_str("\n")?;
     Ok(())
 }
 
-/// Adds what function k is called by: its result's type, its name and its parameters.
-pub fn push_prototype(
+/// Adds what a function is called by: its result's type, its name and its parameters.
+fn push_prototype(
     text: &mut String,
     naming: Naming<'_>,
-    k: usize,
+    name: Name,
     function: &Function,
 ) -> Result<(), AllocError>
     ensures { IfOk result (λ _. string_bytes text.new ≡ string_bytes text.old
-        ++ prototype_text naming.entry.prefix.now naming.entry.empty.now k function.now) }
+        ++ prototype_text naming.entry.prefix.now naming.entry.empty.now name function.now) }
 {
     push_result(text, naming, function.result)?;
     text.push_str(" ")?;
-    push_name(text, naming.prefix, Name::Function(k))?;
+    push_name(text, naming.prefix, name)?;
     text.push_str("(")?;
     push_params(text, naming, function.params.as_slice())?;
     text.push_str(")")?;

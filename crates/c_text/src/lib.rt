@@ -1,10 +1,10 @@
 //! C as trees, and their text.
 //!
-//!     let text = print_file(alloc, "P", &file)?;
+//!     push_macros(&mut text, prefix)?;
+//!     push_structs(&mut text, naming)?;
+//!     push_function(&mut text, naming, Name::Function(0), &function)?;
 //!
-//! Or part by part: behind `push_macros`, `empties` of the structs makes a `Naming`, under which `push_structs`,
-//! `push_struct`, `push_prototype` and `push_function` add a part; `push_type` and `push_declared` are for
-//! declarations.
+//! A `Naming` has what `empties` finds of the structs.
 //!
 //! A tree is one of `c_meaning` (`specs/Meant`), whose structs stand in a table, by number. `specs/TermText`,
 //! `specs/CommandText` and `specs/FileText` say what its text is, a rule a kind of node; `specs/NameText` has
@@ -23,15 +23,11 @@ mod tree;
 mod types;
 mod used;
 
-pub use command::Context;
-pub use file::{
-    Naming, print_file, push_function, push_macros, push_prototype, push_struct, push_structs,
-};
+pub use file::{Naming, push_function, push_macros, push_structs};
 pub use laws::{name_laws, type_rows};
-pub use name::Name;
-pub use term::{Scope, push_address, push_term, push_valued};
+pub use name::{Name, push_name};
 pub use tree::{
     Argument, Base, CType, Command, File, Function, Kind, Literal, Local, Operator, Param, Scalar,
     Struct, Term,
 };
-pub use types::{empties, is_empty, push_declared, push_type};
+pub use types::empties;

@@ -15,6 +15,10 @@ pub enum Name {
     Member(Kind, usize),
     /// Function k.
     Function(usize),
+    /// The function that makes a state before the first sample.
+    Init,
+    /// The function that a program calls at each sample.
+    Step,
     /// Struct k.
     Struct(usize),
     /// The macro by which C and C++ say the type of what stands in braces.
@@ -24,7 +28,7 @@ pub enum Name {
 }
 
 /// Adds a name to the end of the text.
-pub(crate) fn push_name(text: &mut String, prefix: &str, name: Name) -> Result<(), AllocError>
+pub fn push_name(text: &mut String, prefix: &str, name: Name) -> Result<(), AllocError>
     ensures { IfOk result (λ _. string_bytes text.new
         ≡ string_bytes text.old ++ name_text prefix.now name) }
 {
@@ -32,6 +36,8 @@ pub(crate) fn push_name(text: &mut String, prefix: &str, name: Name) -> Result<(
         Name::Local(k) => write!(text, "r{k}")?,
         Name::Member(kind, k) => push_member(text, kind, k)?,
         Name::Function(k) => write!(text, "{prefix}_f{k}")?,
+        Name::Init => write!(text, "{prefix}_init")?,
+        Name::Step => write!(text, "{prefix}_step")?,
         Name::Struct(k) => write!(text, "{prefix}_t{k}")?,
         Name::Of => write!(text, "{prefix}_of")?,
         Name::Zeros => write!(text, "{prefix}_zeros")?,

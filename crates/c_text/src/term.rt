@@ -11,7 +11,7 @@ use std::alloc::AllocError;
 
 /// What an expression stands under: the prefix of names, the structs, and the locals.
 #[derive(Clone, Copy)]
-pub struct Scope<'a> {
+pub(crate) struct Scope<'a> {
     pub prefix: &'a str,
     pub structs: &'a [Struct],
     pub locals: &'a [Local],
@@ -95,7 +95,7 @@ fn push_pointed(text: &mut String, scope: Scope<'_>, k: usize) -> Result<(), All
 
 /// Adds an expression.
 #[cycle(push_term)]
-pub fn push_term(text: &mut String, scope: Scope<'_>, term: &Term) -> Result<(), AllocError>
+pub(crate) fn push_term(text: &mut String, scope: Scope<'_>, term: &Term) -> Result<(), AllocError>
     ensures { IfOk result (λ _. string_bytes text.new
         ≡ string_bytes text.old
         ++ term_text scope.entry.prefix.now scope.entry.structs.now scope.entry.locals.now term.now) }
@@ -250,7 +250,7 @@ fn push_comma(text: &mut String, i: usize) -> Result<(), AllocError>
 }
 
 /// Adds an expression as what is assigned or returned, of this type.
-pub fn push_valued(
+pub(crate) fn push_valued(
     text: &mut String,
     scope: Scope<'_>,
     ty: CType,
@@ -272,7 +272,11 @@ pub fn push_valued(
 }
 
 /// Adds an expression's address.
-pub fn push_address(text: &mut String, scope: Scope<'_>, term: &Term) -> Result<(), AllocError>
+pub(crate) fn push_address(
+    text: &mut String,
+    scope: Scope<'_>,
+    term: &Term,
+) -> Result<(), AllocError>
     ensures { IfOk result (λ _. string_bytes text.new ≡ string_bytes text.old
         ++ address_text scope.entry.prefix.now scope.entry.structs.now
         scope.entry.locals.now term.now) }

@@ -67,7 +67,7 @@ fn push_base(text: &mut String, prefix: &str, base: Base) -> Result<(), AllocErr
 }
 
 /// Adds a type, of arrays that of their elements.
-pub fn push_type(text: &mut String, prefix: &str, ty: CType) -> Result<(), AllocError>
+pub(crate) fn push_type(text: &mut String, prefix: &str, ty: CType) -> Result<(), AllocError>
     ensures { IfOk result (λ _. string_bytes text.new
         ≡ string_bytes text.old ++ type_text prefix.now ty) }
 {
@@ -87,7 +87,7 @@ fn push_count(text: &mut String, ty: CType) -> Result<(), AllocError>
 }
 
 /// Adds what is declared: its type and its name.
-pub fn push_declared(
+pub(crate) fn push_declared(
     text: &mut String,
     prefix: &str,
     ty: CType,
@@ -193,7 +193,7 @@ pub(crate) fn push_zeroed(text: &mut String, prefix: &str, ty: CType) -> Result<
 }
 
 /// Whether a type has no member at all; `empty` says which structs have none.
-pub fn is_empty(empty: &[bool], ty: CType) -> bool
+pub(crate) fn is_empty(empty: &[bool], ty: CType) -> bool
     ensures { result ≡ is_empty empty.now ty }
 {
     match base_of(ty) {

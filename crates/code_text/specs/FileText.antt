@@ -1,13 +1,16 @@
 -- The C of a network: a file.
-use Rattle.std.specs.Prelude.{◌≡◌, ℕ, suc, ◌==◌, Bool, true, false, if◌then◌else◌, List, [], ◌∷◌, ◌++◌, codes, map, slice_get, Option, Some, None}
+use Rattle.std.specs.Prelude.{◌≡◌, ℕ, suc, ◌==◌, nat_lt, Bool, true, false, if◌then◌else◌, List, [], ◌∷◌, ◌++◌, codes, map, slice_get, Option, Some, None}
 use Rattle.sample_core.specs.TypeTree.{TypeTree}
 use Rattle.sample_core.specs.TypeView.{type_of}
 use Rattle.code_fits.specs.declared.layout.Program.{Program}
+use Rattle.c_text.specs.declared.name.Name.{Name}
+use Rattle.c_text.specs.declared.name.Name.TheVariants as N
 use Rattle.c_text.specs.declared.tree.Base.TheVariants as B
 use Rattle.c_text.specs.declared.tree.CType.{CType}
 use Rattle.c_text.specs.declared.tree.CType.TheVariants as T
 use Rattle.c_text.specs.declared.tree.Function.{Function}
 use Rattle.c_text.specs.TypeText.{empties}
+use Rattle.c_text.specs.NameText.{name_text}
 use Rattle.c_text.specs.FileText.{macros_text, structs_text, function_text}
 use Rattle.c_build.specs.declared.file.Built.{Built}
 use Rattle.c_build.specs.Building.{IsBuilt}
@@ -17,7 +20,7 @@ use Rattle.code_text.specs.declared.file.Options as D
 use Rattle.code_text.specs.declared.file_text.TheConstants.{POSIX, FILTER_INCLUDES, PRAGMAS}
 use Rattle.code_text.specs.Piece.{Piece, text, name, number, ty, letter, spelt, pieces_text}
 use Rattle.code_text.specs.NamedText.{with_each}
-use Rattle.code_text.specs.FixedText.{use_pieces, opening_pieces, bounded_pieces, prototypes_text, entries_text}
+use Rattle.code_text.specs.FixedText.{use_pieces, opening_pieces, bounded_pieces, prototypes_text}
 use Rattle.code_text.specs.FoldedText.{folded_lines}
 use Rattle.code_text.specs.Fingerprint.{fingerprint}
 use Rattle.code_text.specs.CommentText.{comment_of}
@@ -150,12 +153,26 @@ comment_at p b i k = if is_step b i k then comment_of p k else []
 abbrev pub behind : Built → ℕ → ℕ → ℕ
 behind b i k = if is_step b i k then suc k else k
 
+-- the name of function i of the file: two have names of their own, by which a program calls them
+abbrev pub name_at : Built → ℕ → Name
+name_at b i = if i == b.init then N.Init else if i == b.step then N.Step else N.Function i
+
+-- the function behind `init`: the step of an input whose lists are within their arrays
+abbrev pub within_name : Built → Name
+within_name b = if nat_lt b.init b.step then name_at b (suc b.init) else N.Step
+
+-- the step that the filter calls, which needn't test lists: its reader has
+abbrev pub within_text : List ℕ → Built → List ℕ
+within_text P b =
+    pieces_text P (text (codes "\n#define ") ∷ name ∷ text (codes "_step_within ") ∷ [])
+    ++ (name_text P (within_name b) ++ codes "\n")
+
 -- p, b: a program and its C; E: which of its structs have no member
 module _ (p : Program) (o : Options) (b : Built) (E : List Bool) where
   -- function i of the file, where the next step is that of function k of the code
   abbrev pub function_at : ℕ → ℕ → Function → List ℕ
   function_at i k f =
-      codes "\n" ++ (comment_at p b i k ++ function_text o.prefix E b.file.structs.items i f)
+      codes "\n" ++ (comment_at p b i k ++ function_text o.prefix E b.file.structs.items (name_at b i) f)
 
   -- the functions from number i on
   abbrev pub functions_text : ℕ → ℕ → List Function → List ℕ
@@ -175,19 +192,18 @@ module _ (p : Program) (o : Options) (b : Built) (E : List Bool) where
   declarations_text =
       about_text o p.state_bytes ++ declared_text (fingerprint (about_text o p.state_bytes))
 
-  -- the functions: macros, those of the file, and the two that a program calls
+  -- the functions, behind macros
   abbrev pub definitions_text : List ℕ
   definitions_text =
       pieces_text o.prefix (text PRAGMAS.now ∷ [])
-      ++ (macros_text o.prefix
-      ++ (functions_text 0 0 b.file.functions.items
-      ++ entries_text o.prefix o.unchecked b.init b.step))
+      ++ (macros_text o.prefix ++ functions_text 0 0 b.file.functions.items)
 
   -- the same with a filter, and what that stands on
   abbrev pub filtered_text : List ℕ
   filtered_text =
       pieces_text o.prefix (text FILTER_INCLUDES.now ∷ [])
-      ++ (definitions_text ++ filter_text o.prefix (types_of p) o.input o.output o.most)
+      ++ (definitions_text
+      ++ (within_text o.prefix b ++ filter_text o.prefix (types_of p) o.input o.output o.most))
 
   -- what stands behind the declarations
   abbrev pub printed_text : Printed → List ℕ

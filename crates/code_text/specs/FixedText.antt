@@ -1,4 +1,4 @@
--- The C that each file has: how it is used, its beginning, and the two functions that a program calls.
+-- The C that each file has: how it is used, its beginning, and the declarations of what a program calls.
 use Rattle.std.specs.Prelude.{ℕ, Bool, true, false, List, [], ◌∷◌, ◌++◌, codes}
 use Rattle.code_text.specs.Piece.{Piece, text, name, number, hex, pieces_text}
 
@@ -38,7 +38,7 @@ abbrev pub returned : Bool → List ℕ
 returned true = codes "void "
 returned false = codes "bool "
 
--- the two functions: a state before the first sample, and a step
+-- what a program calls: what makes a state before the first sample, and a step
 abbrev pub init_head : List Piece
 init_head =
     text (codes "void ") ∷ name ∷ text (codes "_init(struct ") ∷ name ∷ text (codes "_state *state)")
@@ -58,25 +58,3 @@ prototypes_text P unchecked =
     ++ (codes ";\n"
     ++ (pieces_text P (step_head unchecked)
     ++ pieces_text P (text (codes ";\n#ifdef __cplusplus\n}\n#endif\n\n#endif\n") ∷ []))))
-
--- how a step hands on what it is handed
-abbrev pub returning : Bool → List ℕ
-returning true = codes "    "
-returning false = codes "    return "
-
--- they call functions i and j of the file
-abbrev pub init_body : ℕ → List Piece
-init_body i =
-    text (codes "\n{\n    ") ∷ name ∷ text (codes "_f") ∷ number i ∷ text (codes "(state);\n}\n") ∷ []
-
-abbrev pub step_body : Bool → ℕ → List Piece
-step_body unchecked j =
-    text (codes "\n{\n") ∷ text (returning unchecked) ∷ name ∷ text (codes "_f") ∷ number j
-    ∷ text (codes "(state, dt, input, output);\n}\n") ∷ []
-
-abbrev pub entries_text : List ℕ → Bool → ℕ → ℕ → List ℕ
-entries_text P unchecked i j =
-    codes "\n"
-    ++ (pieces_text P init_head
-    ++ (pieces_text P (init_body i)
-    ++ (codes "\n" ++ (pieces_text P (step_head unchecked) ++ pieces_text P (step_body unchecked j)))))

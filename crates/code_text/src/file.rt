@@ -3,18 +3,20 @@
 ghost use Rattle.std.specs.Prelude.{◌≡◌, ◌++◌, IfOk, string_bytes};
 ghost use Rattle.code_fits.specs.Tables.{TableHolds};
 ghost use Rattle.code_text.specs.Piece.{pieces_text};
-ghost use Rattle.code_text.specs.FileText.{IsCOf, comment_at, declarations_text, declared_text, definitions_text, file_text, filtered_text, function_at, functions_text, is_step, options_in, parts_text, posix_pieces, printed_text};
+ghost use Rattle.code_text.specs.FileText.{IsCOf, comment_at, declarations_text, declared_text, definitions_text, file_text, filtered_text, function_at, functions_text, is_step, name_at, options_in, parts_text, posix_pieces, printed_text, within_name, within_text};
 
 use crate::about::about;
 use crate::comment::push_comment_of;
 use crate::file_text::{FILTER_INCLUDES, POSIX, PRAGMAS};
 use crate::filter::push_filter;
 use crate::fingerprint::fingerprint;
-use crate::fixed::{push_entries, push_opening, push_prototypes};
+use crate::fixed::{push_opening, push_prototypes};
 use crate::names::push_names;
 use crate::piece::{Piece, push};
 use c_build::{Built, Unbuilt, build};
-use c_text::{Function, Naming, empties, push_function, push_macros, push_structs};
+use c_text::{
+    Function, Name, Naming, empties, push_function, push_macros, push_name, push_structs,
+};
 use code_fits::Program;
 use sample_core::{Memory, Ty};
 use std::alloc::Global;
@@ -123,6 +125,7 @@ fn push_filtered(alloc: Global, text: &mut String, source: Source<'_>) -> Result
     let options = source.options;
     push(text, options.prefix, &[Piece::Text(FILTER_INCLUDES)])?;
     push_definitions(alloc, text, source)?;
+    push_within(text, options.prefix, source.built)?;
     push_filter(
         text,
         options.prefix,
@@ -131,6 +134,36 @@ fn push_filtered(alloc: Global, text: &mut String, source: Source<'_>) -> Result
         options.output,
         options.most,
     )
+}
+
+/// The step that the filter calls, which needn't test lists: its reader has.
+fn push_within(text: &mut String, prefix: &str, built: &Built) -> Result<(), Memory>
+    ensures { IfOk result (λ _. string_bytes text.new
+        ≡ string_bytes text.old ++ within_text prefix.now built.now) }
+{
+    push(
+        text,
+        prefix,
+        &[
+            Piece::Text("\n#define "),
+            Piece::Name,
+            Piece::Text("_step_within "),
+        ],
+    )?;
+    push_name(text, prefix, within_name(built))?;
+    text.push_str("\n")?;
+    Ok(())
+}
+
+/// The name of the function behind `init`: the step of an input whose lists are within their arrays.
+fn within_name(built: &Built) -> Name
+    ensures { result ≡ within_name built.now }
+{
+    if built.init < built.step {
+        name_at(built, built.init + 1)
+    } else {
+        Name::Step
+    }
 }
 
 /// The comment, and the declarations, which have its fingerprint.
@@ -200,14 +233,20 @@ fn push_definitions(alloc: Global, text: &mut String, source: Source<'_>) -> Res
     let options = source.options;
     push(text, options.prefix, &[Piece::Text(PRAGMAS)])?;
     push_macros(text, options.prefix)?;
-    push_functions(alloc, text, source)?;
-    push_entries(
-        text,
-        options.prefix,
-        options.unchecked,
-        source.built.init,
-        source.built.step,
-    )
+    push_functions(alloc, text, source)
+}
+
+/// The name of function i of the file: two have names of their own, by which a program calls them.
+fn name_at(built: &Built, i: usize) -> Name
+    ensures { result ≡ name_at built.now i }
+{
+    if i == built.init {
+        Name::Init
+    } else if i == built.step {
+        Name::Step
+    } else {
+        Name::Function(i)
+    }
 }
 
 /// Whether function i of the file is the step of function k of the code.
@@ -260,7 +299,7 @@ fn push_function_at(
             structs: source.built.file.structs.as_slice(),
             empty: source.empty,
         },
-        i,
+        name_at(source.built, i),
         function,
     )?;
     Ok(())

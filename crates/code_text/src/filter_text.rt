@@ -347,7 +347,7 @@ int main(void)
     for (; @_find_line(&source, line); line++) {
         struct @_reader r = { source.at, source.at, "" };
         const int64_t dt = @_read_line(&r, line, &input);
-        @_step(&state, dt, &input, &output);
+        @_step_within(&state, dt, &input, &output);
         @_put_output(&output);
         @_put("\n", 1);
         source.at = r.at + 1;

@@ -1,8 +1,8 @@
-// The C that each file has: how it is used, its beginning, and the two functions that a program calls.
+// The C that each file has: how it is used, its beginning, and the declarations of what a program calls.
 
 ghost use Rattle.std.specs.Prelude.{◌≡◌, ◌++◌, IfOk, string_bytes};
 ghost use Rattle.code_text.specs.Piece.{pieces_text};
-ghost use Rattle.code_text.specs.FixedText.{bounded_pieces, entries_text, init_body, init_head, opening_pieces, promised, prototypes_text, returned, returning, step_body, step_head, use_pieces};
+ghost use Rattle.code_text.specs.FixedText.{bounded_pieces, init_head, opening_pieces, promised, prototypes_text, returned, step_head, use_pieces};
 
 use crate::piece::{Piece, push};
 use sample_core::Memory;
@@ -171,73 +171,4 @@ pub(crate) fn push_prototypes(
         prefix,
         &[Piece::Text(";\n#ifdef __cplusplus\n}\n#endif\n\n#endif\n")],
     )
-}
-
-/// How a step hands on what it is handed.
-fn returning(unchecked: bool) -> &'static str
-    ensures { result.now ≡ returning unchecked }
-{
-    if unchecked { "    " } else { "    return " }
-}
-
-/// The state before the first sample is what this function makes.
-fn push_init_body(text: &mut String, prefix: &str, init: usize) -> Result<(), Memory>
-    ensures { IfOk result (λ _. string_bytes text.new
-        ≡ string_bytes text.old ++ pieces_text prefix.now (init_body init)) }
-{
-    push(
-        text,
-        prefix,
-        &[
-            Piece::Text("\n{\n    "),
-            Piece::Name,
-            Piece::Text("_f"),
-            Piece::Number(init),
-            Piece::Text("(state);\n}\n"),
-        ],
-    )
-}
-
-/// The step is this function's.
-fn push_step_body(
-    text: &mut String,
-    prefix: &str,
-    unchecked: bool,
-    step: usize,
-) -> Result<(), Memory>
-    ensures { IfOk result (λ _. string_bytes text.new
-        ≡ string_bytes text.old ++ pieces_text prefix.now (step_body unchecked step)) }
-{
-    let returning = returning(unchecked);
-    push(
-        text,
-        prefix,
-        &[
-            Piece::Text("\n{\n"),
-            Piece::Text(returning),
-            Piece::Name,
-            Piece::Text("_f"),
-            Piece::Number(step),
-            Piece::Text("(state, dt, input, output);\n}\n"),
-        ],
-    )
-}
-
-/// The two functions that a program calls, by the numbers of those that they call.
-pub(crate) fn push_entries(
-    text: &mut String,
-    prefix: &str,
-    unchecked: bool,
-    init: usize,
-    step: usize,
-) -> Result<(), Memory>
-    ensures { IfOk result (λ _. string_bytes text.new
-        ≡ string_bytes text.old ++ entries_text prefix.now unchecked init step) }
-{
-    text.push_str("\n")?;
-    push_init_head(text, prefix)?;
-    push_init_body(text, prefix, init)?;
-    text.push_str("\n")?;
-    push_step_head(text, prefix, unchecked)?;
-    push_step_body(text, prefix, unchecked, step)
 }

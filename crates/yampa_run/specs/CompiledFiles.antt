@@ -47,8 +47,9 @@ pub record HasCalls (unchecked : Bool) (n : Bounds) (A B : TypeTree) (xs : Timed
 abbrev pub state_in : Built → CType
 state_in b = type_meant (structs_meant b.file.structs.items) b.state
 
--- the functions of the printed C, by the rules of C99: from any state on, `init` has a result, and from
--- what it leaves `step` has one at each call, and outputs these values
+-- `P_init` and `P_step` of the printed C (`name_at` of code_text), by the rules of C99: from any state
+-- on, the one has a result, and from what it leaves the other has one at each call, and outputs these
+-- values
 pub record RunsC (unchecked : Bool) (n : Bounds) (B : TypeTree) (b : Built) (s : Object)
     (hs : List Handed) (vs : List Datum) : Type 0 where
   pub state : Object

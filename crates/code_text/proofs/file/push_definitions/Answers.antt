@@ -1,10 +1,9 @@
-use Rattle.code_text.proofs.Joined.{joined_four}
+use Rattle.code_text.proofs.Joined.{joined_three}
 use Rattle.code_text.proofs.file.push_definitions.Goals as goal
 
 pub returns : goal.returns
 returns c =
-    joined_four _ _ _ _ _ _ _ _ _ _
+    joined_three _ _ _ _ _ _ _ _
     c.in_ok-push.ensures
     c.in_ok-push_macros.ensures
-    c.in_ok-push_functions.ensures
-    c.push_entries.ensures
+    c.push_functions.ensures
