@@ -126,7 +126,7 @@ PLANTED = {
     "operands are swapped": (DELAY, r"\(\(uint64_t\)r1\) - \(\(uint64_t\)\(\*r0\)\)", "((uint64_t)(*r0)) - ((uint64_t)r1)"),
     "a ring's head doesn't wrap": (DELAY, r"r0->m2 = \(.*;", "r0->m2 = r0->m2 + UINT32_C(1);"),
     "a place behind the ring": (DELAY, r"\(UINT32_C\(4\) <= \(r0->m2 \+ r0->m3\)\) \?", "(UINT32_C(9) <= (r0->m2 + r0->m3)) ?"),
-    "a sum without wrapping": ("(arr (add x 9223372036854775807))", r"= \(\(\(\(uint64_t\).*;", "= (*r0) + r1;"),
+    "a sum without wrapping": ("(arr (add x 9223372036854775807))", r"= net_signed\(.*;", "= (*r0) + r1;"),
     "a copy is left out": (FROZEN, r"    r0->m3\.m1 = r0->m2\.m0;\n", ""),
     "a copy comes too late": (FROZEN, r"(    r0->m3\.m1 = r0->m2\.m0;\n)((?:.*\n)*?)(    if \(!r)", r"\2\1\3"),
     "a part is left out of braces": ("(arr (pair x x))", r"\{\(\*r0\), \(\*r0\)\}", "{(*r0)}"),

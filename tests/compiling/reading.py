@@ -83,11 +83,23 @@ def expanded(tokens, defined):
             found.append(tokens[at])
         else:
             if parameter:
-                made = [tokens[at + 2] if token == parameter else token for token in made]
-                at += 3
+                end = closing(tokens, at + 1)
+                given = tokens[at + 2 : end]
+                made = [one for token in made for one in (given if token == parameter else [token])]
+                at = end
             found += expanded(made, defined)
         at += 1
     return found
+
+
+def closing(tokens, at):
+    """Where the parenthesis is closed that stands there."""
+    depth = 0
+    for end in range(at, len(tokens)):
+        depth += {"(": 1, ")": -1}.get(tokens[end], 0)
+        if not depth:
+            return end
+    raise Unread("a parenthesis isn't closed")
 
 
 class Reader:

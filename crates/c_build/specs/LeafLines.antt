@@ -1,5 +1,5 @@
 -- The lines of an expression's code, by what they stand under.
-use Rattle.std.specs.Prelude.{ℕ, pos, ◌+◌, Bool, false, if◌then◌else◌, List, [], ◌∷◌, ◌++◌, map, length}
+use Rattle.std.specs.Prelude.{ℕ, ◌+◌, Bool, false, if◌then◌else◌, List, map, length}
 use Rattle.sample_core.specs.TypeTree.{TypeTree}
 use Rattle.sample_core.specs.TypeView.{type_of}
 use Rattle.leaf_code.specs.Operation.{Operation}
@@ -10,14 +10,9 @@ use Rattle.leaf_code.specs.Running.{Step}
 use Rattle.leaf_code.specs.CodeOf.{type_at}
 use Rattle.leaf_code.specs.CodeView.{operation_of, steps_in}
 use Rattle.c_meaning.specs.Syntax.{Term, local, Command, sequence, define, refer, answer}
-use Rattle.c_text.specs.declared.tree.Scalar.TheVariants as N
-use Rattle.c_text.specs.declared.tree.Operator.TheVariants as P
-use Rattle.c_text.specs.declared.tree.Literal.TheVariants as L
 use Rattle.c_leaf.specs.LeafC.{is_struct, operation_term, step_command, steps_command}
 use Rattle.c_leaf.specs.Representing.{c_type}
 use Rattle.c_file.specs.Compared.{number_among}
-use Rattle.c_build.specs.declared.sym.Sym.{Sym}
-use Rattle.c_build.specs.declared.sym.Sym.TheVariants as S
 use Rattle.c_build.specs.declared.operation.Lines.{Lines}
 use Rattle.c_build.specs.declared.frame.Frame.{Frame}
 use Rattle.c_text.specs.Meant.{structs_meant}
@@ -79,11 +74,3 @@ leaf_at l k =
 -- registers as terms
 abbrev pub registers_at : Lines → List ℕ → List Term
 registers_at l ks = map (λ k. local (local_at l k)) ks
-
--- a `uint64_t`, which these symbols build, as an `int64_t`
-abbrev pub wrapped_symbols : List Sym → List Sym
-wrapped_symbols e =
-    e ++ (S.Literal (L.Uint64 9223372036854775807) ∷ S.Binary P.AtMost N.Uint64 ∷ []
-    ++ (e ++ (S.Cast N.Int64 ∷ S.Literal (L.Int64 (pos 0)) ∷ S.Literal (L.Uint64 18446744073709551615) ∷ []
-    ++ (e ++ (S.Binary P.Minus N.Uint64 ∷ S.Cast N.Int64 ∷ S.Binary P.Minus N.Int64
-    ∷ S.Literal (L.Int64 (pos 1)) ∷ S.Binary P.Minus N.Int64 ∷ S.Choice ∷ [])))))

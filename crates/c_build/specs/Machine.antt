@@ -7,6 +7,7 @@ use Rattle.c_text.specs.declared.tree.Command.{Command}
 use Rattle.c_meaning.specs.Object.{CType}
 use Rattle.c_meaning.specs.Syntax as M
 use Rattle.c_meaning.specs.Syntax.{dot, at, binary, inverse, both, either, cast, by_value, by_const, by_pointer, define, refer, answer}
+use Rattle.c_meaning.specs.Wrapping.{wrapped}
 use Rattle.c_build.specs.declared.sym.Sym.{Sym}
 use Rattle.c_build.specs.declared.sym.Sym.TheVariants as S
 use Rattle.c_build.specs.Symbols.{Stacks}
@@ -23,6 +24,7 @@ stacks_of Ts es as1 cs = record {
 abbrev pub of_one : Sym → M.Term → M.Term
 of_one (S.Dot k) e = dot e k
 of_one (S.Cast T) e = cast (scalar_meant T) e
+of_one S.Signed e = wrapped e
 of_one _ e = inverse e
 
 abbrev pub of_pair : Sym → M.Term → M.Term → M.Term

@@ -3,6 +3,7 @@ use Rattle.std.specs.Prelude.{ℕ, zero, suc, List, [], ◌∷◌, ◌++◌, dro
 use Rattle.c_text.specs.Meant.{scalar_meant, operator_meant, literal_meant, type_meant, tail_meant}
 use Rattle.c_meaning.specs.Object.{CType}
 use Rattle.c_meaning.specs.Syntax.{Term, local, dot, at, zeroed, none, braced, binary, inverse, both, either, choice, cast, Argument, by_value, by_const, by_pointer, Command, skip, sequence, declare, define, refer, assign, call, branch, loop, answer}
+use Rattle.c_meaning.specs.Wrapping.{wrapped}
 use Rattle.c_build.specs.declared.sym.Sym.{Sym}
 use Rattle.c_build.specs.declared.sym.Sym.TheVariants as S
 
@@ -130,6 +131,7 @@ module _ (Ts : List CType) where
   step S.Either s = of_two either s
   step S.Choice s = of_three choice s
   step (S.Cast T) s = of_term (cast (scalar_meant T)) s
+  step S.Signed s = of_term wrapped s
   step S.Open s = record { terms = s.terms; arguments = []; commands = s.commands }
   step S.Value s = of_argument by_value s
   step S.Const s = of_argument by_const s

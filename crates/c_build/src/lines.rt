@@ -3,8 +3,7 @@
 ghost use Rattle.std.specs.Prelude.{◌≡◌, ◌+◌, ◌*◌, ◌<◌, ◌^◌, ℕ, List, IfOk, length};
 ghost use Rattle.sample_core.specs.TypeTree.{TypeTree};
 ghost use Rattle.leaf_code.specs.Fitting.{Bounds};
-ghost use Rattle.c_meaning.specs.Object.{u64};
-ghost use Rattle.c_meaning.specs.Syntax.{Term, binary, cast};
+ghost use Rattle.c_meaning.specs.Syntax.{Term};
 ghost use Rattle.c_meaning.specs.Wrapping.{modular};
 ghost use Rattle.c_text.specs.Meant.{operator_meant, literal_meant};
 ghost use Rattle.c_forms.specs.Keeping.{Shape};
@@ -104,28 +103,6 @@ fn push_all(out: &mut Vec<Sym>, syms: &[Sym]) -> Result<(), Unbuilt>
     Ok(())
 }
 
-/// `(uint64_t)a o (uint64_t)b`: symbols make a and b.
-fn push_unsigned(
-    scope: Scope<'_>,
-    out: &mut Vec<Sym>,
-    o: Operator,
-    a: &[Sym],
-    b: &[Sym],
-) -> Result<(), Unbuilt>
-    ensures { IfOk result (λ _. (d e : Term) → Makes scope.entry a.now d → Makes scope.entry b.now e
-        → AddsTerm scope.entry out.old.items out.new.items
-        (binary (operator_meant o) u64 (cast u64 d) (cast u64 e))) }
-{
-    push_all(out, a)?;
-    push_all(out, &[Sym::Cast(Scalar::Uint64)])?;
-    push_all(out, b)?;
-    push_all(
-        out,
-        &[Sym::Cast(Scalar::Uint64), Sym::Binary(o, Scalar::Uint64)],
-    )?;
-    Ok(())
-}
-
 /// `a o b` of two `int64_t`, which wraps: symbols make a and b.
 pub(crate) fn push_modular(
     scope: Scope<'_>,
@@ -137,33 +114,15 @@ pub(crate) fn push_modular(
     ensures { IfOk result (λ _. (d e : Term) → Makes scope.entry a.now d → Makes scope.entry b.now e
         → AddsTerm scope.entry out.old.items out.new.items (modular (operator_meant o) d e)) }
 {
-    push_unsigned(scope, out, o, a, b)?;
+    push_all(out, a)?;
+    push_all(out, &[Sym::Cast(Scalar::Uint64)])?;
+    push_all(out, b)?;
     push_all(
         out,
         &[
-            Sym::Literal(Literal::Uint64(0x7fff_ffff_ffff_ffff)),
-            Sym::Binary(Operator::AtMost, Scalar::Uint64),
-        ],
-    )?;
-    push_unsigned(scope, out, o, a, b)?;
-    push_all(
-        out,
-        &[
-            Sym::Cast(Scalar::Int64),
-            Sym::Literal(Literal::Int64(0)),
-            Sym::Literal(Literal::Uint64(u64::MAX)),
-        ],
-    )?;
-    push_unsigned(scope, out, o, a, b)?;
-    push_all(
-        out,
-        &[
-            Sym::Binary(Operator::Minus, Scalar::Uint64),
-            Sym::Cast(Scalar::Int64),
-            Sym::Binary(Operator::Minus, Scalar::Int64),
-            Sym::Literal(Literal::Int64(1)),
-            Sym::Binary(Operator::Minus, Scalar::Int64),
-            Sym::Choice,
+            Sym::Cast(Scalar::Uint64),
+            Sym::Binary(o, Scalar::Uint64),
+            Sym::Signed,
         ],
     )?;
     Ok(())

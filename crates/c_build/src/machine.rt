@@ -52,7 +52,7 @@ impl Machine {
             Sym::Local(k) => self.terms.put(Term::Local(k)),
             Sym::Literal(literal) => self.terms.put(Term::Literal(literal)),
             Sym::Zeroed(ty) => self.terms.put(Term::Zeroed(ty)),
-            Sym::Dot(_) | Sym::Inverse | Sym::Cast(_) => self.one(sym),
+            Sym::Dot(_) | Sym::Inverse | Sym::Cast(_) | Sym::Signed => self.one(sym),
             Sym::At | Sym::Binary(..) | Sym::Both | Sym::Either => self.two(sym),
             Sym::Choice => self.three(),
             Sym::Braced(count, tail) => self.brace(count, tail),
@@ -95,6 +95,7 @@ impl Machine {
         self.terms.put(match sym {
             Sym::Dot(k) => Term::Dot(term, k),
             Sym::Cast(ty) => Term::Cast(ty, term),
+            Sym::Signed => Term::Signed(term),
             _ => Term::Inverse(term),
         })
     }

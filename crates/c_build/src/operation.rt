@@ -15,7 +15,7 @@ ghost use Rattle.c_build.specs.Symbols.{and_term, run};
 ghost use Rattle.c_build.specs.Scopes.{IsType, made, table};
 ghost use Rattle.c_build.specs.Frames.{bounds_in};
 ghost use Rattle.c_build.specs.Making.{and_terms};
-ghost use Rattle.c_build.specs.LeafLines.{IsTyped, local_at, operation_at, register_at, registers_at, wrapped_symbols};
+ghost use Rattle.c_build.specs.LeafLines.{IsTyped, local_at, operation_at, register_at, registers_at};
 
 use crate::frame::Frame;
 use crate::leaves::register_type;
@@ -85,48 +85,6 @@ impl<'a> Lines<'a> {
     }
 }
 
-/// Adds a `uint64_t` as an `int64_t`.
-#[tactic(auto, using(crate::proofs::Runs::run_joined))]
-pub(crate) fn push_wrapped(
-    scope: Scope<'_>,
-    out: &mut Vec<Sym>,
-    number: &[Sym],
-) -> Result<(), Unbuilt>
-    ensures { IfOk result (λ _. made scope.entry out.new.items
-        ≡ run (table scope.entry) (made scope.entry out.old.items) (wrapped_symbols number.now)) }
-{
-    let minus = Sym::Binary(Operator::Minus, Scalar::Int64);
-    scope.add(out, number)?;
-    scope.add(
-        out,
-        &[
-            Sym::Literal(Literal::Uint64(0x7fff_ffff_ffff_ffff)),
-            Sym::Binary(Operator::AtMost, Scalar::Uint64),
-        ],
-    )?;
-    scope.add(out, number)?;
-    scope.add(
-        out,
-        &[
-            Sym::Cast(Scalar::Int64),
-            Sym::Literal(Literal::Int64(0)),
-            Sym::Literal(Literal::Uint64(0xffff_ffff_ffff_ffff)),
-        ],
-    )?;
-    scope.add(out, number)?;
-    scope.add(
-        out,
-        &[
-            Sym::Binary(Operator::Minus, Scalar::Uint64),
-            Sym::Cast(Scalar::Int64),
-            minus,
-            Sym::Literal(Literal::Int64(1)),
-            minus,
-            Sym::Choice,
-        ],
-    )
-}
-
 /// Adds an operator on two registers, modulo 2^64.
 fn push_modular(
     lines: Lines<'_>,
@@ -142,8 +100,7 @@ fn push_modular(
     let cast = Sym::Cast(Scalar::Uint64);
     let j = lines.register(j)?;
     let k = lines.register(k)?;
-    push_wrapped(
-        lines.frame.scope,
+    lines.frame.scope.add(
         out,
         &[
             Sym::Local(j),
@@ -151,6 +108,7 @@ fn push_modular(
             Sym::Local(k),
             cast,
             Sym::Binary(operator, Scalar::Uint64),
+            Sym::Signed,
         ],
     )
 }
@@ -161,14 +119,14 @@ fn push_negated(lines: Lines<'_>, out: &mut Vec<Sym>, j: usize) -> Result<(), Un
         ≡ and_term (negated (local (local_at lines.entry j))) (made lines.entry.frame.scope out.old.items)) }
 {
     let j = lines.register(j)?;
-    push_wrapped(
-        lines.frame.scope,
+    lines.frame.scope.add(
         out,
         &[
             Sym::Literal(Literal::Uint64(0)),
             Sym::Local(j),
             Sym::Cast(Scalar::Uint64),
             Sym::Binary(Operator::Minus, Scalar::Uint64),
+            Sym::Signed,
         ],
     )
 }

@@ -30,6 +30,8 @@ pub enum Sym {
     Choice,
     /// `(T)e`.
     Cast(Scalar),
+    /// `P_signed(e)`.
+    Signed,
     /// Begins what is passed.
     Open,
     /// Passes a term's value.

@@ -83,6 +83,9 @@ member_apart K.Kept k e = omega (arith, e)
 second : (P xs ys : List ℕ) → P ++ xs ≡ P ++ ys → get_or xs 1 0 ≡ get_or ys 1 0
 second P xs ys e = ap (λ l. get_or l 1 0) (append_cancel_left P xs ys e)
 
+third : (P xs ys : List ℕ) → P ++ xs ≡ P ++ ys → get_or xs 2 0 ≡ get_or ys 2 0
+third P xs ys e = ap (λ l. get_or l 2 0) (append_cancel_left P xs ys e)
+
 -- behind the prefix and two letters
 number_behind : (P : List ℕ) (a b k j : ℕ) → k < 2 ^ 64 → j < 2 ^ 64
     → P ++ (a ∷ b ∷ decimal k) ≡ P ++ (a ∷ b ∷ decimal j) → k ≡ j
@@ -141,6 +144,8 @@ one_name P (N.Local k) N.Of o hk hj e =
     absurd (short_apart _ P (codes "of") (local_unmarked k hk) e)
 one_name P (N.Local k) N.Zeros o hk hj e =
     absurd (short_apart _ P (codes "zeros") (local_unmarked k hk) e)
+one_name P (N.Local k) N.Signed o hk hj e =
+    absurd (short_apart _ P (codes "signed") (local_unmarked k hk) e)
 one_name P (N.Member K k) (N.Local j) o hk hj e = absurd (member_apart K k (ap first e))
 one_name P (N.Member K k) (N.Member L j) o hk hj e =
     ap₂ N.Member o (one_member K k j hk hj (e ∙ ap (λ M. member_text M j) (sym o)))
@@ -156,6 +161,8 @@ one_name P (N.Member K k) N.Of o hk hj e =
     absurd (short_apart _ P (codes "of") (member_unmarked K k hk) e)
 one_name P (N.Member K k) N.Zeros o hk hj e =
     absurd (short_apart _ P (codes "zeros") (member_unmarked K k hk) e)
+one_name P (N.Member K k) N.Signed o hk hj e =
+    absurd (short_apart _ P (codes "signed") (member_unmarked K k hk) e)
 one_name P (N.Function k) (N.Local j) o hk hj e =
     absurd (short_apart _ P (102 ∷ decimal k) (local_unmarked j hj) (sym e))
 one_name P (N.Function k) (N.Member K j) o hk hj e =
@@ -167,6 +174,7 @@ one_name P (N.Function k) N.Step o hk hj e = absurd (omega (arith, second P _ _ 
 one_name P (N.Function k) (N.Struct j) o hk hj e = absurd (omega (arith, second P _ _ e))
 one_name P (N.Function k) N.Of o hk hj e = absurd (omega (arith, second P _ _ e))
 one_name P (N.Function k) N.Zeros o hk hj e = absurd (omega (arith, second P _ _ e))
+one_name P (N.Function k) N.Signed o hk hj e = absurd (omega (arith, second P _ _ e))
 one_name P N.Init (N.Local j) o hk hj e =
     absurd (short_apart _ P (codes "init") (local_unmarked j hj) (sym e))
 one_name P N.Init (N.Member K j) o hk hj e =
@@ -177,6 +185,7 @@ one_name P N.Init N.Step o hk hj e = absurd (omega (arith, second P _ _ e))
 one_name P N.Init (N.Struct j) o hk hj e = absurd (omega (arith, second P _ _ e))
 one_name P N.Init N.Of o hk hj e = absurd (omega (arith, second P _ _ e))
 one_name P N.Init N.Zeros o hk hj e = absurd (omega (arith, second P _ _ e))
+one_name P N.Init N.Signed o hk hj e = absurd (omega (arith, second P _ _ e))
 one_name P N.Step (N.Local j) o hk hj e =
     absurd (short_apart _ P (codes "step") (local_unmarked j hj) (sym e))
 one_name P N.Step (N.Member K j) o hk hj e =
@@ -187,6 +196,7 @@ one_name P N.Step N.Step o hk hj e = refl
 one_name P N.Step (N.Struct j) o hk hj e = absurd (omega (arith, second P _ _ e))
 one_name P N.Step N.Of o hk hj e = absurd (omega (arith, second P _ _ e))
 one_name P N.Step N.Zeros o hk hj e = absurd (omega (arith, second P _ _ e))
+one_name P N.Step N.Signed o hk hj e = absurd (omega (arith, third P _ _ e))
 one_name P (N.Struct k) (N.Local j) o hk hj e =
     absurd (short_apart _ P (116 ∷ decimal k) (local_unmarked j hj) (sym e))
 one_name P (N.Struct k) (N.Member K j) o hk hj e =
@@ -197,6 +207,7 @@ one_name P (N.Struct k) N.Step o hk hj e = absurd (omega (arith, second P _ _ e)
 one_name P (N.Struct k) (N.Struct j) o hk hj e = ap N.Struct (number_behind P 95 116 k j hk hj e)
 one_name P (N.Struct k) N.Of o hk hj e = absurd (omega (arith, second P _ _ e))
 one_name P (N.Struct k) N.Zeros o hk hj e = absurd (omega (arith, second P _ _ e))
+one_name P (N.Struct k) N.Signed o hk hj e = absurd (omega (arith, second P _ _ e))
 one_name P N.Of (N.Local j) o hk hj e =
     absurd (short_apart _ P (codes "of") (local_unmarked j hj) (sym e))
 one_name P N.Of (N.Member K j) o hk hj e =
@@ -207,6 +218,7 @@ one_name P N.Of N.Step o hk hj e = absurd (omega (arith, second P _ _ e))
 one_name P N.Of (N.Struct j) o hk hj e = absurd (omega (arith, second P _ _ e))
 one_name P N.Of N.Of o hk hj e = refl
 one_name P N.Of N.Zeros o hk hj e = absurd (omega (arith, second P _ _ e))
+one_name P N.Of N.Signed o hk hj e = absurd (omega (arith, second P _ _ e))
 one_name P N.Zeros (N.Local j) o hk hj e =
     absurd (short_apart _ P (codes "zeros") (local_unmarked j hj) (sym e))
 one_name P N.Zeros (N.Member K j) o hk hj e =
@@ -217,3 +229,15 @@ one_name P N.Zeros N.Step o hk hj e = absurd (omega (arith, second P _ _ e))
 one_name P N.Zeros (N.Struct j) o hk hj e = absurd (omega (arith, second P _ _ e))
 one_name P N.Zeros N.Of o hk hj e = absurd (omega (arith, second P _ _ e))
 one_name P N.Zeros N.Zeros o hk hj e = refl
+one_name P N.Zeros N.Signed o hk hj e = absurd (omega (arith, second P _ _ e))
+one_name P N.Signed (N.Local j) o hk hj e =
+    absurd (short_apart _ P (codes "signed") (local_unmarked j hj) (sym e))
+one_name P N.Signed (N.Member K j) o hk hj e =
+    absurd (short_apart _ P (codes "signed") (member_unmarked K j hj) (sym e))
+one_name P N.Signed (N.Function j) o hk hj e = absurd (omega (arith, second P _ _ e))
+one_name P N.Signed N.Init o hk hj e = absurd (omega (arith, second P _ _ e))
+one_name P N.Signed N.Step o hk hj e = absurd (omega (arith, third P _ _ e))
+one_name P N.Signed (N.Struct j) o hk hj e = absurd (omega (arith, second P _ _ e))
+one_name P N.Signed N.Of o hk hj e = absurd (omega (arith, second P _ _ e))
+one_name P N.Signed N.Zeros o hk hj e = absurd (omega (arith, second P _ _ e))
+one_name P N.Signed N.Signed o hk hj e = refl

@@ -1,12 +1,13 @@
 -- Types, places and results, as they are worked by hand.
-use Rattle.std.proofs.Common.{◌≡◌, ℕ, List, [], ◌∷◌, ◌++◌, codes, refl, ap, ◌∙◌, slice_get}
+use Rattle.std.proofs.Common.{◌≡◌, ℕ, List, [], ◌∷◌, ◌++◌, codes, refl, ap, ◌∙◌, slice_get, append_assoc}
 use Rattle.std.specs.Fmt.{digits}
 use Rattle.c_text.specs.declared.tree.Kind.{Kind}
 use Rattle.c_text.specs.declared.tree.Kind.TheVariants as K
 use Rattle.c_text.specs.declared.tree.Struct.{Struct}
 use Rattle.c_text.specs.NameText.{member_text}
 use Rattle.c_text.specs.PlaceType.{type_or, element_type, member_type, kind_of}
-use Rattle.c_text.specs.TypeRows.{DeclaredRows, ZeroedRows, BracesRows, MeantRows, PlaceRows, ListsAre, KindRows, ResultRows}
+use Rattle.c_text.specs.TermText.{operand_text, term_text}
+use Rattle.c_text.specs.TypeRows.{DeclaredRows, ZeroedRows, BracesRows, MeantRows, PlaceRows, ListsAre, KindRows, ResultRows, SignedRows}
 
 pub declared_rows : DeclaredRows
 unfolding digits
@@ -73,3 +74,36 @@ kind_rows b s t u h = (
 pub result_rows : ResultRows
 unfolding digits
 result_rows = (refl, refl, (λ e. refl), refl, (λ s. refl), refl, refl)
+
+-- three parentheses behind a number, and the difference in which it stands
+ends : (s : List ℕ)
+    → ((((s ++ codes ")") ++ codes ")") ++ codes ")") ++ codes " - INT64_C(1)") ++ codes ")"
+    ≡ s ++ codes "))) - INT64_C(1))"
+ends s =
+    ap (λ (l : List ℕ). ((l ++ codes ")") ++ codes " - INT64_C(1)") ++ codes ")") (append_assoc s (codes ")") (codes ")"))
+    ∙ ap (λ (l : List ℕ). (l ++ codes " - INT64_C(1)") ++ codes ")") (append_assoc s (codes "))") (codes ")"))
+    ∙ ap (λ (l : List ℕ). l ++ codes ")") (append_assoc s (codes ")))") (codes " - INT64_C(1)"))
+    ∙ append_assoc s (codes "))) - INT64_C(1)") (codes ")")
+
+-- the text of a tree, with a number's text in its three places, joined from the right
+abbrev negative : List ℕ → List ℕ
+negative s = codes " : ((INT64_C(0) - ((int64_t)(UINT64_C(18446744073709551615) - " ++ s
+
+joined : (s : List ℕ)
+    → ((s ++ codes " <= UINT64_C(9223372036854775807)") ++ codes ")")
+    ++ (codes " ? ((int64_t)"
+    ++ ((s ++ codes ")")
+    ++ negative (((((s ++ codes ")") ++ codes ")") ++ codes ")") ++ codes " - INT64_C(1)") ++ codes ")")))
+    ≡ s
+    ++ (codes " <= UINT64_C(9223372036854775807)) ? ((int64_t)"
+    ++ (s ++ (codes ")" ++ negative (s ++ codes "))) - INT64_C(1))"))))
+joined s =
+    append_assoc (s ++ codes " <= UINT64_C(9223372036854775807)") (codes ")") _
+    ∙ append_assoc s (codes " <= UINT64_C(9223372036854775807)") _
+    ∙ ap (λ (l : List ℕ). s ++ (codes " <= UINT64_C(9223372036854775807)) ? ((int64_t)" ++ l))
+    (append_assoc s (codes ")") _ ∙ ap (λ (l : List ℕ). s ++ (codes ")" ++ negative l)) (ends s))
+
+pub signed_rows : SignedRows
+unfolding digits
+signed_rows b Ts P Ss L e =
+    (refl, ap (λ (l : List ℕ). codes "(" ++ l) (joined (operand_text e (term_text P Ss L e))))

@@ -10,7 +10,7 @@ use Rattle.c_text.specs.declared.tree.Param.{Param}
 use Rattle.c_text.specs.declared.tree.Param.TheVariants as Q
 use Rattle.c_text.specs.declared.tree.Function.{Function}
 use Rattle.c_text.specs.NameText.{name_text}
-use Rattle.c_text.specs.TypeText.{type_text, declared_text, is_empty, left_out, empties}
+use Rattle.c_text.specs.TypeText.{type_text, declared_text, is_empty, left_out}
 use Rattle.c_text.specs.Used.{is_used, command_used}
 use Rattle.c_text.specs.CommandText.{by_value, by_pointer, separator_text, command_text}
 
@@ -107,10 +107,28 @@ module _ (P : List ℕ) (E : List Bool) where
 abbrev pub macro_text : List ℕ → Name → List ℕ → List ℕ
 macro_text P x s = codes "#define " ++ (name_text P x ++ (codes "(T) " ++ s))
 
--- the macros: C++ has no compound literals
+-- a `uint64_t`, of which this is the text, as an `int64_t`: as the tree is printed that `Signed` means
+-- (`SignedRows`)
+abbrev pub wrapped_text : List ℕ → List ℕ
+wrapped_text s =
+    codes "("
+    ++ (s
+    ++ (codes " <= UINT64_C(9223372036854775807)) ? ((int64_t)"
+    ++ (s
+    ++ (codes ") : ((INT64_C(0) - ((int64_t)(UINT64_C(18446744073709551615) - "
+    ++ (s ++ codes "))) - INT64_C(1))")))))
+
+-- the macro of that
+abbrev pub signed_macro : List ℕ → List ℕ
+signed_macro P =
+    codes "#define "
+    ++ (name_text P N.Signed ++ (codes "(n) (" ++ (wrapped_text (codes "(n)") ++ codes ")\n")))
+
+-- the macros: that one, and two because C++ has no compound literals
 abbrev pub macros_text : List ℕ → List ℕ
 macros_text P =
-    codes "#ifdef __cplusplus\n"
+    signed_macro P
+    ++ (codes "#ifdef __cplusplus\n"
     ++ (macro_text P N.Of (codes "T\n")
     ++ (macro_text P N.Zeros (codes "T()\n#else\n")
-    ++ (macro_text P N.Of (codes "(struct T)\n") ++ macro_text P N.Zeros (codes "(struct T){0}\n#endif\n"))))
+    ++ (macro_text P N.Of (codes "(struct T)\n") ++ macro_text P N.Zeros (codes "(struct T){0}\n#endif\n")))))

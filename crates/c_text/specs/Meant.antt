@@ -23,6 +23,7 @@ use Rattle.c_text.specs.declared.tree.Function as F
 use Rattle.c_text.specs.declared.tree.File as I
 use Rattle.c_meaning.specs.Object as O
 use Rattle.c_meaning.specs.Object.{CType, truth_type, number_type, no_member, member, array}
+use Rattle.c_meaning.specs.Wrapping.{wrapped}
 use Rattle.c_meaning.specs.Syntax as M
 use Rattle.c_meaning.specs.Syntax.{Operator, Term, local, dot, at, boolean, literal, zeroed, none, braced, binary, inverse, both, either, choice, cast, by_value, by_const, by_pointer, Command, skip, sequence, declare, define, refer, assign, call, branch, loop, answer, Parameter, value_param, const_param, pointer_param, Function, File}
 
@@ -92,6 +93,7 @@ module _ (Ts : List CType) where
     term_meant (E.Either' p a q b) = either (term_meant a) (term_meant b)
     term_meant (E.Choice' p c q a r b) = choice (term_meant c) (term_meant a) (term_meant b)
     term_meant (E.Cast' S p a) = cast (scalar_meant S) (term_meant a)
+    term_meant (E.Signed' p a) = wrapped (term_meant a)
 
     pub elements_meant : Term → {m : _} → Row_of-Term m → Term
     elements_meant t end_of-Term = t

@@ -23,7 +23,7 @@ member_text K.Event k = member_from (codes "is") (codes "v") k
 member_text K.List k = member_from (codes "n") (codes "e") k
 member_text K.Kept k = numbered_text k
 
--- `r3`, a member, `P_f3`, `P_init`, `P_step`, `P_t3`, `P_of`, `P_zeros`
+-- `r3`, a member, `P_f3`, `P_init`, `P_step`, `P_t3`, `P_of`, `P_zeros`, `P_signed`
 abbrev pub name_text : List ℕ → Name → List ℕ
 name_text P (N.Local k) = codes "r" ++ decimal k
 name_text P (N.Member K k) = member_text K k
@@ -33,6 +33,7 @@ name_text P N.Step = P ++ codes "_step"
 name_text P (N.Struct k) = P ++ (codes "_t" ++ decimal k)
 name_text P N.Of = P ++ codes "_of"
 name_text P N.Zeros = P ++ codes "_zeros"
+name_text P N.Signed = P ++ codes "_signed"
 
 -- its number
 abbrev pub number_of : Name → ℕ
@@ -44,6 +45,7 @@ number_of N.Step = 0
 number_of (N.Struct k) = k
 number_of N.Of = 0
 number_of N.Zeros = 0
+number_of N.Signed = 0
 
 -- of members: those of structs of one kind
 abbrev pub OfOneKind : Name → Name → Type 0

@@ -102,6 +102,7 @@ module _ (P : List ℕ) (Ss : List Struct) (L : List Local) where
         ++ (codes " ? " ++ (operand_text a (term_text a) ++ (codes " : " ++ operand_text b (term_text b))))
     term_text (E.Cast' S p a) =
         codes "(" ++ (scalar_text S ++ (codes ")" ++ operand_text a (term_text a)))
+    term_text (E.Signed' p a) = name_text P N.Signed ++ (codes "(" ++ (term_text a ++ codes ")"))
 
     -- elements, from number i on
     pub row_text : ℕ → {m : _} → Row_of-Term m → List ℕ

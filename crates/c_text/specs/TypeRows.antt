@@ -1,8 +1,9 @@
--- Types, places and results, worked by hand, under the prefix `P`.
-use Rattle.std.specs.Prelude.{◌≡◌, ℕ, true, false, List, [], ◌∷◌, ◌++◌, codes, Box, Some}
+-- Types, places, results and numbers, worked by hand, under the prefix `P`.
+use Rattle.std.specs.Prelude.{◌≡◌, ℕ, pos, true, false, List, [], ◌∷◌, ◌++◌, codes, Box, Some}
 use Rattle.std.specs.declared.alloc.Global.{Global}
 use Rattle.c_text.specs.declared.name.Name.TheVariants as N
 use Rattle.c_text.specs.declared.tree.Scalar.TheVariants as S
+use Rattle.c_text.specs.declared.tree.Operator.TheVariants as O'
 use Rattle.c_text.specs.declared.tree.Base.TheVariants as B
 use Rattle.c_text.specs.declared.tree.CType.{CType}
 use Rattle.c_text.specs.declared.tree.CType.TheVariants as T
@@ -13,11 +14,11 @@ use Rattle.c_text.specs.declared.tree.Local.{Local}
 use Rattle.c_text.specs.declared.tree.Term.{Term}
 use Rattle.c_text.specs.declared.tree.Term as E
 use Rattle.c_text.specs.TypeText.{declared_text, zeroed_text}
-use Rattle.c_text.specs.TermText.{braces_text, term_text}
+use Rattle.c_text.specs.TermText.{braces_text, operand_text, term_text}
 use Rattle.c_text.specs.PlaceType.{place_type}
 use Rattle.c_text.specs.CommandText.{by_pointer, answer_text, called_text}
-use Rattle.c_text.specs.FileText.{result_text}
-use Rattle.c_text.specs.Meant.{type_meant}
+use Rattle.c_text.specs.FileText.{result_text, wrapped_text}
+use Rattle.c_text.specs.Meant.{type_meant, term_meant}
 use Rattle.c_meaning.specs.Object as O
 
 abbrev pub number : CType
@@ -121,3 +122,22 @@ ResultRows =
     ≡ codes "  const struct P_t0 r0 = P_f3(); (void)r0;\n")
     × (called_text (codes "P") (false ∷ []) [] struct (true ∷ []) (codes "  ") [] struct (codes "P_f3()")
     ≡ codes "  const struct P_t0 r0 = P_f3();\n")
+
+-- what `P_signed(e)` means, as a tree
+module _ (b : Box (Unit {0}) Global) where
+  abbrev pub signed_tree : Term → Term
+  signed_tree e =
+      E.Choice' b (E.Binary' O'.AtMost S.Uint64 b e b (E.Literal (L.Uint64 9223372036854775807))) b
+      (E.Cast' S.Int64 b e) b
+      (E.Binary' O'.Minus S.Int64 b
+      (E.Binary' O'.Minus S.Int64 b (E.Literal (L.Int64 (pos 0))) b
+      (E.Cast' S.Int64 b
+      (E.Binary' O'.Minus S.Uint64 b (E.Literal (L.Uint64 18446744073709551615)) b e))) b
+      (E.Literal (L.Int64 (pos 1))))
+
+-- so the macro has the text of that tree, with `(n)` in the place of an operand in parentheses
+abbrev pub SignedRows : Type 0
+SignedRows = (b : Box (Unit {0}) Global) (Ts : List O.CType) (P : List ℕ) (Ss : List Struct)
+    (L : List Local) (e : Term)
+    → (term_meant Ts (E.Signed' b e) ≡ term_meant Ts (signed_tree b e))
+    × (term_text P Ss L (signed_tree b e) ≡ wrapped_text (operand_text e (term_text P Ss L e)))

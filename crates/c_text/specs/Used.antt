@@ -29,6 +29,7 @@ abbrev mutual
   term_used U (E.Either' p a q b) = term_used (term_used U a) b
   term_used U (E.Choice' p c q a r b) = term_used (term_used (term_used U c) a) b
   term_used U (E.Cast' S p a) = term_used U a
+  term_used U (E.Signed' p a) = term_used U a
 
   pub elements_used : List Bool → {m : _} → Row_of-Term m → List Bool
   elements_used U end_of-Term = U

@@ -3,7 +3,7 @@
 
 ghost use Rattle.std.specs.Prelude.{◌≡◌, ◌++◌, true, map, IfOk, string_bytes};
 ghost use Rattle.c_text.specs.TypeText.{left_out};
-ghost use Rattle.c_text.specs.FileText.{body_text, function_text, head_text, linkage_text, local_of, macro_text, macros_text, members_text, param_text, param_type, params_text, prototype_text, result_text, struct_text, structs_text, unused_param, unused_params};
+ghost use Rattle.c_text.specs.FileText.{body_text, function_text, head_text, linkage_text, local_of, macro_text, macros_text, members_text, param_text, param_type, params_text, prototype_text, result_text, signed_macro, struct_text, structs_text, unused_param, unused_params};
 
 use crate::command::{Context, push_separator};
 use crate::name::{Name, push_name};
@@ -22,16 +22,32 @@ pub struct Naming<'a> {
     pub empty: &'a [bool],
 }
 
-/// Adds the macros that stand before functions, by which the text is C99 and C++11.
+/// What `P_signed` is defined as.
+const SIGNED: &str =
+    "(n) (((n) <= UINT64_C(9223372036854775807)) ? ((int64_t)(n)) : ((INT64_C(0) - ((int64_t)(UINT64_C(18446744073709551615) - (n)))) - INT64_C(1)))\n";
+
+/// Adds the macros that stand before functions: one for numbers, and two by which the text is C99 and C++11.
 pub fn push_macros(text: &mut String, prefix: &str) -> Result<(), AllocError>
     ensures { IfOk result (λ _. string_bytes text.new
         ≡ string_bytes text.old ++ macros_text prefix.now) }
 {
+    push_signed(text, prefix)?;
     text.push_str("#ifdef __cplusplus\n")?;
     push_macro(text, prefix, Name::Of, "T\n")?;
     push_macro(text, prefix, Name::Zeros, "T()\n#else\n")?;
     push_macro(text, prefix, Name::Of, "(struct T)\n")?;
     push_macro(text, prefix, Name::Zeros, "(struct T){0}\n#endif\n")?;
+    Ok(())
+}
+
+/// Adds the macro by which a `uint64_t` becomes an `int64_t`.
+fn push_signed(text: &mut String, prefix: &str) -> Result<(), AllocError>
+    ensures { IfOk result (λ _. string_bytes text.new
+        ≡ string_bytes text.old ++ signed_macro prefix.now) }
+{
+    text.push_str("#define ")?;
+    push_name(text, prefix, Name::Signed)?;
+    text.push_str(SIGNED)?;
     Ok(())
 }
 
@@ -135,7 +151,8 @@ fn linkage(name: Name) -> &'static str
     match name {
         Name::Function(_) => "static ",
         Name::Init | Name::Step => "",
-        Name::Local(_) | Name::Member(..) | Name::Struct(_) | Name::Of | Name::Zeros => "",
+        Name::Local(_) | Name::Member(..) | Name::Struct(_) => "",
+        Name::Of | Name::Zeros | Name::Signed => "",
     }
 }
 

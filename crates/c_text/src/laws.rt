@@ -1,14 +1,14 @@
 // Laws of names; types worked by hand.
 
 ghost use Rattle.c_text.specs.NameText.{NameLaw};
-ghost use Rattle.c_text.specs.TypeRows.{DeclaredRows, ZeroedRows, BracesRows, MeantRows, PlaceRows, KindRows, ResultRows};
+ghost use Rattle.c_text.specs.TypeRows.{DeclaredRows, ZeroedRows, BracesRows, MeantRows, PlaceRows, KindRows, ResultRows, SignedRows};
 
 /// Under any prefix, two names are two texts.
 pub fn name_laws()
     ensures { NameLaw }
 {}
 
-/// Types and places, as they are printed and meant.
+/// Types, places and numbers, as they are printed and meant.
 pub fn type_rows()
     ensures declared { DeclaredRows }
     ensures zeroed { ZeroedRows }
@@ -17,4 +17,5 @@ pub fn type_rows()
     ensures places { PlaceRows }
     ensures kinds { KindRows }
     ensures results { ResultRows }
+    ensures signed { SignedRows }
 {}

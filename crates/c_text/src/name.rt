@@ -25,6 +25,8 @@ pub enum Name {
     Of,
     /// The macro of a struct's zeros.
     Zeros,
+    /// The macro by which a `uint64_t` becomes an `int64_t`.
+    Signed,
 }
 
 /// Adds a name to the end of the text.
@@ -41,6 +43,7 @@ pub fn push_name(text: &mut String, prefix: &str, name: Name) -> Result<(), Allo
         Name::Struct(k) => write!(text, "{prefix}_t{k}")?,
         Name::Of => write!(text, "{prefix}_of")?,
         Name::Zeros => write!(text, "{prefix}_zeros")?,
+        Name::Signed => write!(text, "{prefix}_signed")?,
     }
     Ok(())
 }

@@ -48,7 +48,8 @@ fn has_operator(term: &Term) -> bool
         | Term::At(..)
         | Term::Literal(..)
         | Term::Zeroed(..)
-        | Term::Braced(..) => false,
+        | Term::Braced(..)
+        | Term::Signed(..) => false,
     }
 }
 
@@ -146,6 +147,12 @@ pub(crate) fn push_term(text: &mut String, scope: Scope<'_>, term: &Term) -> Res
             let word = scalar_word(*scalar);
             write!(text, "({word})")?;
             push_operand(text, scope, a)?;
+        }
+        Term::Signed(a) => {
+            push_name(text, scope.prefix, Name::Signed)?;
+            text.push_str("(")?;
+            push_term(text, scope, a)?;
+            text.push_str(")")?;
         }
     }
     Ok(())

@@ -104,6 +104,8 @@ pub enum Term {
     Choice(Box<Term>, Box<Term>, Box<Term>),
     /// `(T)e`.
     Cast(Scalar, Box<Term>),
+    /// `P_signed(e)`: a `uint64_t` as an `int64_t`.
+    Signed(Box<Term>),
 }
 
 /// What is passed.

@@ -46,7 +46,9 @@ fn mark_term(used: &mut Vec<bool>, term: &Term) -> Result<(), AllocError>
         Term::Local(k) => mark(used, *k),
         Term::Literal(_) | Term::Zeroed(_) => Ok(()),
         Term::Braced(all, _) => mark_terms(used, all.as_slice()),
-        Term::Dot(a, _) | Term::Inverse(a) | Term::Cast(_, a) => mark_term(used, a),
+        Term::Dot(a, _) | Term::Inverse(a) | Term::Cast(_, a) | Term::Signed(a) => {
+            mark_term(used, a)
+        }
         Term::At(a, b) | Term::Binary(_, _, a, b) | Term::Both(a, b) | Term::Either(a, b) => {
             mark_term(used, a)?;
             mark_term(used, b)

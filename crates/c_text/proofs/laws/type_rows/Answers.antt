@@ -1,4 +1,4 @@
-use Rattle.c_text.proofs.TypeRows.{declared_rows, zeroed_rows, braces_rows, meant_rows, place_rows, kind_rows, result_rows}
+use Rattle.c_text.proofs.TypeRows.{declared_rows, zeroed_rows, braces_rows, meant_rows, place_rows, kind_rows, result_rows, signed_rows}
 use Rattle.c_text.proofs.laws.type_rows.Goals as goal
 
 pub returns-clause-declared : goal.returns-clause-declared
@@ -21,3 +21,6 @@ returns-clause-kinds c = kind_rows
 
 pub returns-clause-results : goal.returns-clause-results
 returns-clause-results c = result_rows
+
+pub returns-clause-signed : goal.returns-clause-signed
+returns-clause-signed c = signed_rows
