@@ -60,7 +60,7 @@ OTHERS = {
     "the words are not UTF-8": "write the names of files in UTF-8",
     "--first: no number": "write how many of the steps are taken, in digits alone: --first 2",
     "--at: no position": "write a position as positions are printed, in quotes: --at '(at 1 0)'",
-    "--name: no name": "write letters, digits and `_`, at most 32, of which the first is no digit: --name boiler",
+    "--name: no name": "write at most 32 letters and digits, first a letter, in parts with one `_` between: --name boiler",
     "--most: no number": "write how many elements a list of the input may have, from 1 to 32765: --most 100",
     "certificate: too many steps": "a certificate has at most 10,000 steps: cut it in two, with a network between",
     "no certificate found": "there may be one nevertheless, or `yampa differ` finds a stream that tells the networks apart",

@@ -25,25 +25,25 @@ abbrev pub TellsFirst : Option (List ℕ) → Option ℕ → Type 0
 TellsFirst None first = first ≡ None
 TellsFirst (Some word) first = IsSome first × (first ≡ number_in word)
 
--- a letter, a digit or `_`
-abbrev pub is_name_byte : ℕ → Bool
-is_name_byte b = is_ascii_alphanumeric b || nat_eq b 95
+-- a letter or a digit, or a `_` where no part begins
+abbrev pub is_name_byte : ℕ → Bool → Bool
+is_name_byte b begins = is_ascii_alphanumeric b || (nat_eq b 95 && not begins)
 
--- letters, digits and `_`
-abbrev pub all_name_bytes : List ℕ → Bool
-all_name_bytes [] = true
-all_name_bytes (b ∷ bs) = is_name_byte b && all_name_bytes bs
+-- letters and digits, in parts between which one `_` stands; whether a part begins here
+abbrev pub parts_from : Bool → List ℕ → Bool
+parts_from begins [] = not begins
+parts_from begins (b ∷ bs) = is_name_byte b begins && parts_from (nat_eq b 95) bs
 
--- there is a first byte, it is no digit, and the first two aren't both `_`: such names are C's own
+-- there is a first byte, and it is no digit
 abbrev pub begins_name : List ℕ → Bool
 begins_name [] = false
-begins_name (b ∷ []) = not (is_ascii_digit b)
-begins_name (b ∷ c ∷ bs) = not (is_ascii_digit b) && not (nat_eq b 95 && nat_eq c 95)
+begins_name (b ∷ bs) = not (is_ascii_digit b)
 
--- letters, digits and `_`, at least one and at most 32, which begin neither with a digit nor with `__`
+-- at most 32 letters and digits, of which the first is a letter, in parts between which one `_` stands:
+-- C keeps names for itself that begin with `_`, and C++ those that have `__`, also before what is put behind
 abbrev pub is_name : List ℕ → Bool
 is_name word =
-    (nat_le (length word) MOST_NAME && begins_name word) && all_name_bytes word
+    (nat_le (length word) MOST_NAME && begins_name word) && parts_from true word
 
 -- what all names begin with, by a word; `yampa`, where there is no word
 abbrev pub TellsName : Option (List ℕ) → List ℕ → Type 0

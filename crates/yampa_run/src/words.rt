@@ -1,14 +1,14 @@
 // What the words of options tell: a number of steps, a position, what names begin with, and how many
 // elements lists have.
 
-ghost use Rattle.std.specs.Prelude.{◌≡◌, ◌↔◌, IfErr, IfOk, IsTrue, map, option_map, string_bytes};
+ghost use Rattle.std.specs.Prelude.{◌≡◌, ◌↔◌, IfErr, IfOk, IsTrue, true, map, option_map, string_bytes};
 ghost use Rattle.net_tree.specs.LawStep.{step_of};
 ghost use Rattle.net_tree.specs.Position.{position_spelling};
 ghost use Rattle.net_text.specs.CertificatePrinting.{ChildrenFit};
 ghost use Rattle.yampa_run.specs.Laws.{IsNowhere};
 ghost use Rattle.yampa_run.specs.Apply.{IsNoNumber};
 ghost use Rattle.yampa_run.specs.Compile.{IsNoMost, IsNoName};
-ghost use Rattle.yampa_run.specs.Words.{IsPlaceIn, IsPlaceOfStep, TellsFirst, TellsMost, TellsName, TellsPlace, all_name_bytes, begins_name, is_digits_word, is_most, is_name, is_name_byte, most_in, number_in, placed_file};
+ghost use Rattle.yampa_run.specs.Words.{IsPlaceIn, IsPlaceOfStep, TellsFirst, TellsMost, TellsName, TellsPlace, begins_name, is_digits_word, is_most, is_name, is_name_byte, most_in, number_in, parts_from, placed_file};
 
 use crate::preparation::{Refusal, refusal_with};
 use leaf_expr::MOST_INDEX;
@@ -57,42 +57,43 @@ pub(crate) fn name_of<'a>(alloc: Global, word: Option<&'a str>) -> Result<&'a st
     }
 }
 
-/// Whether names may begin with the word: letters, digits and `_`, at most 32, which begin neither with
-/// a digit nor with `__`.
+/// Whether names may begin with the word: at most 32 letters and digits, of which the first is a letter, in
+/// parts between which one `_` stands.
 fn is_name(word: &str) -> bool
     ensures { result ≡ is_name word.now }
 {
-    word.len() <= MOST_NAME && begins_name(word.as_bytes()) && all_name_bytes(word.as_bytes())
+    word.len() <= MOST_NAME && begins_name(word.as_bytes()) && has_parts(word.as_bytes())
 }
 
-/// Whether there is a first byte, it is no digit, and the first two aren't both `_`.
+/// Whether there is a first byte, and it is no digit.
 fn begins_name(bytes: &[u8]) -> bool
     ensures { result ≡ begins_name bytes.now }
 {
-    match bytes {
-        [first, second, ..] => !first.is_ascii_digit() && !(*first == b'_' && *second == b'_'),
-        [first] => !first.is_ascii_digit(),
-        [] => false,
+    match bytes.first() {
+        Some(first) => !first.is_ascii_digit(),
+        None => false,
     }
 }
 
-/// Whether all are letters, digits or `_`.
-fn all_name_bytes(bytes: &[u8]) -> bool
-    ensures { result ≡ all_name_bytes bytes.now }
+/// Whether all are letters and digits, in parts between which one `_` stands.
+fn has_parts(bytes: &[u8]) -> bool
+    ensures { result ≡ parts_from true bytes.now }
 {
+    let mut begins = true;
     for byte in bytes {
-        if !is_name_byte(*byte) {
+        if !is_name_byte(*byte, begins) {
             return false;
         }
+        begins = *byte == b'_';
     }
-    true
+    !begins
 }
 
-/// Whether it is a letter, a digit or `_`.
-fn is_name_byte(byte: u8) -> bool
-    ensures { result ≡ is_name_byte byte }
+/// Whether it is a letter or a digit, or a `_` where no part begins.
+fn is_name_byte(byte: u8, begins: bool) -> bool
+    ensures { result ≡ is_name_byte byte begins }
 {
-    byte.is_ascii_alphanumeric() || byte == b'_'
+    byte.is_ascii_alphanumeric() || (byte == b'_' && !begins)
 }
 
 /// How many elements a list of the input may have, by that word; as many as a line can hold, where
