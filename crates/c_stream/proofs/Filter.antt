@@ -1,5 +1,5 @@
 -- The writers and readers of a filter, linked one behind the other.
-use Rattle.std.proofs.Common.{◌≡◌, ◌≤◌, ◌<◌, ◌+◌, ℕ, zero, suc, Bool, true, false, ◌||◌, List, [], ◌∷◌, ◌++◌, map, length, refl, subst, sym, ap, ◌∙◌, arith, append-nil, append_assoc}
+use Rattle.std.proofs.Common.{◌≡◌, ◌≤◌, ◌<◌, ◌+◌, ℕ, suc, Bool, true, false, ◌||◌, List, [], ◌∷◌, ◌++◌, map, length, refl, subst, sym, ap, ◌∙◌, arith, append-nil, append_assoc}
 use Rattle.std.specs.Prelude.{if◌then◌else◌}
 use Rattle.sample_core.specs.TypeTree.{TypeTree, unit_ty, bool_ty, int_ty, pair_ty, event_ty, list_ty}
 use Rattle.sample_core.specs.ReadingLaws.{OneValueLaw}
@@ -16,7 +16,7 @@ use Rattle.c_file.proofs.Links.{earlier, newest, link-append, link-more, link-le
 use Rattle.c_stream.specs.Streams.{ByHand, put_pair, put_event, put_list, put_none, put_blank, put_close, put_unit, put_bool, put_int, take_pair, is_event, take_none, take_list, take_blank, take_close, is_close, end_list, read_unit, read_bool, read_int, hand_number, hand_count, Held, AreStreams, Puts, Writes, Takes, Reads, PutsByHand, TakesByHand}
 use Rattle.c_stream.specs.Writing.{has_parts, writer, PartsWritten}
 use Rattle.c_stream.specs.Reading.{reader, PartsRead}
-use Rattle.c_stream.specs.Filter.{and_new, with_parts, parts_of, first_writer, first_reader, writer_number, reader_number, writers, readers, filter_file, FilterLaw}
+use Rattle.c_stream.specs.Filter.{and_new, with_parts, parts_of, first_reader, writer_number, reader_number, writers, readers, filter_file, FilterLaw}
 use Rattle.c_stream.proofs.Writing.{writing_law}
 use Rattle.c_stream.proofs.Lists.{reading_law}
 

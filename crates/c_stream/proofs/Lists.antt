@@ -1,13 +1,13 @@
 -- Readers of lists, and with these of all types.
-use Rattle.std.proofs.Common.{◌≡◌, ◌≤◌, ◌<◌, ◌+◌, ◌^◌, ℕ, zero, suc, pos, Bool, true, false, ◌&&◌, List, [], ◌∷◌, ◌++◌, length, Option, Some, None, refl, subst, sym, ap, ap₂, ◌∙◌, arith}
+use Rattle.std.proofs.Common.{◌≡◌, ◌≤◌, ◌<◌, ◌+◌, ◌^◌, ℕ, zero, suc, pos, true, false, ◌&&◌, List, [], ◌∷◌, ◌++◌, length, Option, Some, None, refl, subst, sym, ap, ◌∙◌, arith}
 use Rattle.std.specs.Prelude.{ℤ, ◌+ℤ◌, if◌then◌else◌, codes}
-use Rattle.sample_core.specs.Datum.{Datum, Datums, list, end, more, elements}
+use Rattle.sample_core.specs.Datum.{Datum, Datums, end, more, elements}
 use Rattle.sample_core.specs.TypeTree.{TypeTree, unit_ty, bool_ty, int_ty, pair_ty, event_ty, list_ty}
 use Rattle.sample_core.specs.ReadingLaws.{OneValueLaw}
 use Rattle.leaf_code.specs.Fitting.{Bounds}
 use Rattle.c_meaning.specs.Object.{CType, truth_type, number_type, array, u32, Object, truth, number, in_range, has_type, each_has, part_of, with_part, in_front}
 use Rattle.c_meaning.specs.Object as C
-use Rattle.c_meaning.specs.Syntax.{plus, Term, local, dot, at, boolean, literal, binary, Command, skip, sequence, assign, branch, loop, answer}
+use Rattle.c_meaning.specs.Syntax.{plus, local, dot, at, boolean, literal, binary, Command, skip, sequence, assign, branch, loop, answer}
 use Rattle.c_meaning.specs.Meaning.{Frame, Linked, Outcome, bind, eval, value, write, go_on, leave, looped, is_none_of, written, steady, run}
 use Rattle.c_meaning.proofs.Alike.{no, yes-and, left-yes, right-yes, alike}
 use Rattle.c_meaning.proofs.Runs.{Runs, then-run, ends, skips, gives-back, assigns, chooses-first, chooses-second, function-runs}

@@ -1,11 +1,11 @@
 -- Readers read exactly what is spelled.
-use Rattle.std.proofs.Common.{◌≡◌, ◌≤◌, ◌<◌, ◌+◌, ◌^◌, ℕ, zero, suc, pos, Bool, true, false, ◌&&◌, List, [], ◌∷◌, ◌++◌, length, Option, Some, None, refl, subst, sym, ap, ap₂, ◌∙◌, arith, append_assoc}
+use Rattle.std.proofs.Common.{◌≡◌, ◌+◌, ℕ, Bool, true, false, List, [], ◌∷◌, ◌++◌, Option, Some, None, refl, ap, ◌∙◌}
 use Rattle.std.specs.Prelude.{if◌then◌else◌, slice_get, codes}
 use Rattle.sample_core.specs.Datum.{Datum, no_event, event, pair}
 use Rattle.sample_core.specs.TypeTree.{TypeTree, pair_ty, event_ty}
 use Rattle.sample_core.specs.ReadingLaws.{OneValueLaw}
 use Rattle.leaf_code.specs.Fitting.{Bounds}
-use Rattle.c_meaning.specs.Object.{CType, truth_type, Object, truth, number, has_type, like}
+use Rattle.c_meaning.specs.Object.{CType, truth_type, Object, truth, has_type, like}
 use Rattle.c_meaning.specs.Syntax.{Term, local, dot, boolean, by_pointer, Command, skip, sequence, assign, branch, answer}
 use Rattle.c_meaning.specs.Meaning.{Frame, Linked, bind, eval, write, replaced, put_back, all_apart}
 use Rattle.c_meaning.proofs.Alike.{yes-and, alike}
@@ -13,7 +13,6 @@ use Rattle.c_meaning.proofs.Runs.{Runs, then-run, ends, skips, gives-back, assig
 use Rattle.c_leaf.specs.Representing.{two, two_types, c_type, Represents, c_pair, c_no_event, c_event}
 use Rattle.c_leaf.specs.LeafC.{stop_unless}
 use Rattle.c_leaf.proofs.Values.{has}
-use Rattle.c_forms.proofs.Lines.{Halves, halves}
 use Rattle.c_forms.proofs.Loops.{first-plain, second-plain}
 use Rattle.c_stream.specs.Streams.{stream_type, ByHand, take_pair, is_event, take_none, take_blank, take_close, hand_number, take, read_part, without_byte, without_word, AreStreams, Tried, tried_there, tried_none, Takes, Stands, Read, read_value, read_none, Reads, TakesByHand}
 use Rattle.c_stream.specs.Reading.{reader_body, carried_body}

@@ -1,11 +1,11 @@
 -- What stands in front of bytes: words, and values with parts.
-use Rattle.std.proofs.Common.{◌≡◌, ◌≤◌, ℕ, zero, suc, Bool, true, false, ◌&&◌, List, [], ◌∷◌, ◌++◌, length, Option, Some, None, refl, subst, sym, ap, ap₂, ◌∙◌, arith, append_assoc}
+use Rattle.std.proofs.Common.{◌≡◌, ◌≤◌, ℕ, suc, Bool, true, false, ◌&&◌, List, [], ◌∷◌, ◌++◌, length, Some, None, refl, subst, sym, ap, ap₂, ◌∙◌, arith, append_assoc}
 use Rattle.std.specs.Prelude.{if◌then◌else◌, nat_eq, codes}
-use Rattle.sample_core.specs.Datum.{Datum, Datums, unit, bool, int, pair, no_event, event, list, end, more, elements}
+use Rattle.sample_core.specs.Datum.{Datum, Datums, pair, no_event, event, list, end, more, elements}
 use Rattle.sample_core.specs.TypeTree.{TypeTree, pair_ty, event_ty, list_ty}
 use Rattle.sample_core.specs.HasType.{HasType, pair_has, no_event_has, event_has, list_has, HaveType, end_has, more_has}
 use Rattle.sample_core.specs.Spelling.{spelling, spellings}
-use Rattle.sample_core.specs.SpellsValue.{SpellsValue, ends_in_word}
+use Rattle.sample_core.specs.SpellsValue.{ends_in_word}
 use Rattle.sample_core.specs.Words.{goes_on}
 use Rattle.sample_core.proofs.Behind.{kept_apart}
 use Rattle.sample_core.specs.ReadingLaws.{OneValueLaw}

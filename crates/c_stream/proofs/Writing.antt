@@ -1,5 +1,5 @@
 -- Writers write spellings.
-use Rattle.std.proofs.Common.{◌≡◌, ◌<◌, ◌+◌, ◌^◌, ℕ, zero, suc, pos, Bool, true, false, ◌&&◌, List, [], ◌∷◌, ◌++◌, length, Option, Some, None, refl, subst, sym, ap, ap₂, ◌∙◌, arith, append-nil, append_assoc}
+use Rattle.std.proofs.Common.{◌≡◌, ◌<◌, ◌+◌, ◌^◌, ℕ, zero, suc, pos, Bool, true, false, ◌&&◌, List, [], ◌∷◌, ◌++◌, length, Option, Some, None, refl, subst, sym, ap, ◌∙◌, arith, append-nil, append_assoc}
 use Rattle.std.specs.Prelude.{if◌then◌else◌, int_lt, codes}
 use Rattle.sample_core.specs.Datum.{Datum, Datums, pair, event, list, elements}
 use Rattle.sample_core.specs.TypeTree.{TypeTree, unit_ty, bool_ty, int_ty, pair_ty, event_ty, list_ty}
@@ -11,7 +11,7 @@ use Rattle.c_meaning.specs.Syntax.{less, Term, local, dot, at, none, binary, by_
 use Rattle.c_meaning.specs.Meaning.{Frame, Linked, bind, eval, value, all_apart, go_on, leave, by_truth, looped, is_none_of, written, put_back, run}
 use Rattle.c_meaning.proofs.Alike.{no, yes-and, alike}
 use Rattle.c_meaning.proofs.Runs.{Runs, then-run, gives-back, chooses-first, chooses-second, calls, function-runs}
-use Rattle.c_leaf.specs.Representing.{two, c_type, Represents, c_pair, c_no_event, c_event, c_list, AllRepresent, c_end, c_more}
+use Rattle.c_leaf.specs.Representing.{two, Represents, c_pair, c_no_event, c_event, c_list, AllRepresent, c_end, c_more}
 use Rattle.c_leaf.specs.LeafCLaw.{FewElements}
 use Rattle.c_leaf.proofs.Values.{has}
 use Rattle.c_stream.specs.Streams.{stream_type, ByHand, put_pair, put_event, put_list, put_none, put_blank, put_close, hand_number, put, write_part, Held, AreStreams, Puts, Writes, PutsByHand}
