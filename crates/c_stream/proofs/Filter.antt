@@ -1,22 +1,25 @@
 -- The writers and readers of a filter, linked one behind the other.
-use Rattle.std.proofs.Common.{◌≡◌, ◌≤◌, ◌<◌, ◌+◌, ℕ, suc, Bool, true, false, ◌||◌, List, [], ◌∷◌, ◌++◌, map, length, refl, subst, sym, ap, ◌∙◌, arith, append-nil, append_assoc}
+use Rattle.std.proofs.Common.{◌≡◌, ◌≤◌, ◌<◌, ◌+◌, ◌^◌, ℕ, suc, Bool, true, false, ◌||◌, List, [], ◌∷◌, ◌++◌, map, length, refl, subst, sym, ap, ◌∙◌, arith, append-nil, append_assoc}
 use Rattle.std.specs.Prelude.{if◌then◌else◌}
 use Rattle.sample_core.specs.TypeTree.{TypeTree, unit_ty, bool_ty, int_ty, pair_ty, event_ty, list_ty}
 use Rattle.sample_core.specs.ReadingLaws.{OneValueLaw}
 use Rattle.leaf_core.specs.TypeLimits.{same_tree}
 use Rattle.leaf_core.proofs.Exactness.{same_tree-refl, same_tree-true}
 use Rattle.leaf_code.specs.Fitting.{Bounds}
+use Rattle.net_code.specs.Running.{AllBelow}
 use Rattle.code_fits.specs.Room.{HasRoom}
+use Rattle.code_fits.specs.Tables.{beside}
 use Rattle.c_meaning.specs.Object.{Object}
 use Rattle.c_meaning.specs.Syntax.{Function, File}
 use Rattle.c_meaning.specs.Meaning.{Linked, numbered, function_run, link}
 use Rattle.c_leaf.specs.LeafCLaw.{FewElements}
 use Rattle.c_file.specs.Compared.{is_among, number_among}
+use Rattle.c_file.specs.FileLaw.{bounds}
 use Rattle.c_file.proofs.Links.{earlier, newest, link-append, link-more, link-length}
 use Rattle.c_stream.specs.Streams.{ByHand, put_pair, put_event, put_list, put_none, put_blank, put_close, put_unit, put_bool, put_int, take_pair, is_event, take_none, take_list, take_blank, take_close, is_close, end_list, read_unit, read_bool, read_int, hand_number, hand_count, Held, AreStreams, Puts, Writes, Takes, Reads, PutsByHand, TakesByHand}
 use Rattle.c_stream.specs.Writing.{has_parts, writer, PartsWritten}
 use Rattle.c_stream.specs.Reading.{reader, PartsRead}
-use Rattle.c_stream.specs.Filter.{and_new, with_parts, parts_of, first_reader, writer_number, reader_number, writers, readers, filter_file, FilterLaw}
+use Rattle.c_stream.specs.Filter.{and_new, with_parts, parts_of, first_reader, writer_number, reader_number, writers, readers, filter_file, FilterLaw, ProgramFilterLaw}
 use Rattle.c_stream.proofs.Writing.{writing_law}
 use Rattle.c_stream.proofs.Lists.{reading_law}
 
@@ -388,5 +391,19 @@ module _ (one : OneValueLaw) (l : ℕ) (written unread : List ℕ → Object →
         w.closed [] A w.among)
 
 pub filter_law : OneValueLaw → FilterLaw
-filter_law one l written unread n most m A B fs ws us few room count puts takes =
+filter_law one l written unread n most m A B fs few room ws us count puts takes =
     (output-written one l written unread n most m A B fs few count ws puts, input-read one l written unread n most m A B fs few count us room takes)
+
+-- the lengths of a program's lists are small
+beside-small : (A : TypeTree) (Ts : List TypeTree) (ns : List ℕ) → AllBelow (2 ^ 32) ns → beside A Ts ns < 2 ^ 32
+beside-small A [] ns h = omega arith
+beside-small A (T ∷ Ts) [] h = omega arith
+beside-small A (T ∷ Ts) (k ∷ ns) h = chosen (same_tree T A) k (beside A Ts ns) h.0 (beside-small A Ts ns h.1)
+  where
+    chosen : (b : Bool) (i j : ℕ) → i < 2 ^ 32 → j < 2 ^ 32 → (if b then i else j) < 2 ^ 32
+    chosen true i j u v = u
+    chosen false i j u v = v
+
+pub program_filter_law : OneValueLaw → ProgramFilterLaw
+program_filter_law one t most p h l written unread m fs =
+    filter_law one l written unread (bounds p) most m t.input t.output fs (λ T. beside-small (list_ty T) _ p.bounds.items h.small) h.room

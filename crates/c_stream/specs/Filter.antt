@@ -2,12 +2,16 @@
 use Rattle.std.specs.Prelude.{◌≡◌, ℕ, ◌+◌, Bool, if◌then◌else◌, List, [], ◌∷◌, ◌++◌, map, length}
 use Rattle.sample_core.specs.TypeTree.{TypeTree, unit_ty, bool_ty, int_ty, pair_ty, event_ty, list_ty}
 use Rattle.leaf_code.specs.Fitting.{Bounds}
+use Rattle.net_meaning.specs.TypedNetwork.{TypedNetwork}
+use Rattle.code_fits.specs.declared.layout.Program.{Program}
+use Rattle.code_fits.specs.Programs.{IsProgramOf}
 use Rattle.code_fits.specs.Room.{HasRoom}
 use Rattle.c_meaning.specs.Object.{Object}
 use Rattle.c_meaning.specs.Syntax.{File}
 use Rattle.c_meaning.specs.Meaning.{Linked, numbered, link}
 use Rattle.c_leaf.specs.LeafCLaw.{FewElements}
 use Rattle.c_file.specs.Compared.{is_among, number_among}
+use Rattle.c_file.specs.FileLaw.{bounds}
 use Rattle.c_stream.specs.Streams.{put_unit, put_bool, put_int, read_unit, read_bool, read_int, hand_number, hand_count, Held, AreStreams, Writes, Reads, PutsByHand, TakesByHand}
 use Rattle.c_stream.specs.Writing.{writer}
 use Rattle.c_stream.specs.Reading.{reader}
@@ -58,14 +62,26 @@ module _ (l : ℕ) (n : TypeTree → ℕ) (most m : ℕ) (A B : TypeTree) where
   abbrev pub filter_file : File
   filter_file = writers ++ readers
 
--- behind any functions of which the last ones are those by hand, the output's writer writes its values, and
--- the input's reader reads its own
-abbrev pub FilterLaw : Type 0
-FilterLaw = (l : ℕ) (written unread : List ℕ → Object → Bool) (n : Bounds) (most m : ℕ)
-    (A B : TypeTree) (fs : List Linked) → AreStreams l (Held written) → AreStreams l (Held unread)
-    → FewElements n → HasRoom n most A → length fs ≡ m + hand_count
+-- behind functions of which the last ones are those by hand, the writer of a B writes its values, and the
+-- reader of an A reads its own
+abbrev pub Filters : ℕ → (List ℕ → Object → Bool) → (List ℕ → Object → Bool) → Bounds → ℕ → ℕ
+    → TypeTree → TypeTree → List Linked → Type 0
+Filters l written unread n most m A B fs = AreStreams l (Held written)
+    → AreStreams l (Held unread) → length fs ≡ m + hand_count
     → PutsByHand (Held written) n (numbered fs) m → TakesByHand (Held unread) n most (numbered fs) m
     → Writes (Held written) n B
     (numbered (link fs (filter_file l n most m A B)) (writer_number m B B))
     × Reads (Held unread) n most A
     (numbered (link fs (filter_file l n most m A B)) (reader_number m A B A))
+
+-- whatever functions these are, where lists have room
+abbrev pub FilterLaw : Type 0
+FilterLaw = (l : ℕ) (written unread : List ℕ → Object → Bool) (n : Bounds) (most m : ℕ)
+    (A B : TypeTree) (fs : List Linked) → FewElements n → HasRoom n most A
+    → Filters l written unread n most m A B fs
+
+-- so in each file of a program, with its input and its output
+abbrev pub ProgramFilterLaw : Type 0
+ProgramFilterLaw = (t : TypedNetwork) (most : ℕ) (p : Program) → IsProgramOf t most p
+    → (l : ℕ) (written unread : List ℕ → Object → Bool) (m : ℕ) (fs : List Linked)
+    → Filters l written unread (bounds p) most m t.input t.output fs
