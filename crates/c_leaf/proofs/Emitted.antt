@@ -1,7 +1,8 @@
 -- The steps of a typed expression's code are typed: as leaf_code's Fitting, with types in place of
 -- values.
-use Rattle.std.proofs.Common.{◌≡◌, ◌≤◌, ◌<◌, ◌^◌, ℕ, List, [], ◌∷◌, ◌++◌, map, length, get_or, Some, refl, sym, ap, ap₂, subst, ◌∙◌, arith, append_assoc}
-use Rattle.std.specs.Prelude.{slice_get}
+use Rattle.std.proofs.Common.{◌≡◌, ◌≤◌, ◌<◌, ◌^◌, ℕ, suc, List, [], ◌∷◌, ◌++◌, map, length, get_or, Some, refl, sym, ap, ap₂, subst, ◌∙◌, arith, append_assoc}
+use Rattle.std.specs.Prelude.{slice_get, ltb}
+use Rattle.std.proofs.lemmas.Bool.{ltb-true}
 use Rattle.std.proofs.lemmas.Option.{slice_get_within, get_or_from_slice_get}
 use Rattle.std.proofs.lemmas.List.{length-map}
 use Rattle.sample_core.specs.Datum.{unit}
@@ -14,7 +15,8 @@ use Rattle.leaf_code.specs.Operation as O
 use Rattle.leaf_code.specs.Running.{Step, step, register, operation_value, LeafSteps}
 use Rattle.leaf_code.specs.CodeOf.{left_type, right_type, carried_type, type_at, put, beside_carried, emit, emit_all}
 use Rattle.leaf_code.specs.Fitting.{ListWithin, ListsWithin}
-use Rattle.leaf_code.proofs.Values.{Follows, follows-trans, after, Holds, put-gives, emit-gives, all-give}
+use Rattle.leaf_code.proofs.Computed.{and-left, IsPut, fresh, again, put-is}
+use Rattle.leaf_code.proofs.Values.{Follows, follows-trans, follows-put, after, Holds, put-gives, emit-gives, all-give, get-front}
 use Rattle.c_leaf.specs.LeafCLaw.{IsCompared, StepCompared, StepsCompared}
 use Rattle.c_leaf.proofs.Typed.{AllOf, none_of, one_of, OperationTyped, param_op, unit_op, bool_op, int_op, pair_op, left_op, right_op, neg_op, add_op, sub_op, mul_op, less_op, equal_op, not_op, and_op, or_op, choose_op, no_event_op, event_op, is_event_op, carried_op, list_op, nth_op, len_op, StepsTyped}
 use Rattle.c_meaning.specs.Meaning.{Linked}
@@ -32,22 +34,23 @@ types-append : (s d : List Step) → map (λ t. t.ty) (s ++ d) ≡ map (λ t. t.
 types-append [] d = refl
 types-append (o ∷ s) d = ap (λ (Ts : List TypeTree). o.ty ∷ Ts) (types-append s d)
 
-last-type : (s : List Step) (T : TypeTree) (o : Operation) → slice_get (map (λ t. t.ty) (s ++ step T o ∷ [])) (length s) ≡ Some T
-last-type [] T o = refl
-last-type (u ∷ s) T o = last-type s T o
+step-type : (us : List Step) (t : Step) (vs : List Step) → slice_get (map (λ t. t.ty) (us ++ t ∷ vs)) (length us) ≡ Some t.ty
+step-type [] t vs = refl
+step-type (u ∷ us) t vs = step-type us t vs
 
 module _ (n : TypeTree → ℕ) (few : (T : TypeTree) → n T < 2 ^ 32) (F : ℕ → Linked) (H : TypeTree → ℕ) (Ps : List TypeTree) (A : TypeTree) where
   compared-front : (Ts : List TypeTree) (s d : List Step) → StepsCompared n F H Ts (s ++ d) → StepsCompared n F H Ts s
   compared-front Ts [] d w = tt
   compared-front Ts (o ∷ s) d w = (w.0, compared-front (Ts ++ o.ty ∷ []) s d w.1)
 
-  compared-end : (Ts : List TypeTree) (s : List Step) (o : Step) → StepsCompared n F H Ts (s ++ o ∷ []) → StepCompared n F H (Ts ++ map (λ t. t.ty) s) o.operation
-  compared-end Ts [] o w = subst (λ Us. StepCompared n F H Us o.operation) (sym (append_none Ts)) w.0
+  compared-at : (Ts : List TypeTree) (us : List Step) (t : Step) (vs : List Step) → StepsCompared n F H Ts (us ++ t ∷ vs)
+      → StepCompared n F H (Ts ++ map (λ t. t.ty) us) t.operation
+  compared-at Ts [] t vs w = subst (λ Us. StepCompared n F H Us t.operation) (sym (append_none Ts)) w.0
     where
       append_none : (Ts : List TypeTree) → Ts ++ [] ≡ Ts
       append_none [] = refl
       append_none (T ∷ Ts) = ap (λ (Us : List TypeTree). T ∷ Us) (append_none Ts)
-  compared-end Ts (u ∷ s) o w = subst (λ Us. StepCompared n F H Us o.operation) (append_assoc Ts (u.ty ∷ []) (map (λ t. t.ty) s)) (compared-end (Ts ++ u.ty ∷ []) s o w.1)
+  compared-at Ts (u ∷ us) t vs w = subst (λ Us. StepCompared n F H Us t.operation) (append_assoc Ts (u.ty ∷ []) (map (λ t. t.ty) us)) (compared-at (Ts ++ u.ty ∷ []) us t vs w.1)
 
   steps-append : (Ts : List TypeTree) (s : List Step) (T : TypeTree) (o : Operation) → StepsTyped n (IsCompared n F H) Ps Ts s → OperationTyped n (IsCompared n F H) Ps (Ts ++ map (λ t. t.ty) s) o T
       → StepsTyped n (IsCompared n F H) Ps Ts (s ++ step T o ∷ [])
@@ -62,9 +65,13 @@ module _ (n : TypeTree → ℕ) (few : (T : TypeTree) → n T < 2 ^ 32) (F : ℕ
   within-front [] d w = tt
   within-front (o ∷ s) d w = (w.0, within-front s d w.1)
 
-  lists-last : (s : List Step) (o : Step) → ListsWithin n (s ++ o ∷ []) → ListWithin n o.ty o.operation
-  lists-last [] o w = w.0
-  lists-last (u ∷ s) o w = lists-last s o w.1
+  lists-at : (us : List Step) (t : Step) (vs : List Step) → ListsWithin n (us ++ t ∷ vs) → ListWithin n t.ty t.operation
+  lists-at [] t vs w = w.0
+  lists-at (u ∷ us) t vs w = lists-at us t vs w.1
+
+  lists-by : (s : List Step) (T : TypeTree) (o : Operation) (p : LeafSteps) → IsPut s T o p → ListsWithin n p.0 → ListWithin n T o
+  lists-by s T o p fresh w = lists-at s (step T o) [] w
+  lists-by s T o p (again us vs is b) w = lists-at us (step T o) vs (subst (ListsWithin n) is w)
 
   abbrev pub Within : List Step → Type 0
   Within s = ListsWithin n s × StepsCompared n F H (A ∷ []) s
@@ -72,14 +79,27 @@ module _ (n : TypeTree → ℕ) (few : (T : TypeTree) → n T < 2 ^ 32) (F : ℕ
   within-before : (s t : List Step) → Follows s t → Within t → Within s
   within-before s t f w = (within-front s f.0 (subst (ListsWithin n) f.1 w.0), compared-front (A ∷ []) s f.0 (subst (StepsCompared n F H (A ∷ [])) f.1 w.1))
 
-  within-last : (s : List Step) (o : Step) → Within (s ++ o ∷ []) → ListWithin n o.ty o.operation
-  within-last s o w = lists-last s o w.0
+  within-put : (s : List Step) (T : TypeTree) (o : Operation) → Within (put s T o).0 → ListWithin n T o
+  within-put s T o w = lists-by s T o (put s T o) (put-is s T o) w.0
 
   abbrev pub types_of : List Step → List TypeTree
   types_of s = A ∷ map (λ t. t.ty) s
 
-  compared-last : (s : List Step) (o : Step) → Within (s ++ o ∷ []) → StepCompared n F H (types_of s) o.operation
-  compared-last s o w = compared-end (A ∷ []) s o w.1
+  -- what a step compares
+  compared-by : (s : List Step) (T : TypeTree) (j k : ℕ) (p : LeafSteps) → IsPut s T (O.equal j k) p → StepsCompared n F H (A ∷ []) p.0
+      → IsCompared n F H (get_or (types_of s) j unit_ty)
+  compared-by s T j k p fresh w = compared-at (A ∷ []) s (step T (O.equal j k)) [] w
+  compared-by s T j k p (again us vs is b) w =
+      let l : j < suc (length us) = ltb-true j (suc (length us)) (and-left (ltb j (suc (length us))) _ b) in
+      let m : length (map (λ t. t.ty) us) ≡ length us = length-map us (λ t. t.ty) in
+      subst (IsCompared n F H)
+      (sym (get-front (types_of us) (T ∷ map (λ t. t.ty) vs) j unit_ty (omega (arith, l, m)))
+      ∙ ap (λ (Ts : List TypeTree). get_or (A ∷ Ts) j unit_ty) (sym (types-append us (step T (O.equal j k) ∷ vs)))
+      ∙ ap (λ u. get_or (types_of u) j unit_ty) (sym is))
+      (compared-at (A ∷ []) us (step T (O.equal j k)) vs (subst (StepsCompared n F H (A ∷ [])) is w))
+
+  compared-put : (s : List Step) (T : TypeTree) (j k : ℕ) → Within (put s T (O.equal j k)).0 → IsCompared n F H (get_or (types_of s) j unit_ty)
+  compared-put s T j k w = compared-by s T j k (put s T (O.equal j k)) (put-is s T (O.equal j k)) w.1
 
   abbrev pub Good : List Step → Type 0
   Good s = StepsTyped n (IsCompared n F H) Ps (A ∷ []) s
@@ -104,15 +124,18 @@ module _ (n : TypeTree → ℕ) (few : (T : TypeTree) → n T < 2 ^ 32) (F : ℕ
   abbrev pub Sound : LeafSteps → TypeTree → Type 0
   Sound p B = Good p.0 × At p.0 p.1 B
 
+  sound-by : (s : List Step) (T : TypeTree) (o : Operation) (B : TypeTree) (p : LeafSteps) → IsPut s T o p → Good s → T ≡ B
+      → OperationTyped n (IsCompared n F H) Ps (types_of s) o B → Sound p B
+  sound-by s T o B p fresh g e h =
+      (steps-append (A ∷ []) s T o g (subst (OperationTyped n (IsCompared n F H) Ps (types_of s) o) (sym e) h), record { at = step-type s (step T o) [] ∙ ap (λ U. Some U) e })
+  sound-by s T o B p (again us vs is b) g e h =
+      (g, record { at = ap (λ u. slice_get (types_of u) (suc (length us))) is ∙ step-type us (step T o) vs ∙ ap (λ U. Some U) e })
+
   put-sound : (s : List Step) (T : TypeTree) (o : Operation) (B : TypeTree) → Good s → T ≡ B → OperationTyped n (IsCompared n F H) Ps (types_of s) o B → Sound (put s T o) B
-  put-sound s T o B g e h =
-      (steps-append (A ∷ []) s T o g (subst (OperationTyped n (IsCompared n F H) Ps (types_of s) o) (sym e) h), record { at = last-type s T o ∙ ap (λ U. Some U) e })
+  put-sound s T o B g e h = sound-by s T o B (put s T o) (put-is s T o) g e h
 
   follows-emit : (e : Expression) (x : ℕ) (s : List Step) (X : TypeTree) → At s x X → Follows s (emit Ps A e x s).0
   follows-emit e x s X h = (emit-gives [] unit Ps A e x s _ (holds-of s x X h)).0
-
-  follows-put : (s : List Step) (T : TypeTree) (o : Operation) → Follows s (put s T o).0
-  follows-put s T o = (step T o ∷ [], refl)
 
   abbrev IsSound : Expression → ℕ → TypeTree → TypeTree → Type 0
   IsSound e x X B = (s : List Step) → Good s → At s x X → Within (emit Ps A e x s).0 → Sound (emit Ps A e x s) B
@@ -246,7 +269,7 @@ module _ (n : TypeTree → ℕ) (few : (T : TypeTree) → n T < 2 ^ 32) (F : ℕ
     sound e x X B (sub_typed {a = a} {b = b} i j) s g h w = two-sound a b x s X _ _ B _ _ (sound a x X _ i) (sound b x X _ j) g h w (λ p q. (refl, sub_op p.at q.at))
     sound e x X B (mul_typed {a = a} {b = b} i j) s g h w = two-sound a b x s X _ _ B _ _ (sound a x X _ i) (sound b x X _ j) g h w (λ p q. (refl, mul_op p.at q.at))
     sound e x X B (less_typed {a = a} {b = b} i j) s g h w = two-sound a b x s X _ _ B _ _ (sound a x X _ i) (sound b x X _ j) g h w (λ p q. (refl, less_op p.at q.at))
-    sound e x X B (equal_typed {B = C} {a = a} {b = b} i j) s g h w = two-sound a b x s X _ _ B _ _ (sound a x X _ i) (sound b x X _ j) g h w (λ p q. (refl, equal_op p.at q.at (subst (IsCompared n F H) (ty-of p) (compared-last (emit Ps A b x (emit Ps A a x s).0).0 (step bool_ty (O.equal (emit Ps A a x s).1 (emit Ps A b x (emit Ps A a x s).0).1)) w))))
+    sound e x X B (equal_typed {B = C} {a = a} {b = b} i j) s g h w = two-sound a b x s X _ _ B _ _ (sound a x X _ i) (sound b x X _ j) g h w (λ p q. (refl, equal_op p.at q.at (subst (IsCompared n F H) (ty-of p) (compared-put (emit Ps A b x (emit Ps A a x s).0).0 bool_ty (emit Ps A a x s).1 (emit Ps A b x (emit Ps A a x s).0).1 w))))
     sound e x X B (not_typed {a = a} i) s g h w = one-sound a x s X _ B _ _ (sound a x X _ i) g h w (λ p. (refl, not_op p.at))
     sound e x X B (and_typed {a = a} {b = b} i j) s g h w = two-sound a b x s X _ _ B _ _ (sound a x X _ i) (sound b x X _ j) g h w (λ p q. (refl, and_op p.at q.at))
     sound e x X B (or_typed {a = a} {b = b} i j) s g h w = two-sound a b x s X _ _ B _ _ (sound a x X _ i) (sound b x X _ j) g h w (λ p q. (refl, or_op p.at q.at))
@@ -260,7 +283,7 @@ module _ (n : TypeTree → ℕ) (few : (T : TypeTree) → n T < 2 ^ 32) (F : ℕ
         let p : List Step × List ℕ = emit_all Ps A es x s in
         let wp : Within p.0 = within-before p.0 _ (follows-put p.0 (list_ty T) (O.list p.1)) w in
         let hp : Good p.0 × AllTyped p.0 p.1 T = all-sound es x X T i s g h wp in
-        put-sound p.0 _ _ B hp.0 refl (list-op p.1 T (all-of p.0 p.1 T hp.1) (within-last p.0 (step (list_ty T) (O.list p.1)) w))
+        put-sound p.0 _ _ B hp.0 refl (list-op p.1 T (all-of p.0 p.1 T hp.1) (within-put p.0 (list_ty T) (O.list p.1) w))
     sound e x X B (nth_typed {e = f} {i = m} {d = d} i j k) s g h w =
         three-sound f m d x s X _ _ B B _ _ (sound f x X _ i) (sound m x X _ j) (sound d x X B k) g h w (λ p q r. (ty-of r, nth_op p.at q.at r.at))
     sound e x X B (len_typed {e = f} i) s g h w = one-sound f x s X _ B _ _ (sound f x X _ i) g h w (λ p. (refl, len_op p.at))

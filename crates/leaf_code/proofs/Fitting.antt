@@ -14,7 +14,8 @@ use Rattle.leaf_code.specs.Operation as O
 use Rattle.leaf_code.specs.Running.{Step, step, zero_of, carried_or, register, operation_value, step_value, run_steps, LeafSteps}
 use Rattle.leaf_code.specs.CodeOf.{left_type, right_type, carried_type, type_at, put, beside_carried, emit, emit_all, leaf_code}
 use Rattle.leaf_code.specs.Fitting.{Fits, AllFit, unit_fits, bool_fits, int_fits, pair_fits, no_event_fits, event_fits, list_fits, end_fits, more_fits, ParamsFit, and_param, ListWithin, ListsWithin, StepsFit, LeafFitLaw}
-use Rattle.leaf_code.proofs.Values.{Follows, follows-trans, after, Holds, holds-later, put-gives, emit-gives, all-give, leaf-value, get-front}
+use Rattle.leaf_code.proofs.Computed.{IsPut, fresh, again, put-is}
+use Rattle.leaf_code.proofs.Values.{Follows, follows-trans, follows-put, after, Holds, holds-later, put-gives, emit-gives, all-give, leaf-value, get-front}
 
 module _ (bound : TypeTree → ℕ) where
   pub left-fits : {A B : TypeTree} {v : Datum} → Fits bound v (pair_ty A B) → Fits bound (left v) A
@@ -67,9 +68,16 @@ module _ (bound : TypeTree → ℕ) where
   within-before : (s t : List Step) → Follows s t → ListsWithin bound t → ListsWithin bound s
   within-before s t f w = within-front s f.0 (subst (ListsWithin bound) f.1 w)
 
-  within-last : (s : List Step) (o : Step) → ListsWithin bound (s ++ o ∷ []) → ListWithin bound o.ty o.operation
-  within-last [] o w = w.0
-  within-last (u ∷ s) o w = within-last s o w.1
+  within-at : (us : List Step) (t : Step) (vs : List Step) → ListsWithin bound (us ++ t ∷ vs) → ListWithin bound t.ty t.operation
+  within-at [] t vs w = w.0
+  within-at (u ∷ us) t vs w = within-at us t vs w.1
+
+  within-by : (s : List Step) (T : TypeTree) (o : Operation) (p : LeafSteps) → IsPut s T o p → ListsWithin bound p.0 → ListWithin bound T o
+  within-by s T o p fresh w = within-at s (step T o) [] w
+  within-by s T o p (again us vs is b) w = within-at us (step T o) vs (subst (ListsWithin bound) is w)
+
+  within-put : (s : List Step) (T : TypeTree) (o : Operation) → ListsWithin bound (put s T o).0 → ListWithin bound T o
+  within-put s T o w = within-by s T o (put s T o) (put-is s T o) w
 
   module _ (ps : List Datum) where
     steps-append : (rs : List Datum) (s : List Step) (o : Step) → StepsFit bound ps rs s → Fits bound (step_value ps (run_steps ps rs s) o) o.ty
@@ -110,34 +118,43 @@ module _ (bound : TypeTree → ℕ) where
             fits = subst (λ w. Fits bound w B) (sym i.1) h.fits;
           }
 
+      -- the register that a step sets has its type
+      ty-there : (us : List Step) (t : Step) (vs : List Step) → type_at A (us ++ t ∷ vs) (suc (length us)) ≡ t.ty
+      ty-there [] t vs = refl
+      ty-there (u ∷ us) t vs = ty-there us t vs
+
       -- steps fit, and register k is typed
       abbrev Sound : LeafSteps → TypeTree → Type 0
       Sound p B = Good p.0 × Typed p.0 p.1 B
 
-      put-sound : (s : List Step) (T : TypeTree) (o : Operation) (B : TypeTree) → Good s → T ≡ B → Fits bound (operation_value T ps (register (after ps v s)) o) B
-          → Sound (put s T o) B
-      put-sound s T o B g e h =
-          let i : Holds ps v (put s T o).0 (put s T o).1 (operation_value T ps (register (after ps v s)) o) = (put-gives ps v s T o _ refl).1 in
+      sound-by : (s : List Step) (T : TypeTree) (o : Operation) (B : TypeTree) (p : LeafSteps) → IsPut s T o p → Good s → T ≡ B
+          → Fits bound (operation_value T ps (register (after ps v s)) o) B
+          → Holds ps v p.0 p.1 (operation_value T ps (register (after ps v s)) o) → Sound p B
+      sound-by s T o B p fresh g e h i =
           let l : length (map (λ t. t.ty) s) ≡ length s = length-map s (λ t. t.ty) in (
             steps-append (v ∷ []) s (step T o) g (subst (λ C. Fits bound (operation_value T ps (register (after ps v s)) o) C) (sym e) h),
             record {
               there = i.0;
-              ty = ap (λ (Ts : List TypeTree). get_or (A ∷ Ts) (suc (length s)) unit_ty) (types-append s (step T o ∷ []))
-                  ∙ ap (λ k. get_or (map (λ t. t.ty) s ++ T ∷ []) k unit_ty) (sym l) ∙ last-type (map (λ t. t.ty) s) T ∙ e;
+              ty = ty-there s (step T o) [] ∙ e;
               fits = subst (λ w. Fits bound w B) (sym i.1) h;
             },
           )
-        where
-          last-type : (Ts : List TypeTree) (U : TypeTree) → get_or (Ts ++ U ∷ []) (length Ts) unit_ty ≡ U
-          last-type [] U = refl
-          last-type (V ∷ Ts) U = last-type Ts U
+      sound-by s T o B p (again us vs is b) g e h i = (
+        g,
+        record {
+          there = i.0;
+          ty = ap (λ u. type_at A u (suc (length us))) is ∙ ty-there us (step T o) vs ∙ e;
+          fits = subst (λ w. Fits bound w B) (sym i.1) h;
+        },
+      )
+
+      put-sound : (s : List Step) (T : TypeTree) (o : Operation) (B : TypeTree) → Good s → T ≡ B → Fits bound (operation_value T ps (register (after ps v s)) o) B
+          → Sound (put s T o) B
+      put-sound s T o B g e h = sound-by s T o B (put s T o) (put-is s T o) g e h (put-gives ps v s T o _ refl).1
 
       -- emitted code follows, whatever the input's register holds
       follows-emit : (e : Expression) (x : ℕ) (s : List Step) (X : TypeTree) → Typed s x X → Follows s (emit Ps A e x s).0
       follows-emit e x s X h = (emit-gives ps v Ps A e x s _ (holds-of s x X h)).0
-
-      follows-put : (s : List Step) (T : TypeTree) (o : Operation) → Follows s (put s T o).0
-      follows-put s T o = (step T o ∷ [], refl)
 
       -- what the code of an expression comes to, behind steps that fit
       abbrev IsSound : Expression → ℕ → TypeTree → TypeTree → Type 0
@@ -290,7 +307,7 @@ module _ (bound : TypeTree → ℕ) where
             let p : List Step × List ℕ = emit_all Ps A es x s in
             let wp : ListsWithin bound p.0 = within-before p.0 _ (follows-put p.0 (list_ty T) (O.list p.1)) w in
             let hp : Good p.0 × AllTyped p.0 p.1 T = all-sound es x X T i s g h wp in
-            put-sound p.0 _ _ B hp.0 refl (list-fits p.0 p.1 T hp.1 (within-last p.0 (step (list_ty T) (O.list p.1)) w))
+            put-sound p.0 _ _ B hp.0 refl (list-fits p.0 p.1 T hp.1 (within-put p.0 (list_ty T) (O.list p.1) w))
         sound e x X B (nth_typed {e = f} {i = n} {d = d} i j k) s g h w =
             three-sound f n d x s X _ _ B B _ _ (sound f x X _ i) (sound n x X _ j) (sound d x X B k) g h w (λ p q r. (r.ty, element-fits _ p.fits r.fits))
         sound e x X B (len_typed {e = f} i) s g h w = one-sound f x s X _ B _ _ (sound f x X _ i) g h w (λ p. (refl, wrapped-fits _))

@@ -8,6 +8,7 @@ use Rattle.leaf_code.specs.Operation.{Operation}
 use Rattle.leaf_code.specs.Operation as O
 use Rattle.leaf_code.specs.Running.{Step, step, zero_of, is_event, carried_or, register, operation_value, step_value, run_steps, LeafSteps, leaf_value}
 use Rattle.leaf_code.specs.CodeOf.{carried_type, type_at, put, beside_carried, emit, emit_all, leaf_code}
+use Rattle.leaf_code.proofs.Computed.{value-same, IsPut, fresh, again, put-is}
 
 pub get-front : {X : Type 0} (xs ys : List X) (k : ℕ) (a : X) → k < length xs → get_or (xs ++ ys) k a ≡ get_or xs k a
 get-front [] ys k a l = absurd (omega arith)
@@ -30,6 +31,13 @@ follows-same s = ([], sym (append-nil s))
 
 pub follows-trans : (s t u : List Step) → Follows s t → Follows t u → Follows s u
 follows-trans s t u h k = (h.0 ++ k.0, k.1 ∙ ap (λ w. w ++ k.0) h.1 ∙ append_assoc s h.0 k.0)
+
+follows-by : (s : List Step) (T : TypeTree) (o : Operation) (p : LeafSteps) → IsPut s T o p → Follows s p.0
+follows-by s T o p fresh = (step T o ∷ [], refl)
+follows-by s T o p (again us vs is b) = follows-same s
+
+pub follows-put : (s : List Step) (T : TypeTree) (o : Operation) → Follows s (put s T o).0
+follows-put s T o = follows-by s T o (put s T o) (put-is s T o)
 
 module _ (ps : List Datum) where
   run-append : (rs : List Datum) (s t : List Step) → run_steps ps rs (s ++ t) ≡ run_steps ps (run_steps ps rs s) t
@@ -82,9 +90,10 @@ module _ (ps : List Datum) where
     pub gives-later : (s t : List Step) (p : LeafSteps) (w : Datum) → Follows s t → Gives t p w → Gives s p w
     gives-later s t p w f g = (follows-trans s t p.0 f g.0, g.1)
 
-    -- a step gives its value
-    pub put-gives : (s : List Step) (T : TypeTree) (o : Operation) (w : Datum) → operation_value T ps (register (after s)) o ≡ w → Gives s (put s T o) w
-    put-gives s T o w e =
+    -- a step more gives its value
+    fresh-gives : (s : List Step) (T : TypeTree) (o : Operation) (w : Datum) → operation_value T ps (register (after s)) o ≡ w
+        → Gives s (s ++ step T o ∷ [], suc (length s)) w
+    fresh-gives s T o w e =
         let l : length (s ++ step T o ∷ []) ≡ length s + 1 = length-append s (step T o ∷ []) in
         let n : length (after s) ≡ suc (length s) = length-after s in (
           (step T o ∷ [], refl),
@@ -95,6 +104,22 @@ module _ (ps : List Datum) where
                 ∙ get-next (after s) (step_value ps (after s) (step T o)) [] unit ∙ e,
           ),
         )
+
+    -- so does one that was there already
+    gives-by : (s : List Step) (T : TypeTree) (o : Operation) (w : Datum) (p : LeafSteps) → IsPut s T o p
+        → operation_value T ps (register (after s)) o ≡ w → Gives s p w
+    gives-by s T o w p fresh e = fresh-gives s T o w e
+    gives-by s T o w p (again us vs is b) e =
+        let u : Datum = operation_value T ps (register (after us)) o in
+        let h : Holds (us ++ step T o ∷ []) (suc (length us)) u = (fresh-gives us T o u refl).1 in
+        let f : Follows (us ++ step T o ∷ []) s = (vs, is ∙ sym (append_assoc us (step T o ∷ []) vs)) in
+        let g : Holds s (suc (length us)) u = holds-later (us ++ step T o ∷ []) s (suc (length us)) u f h in
+        let same : (j : ℕ) → j < suc (length us) → register (after us) j ≡ register (after s) j
+        = λ j l. sym (holds-later us s j (register (after us) j) (step T o ∷ vs, is) (omega (arith, l), refl)).1 in
+        (follows-same s, (g.0, g.1 ∙ value-same T ps (register (after us)) (register (after s)) (suc (length us)) same o b ∙ e))
+
+    pub put-gives : (s : List Step) (T : TypeTree) (o : Operation) (w : Datum) → operation_value T ps (register (after s)) o ≡ w → Gives s (put s T o) w
+    put-gives s T o w e = gives-by s T o w (put s T o) (put-is s T o) e
 
     -- an operation on one register, on two, on three
     one-gives : (s : List Step) (p : LeafSteps) (w u : Datum) (T : TypeTree) (o : Operation) → Gives s p w

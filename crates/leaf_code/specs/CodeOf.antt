@@ -1,11 +1,13 @@
 -- The code of an expression: its parts first, in written order, then what is made of them. All parts
--- are computed, as each has a value; `choose` takes one.
-use Rattle.std.specs.Prelude.{ℕ, suc, List, [], ◌∷◌, ◌++◌, map, length, get_or}
+-- are computed, as each has a value; `choose` takes one. What was computed already isn't again.
+use Rattle.std.specs.Prelude.{ℕ, suc, ◌-◌, List, [], ◌∷◌, ◌++◌, map, length, drop, get_or, Option, Some, None}
 use Rattle.sample_core.specs.TypeTree.{TypeTree, unit_ty, bool_ty, int_ty, pair_ty, event_ty, list_ty}
 use Rattle.leaf_core.specs.Expression.{Expression, Expressions, input, param, unit_expr, bool_expr, int_expr, pair_expr, fst, snd, then_expr, neg, add, sub, mul, less, equal, not_expr, and_expr, or_expr, if_expr, no_event_expr, event_expr, on, list_expr, nth, len, no_more, and_then}
 use Rattle.leaf_code.specs.Operation.{Operation}
 use Rattle.leaf_code.specs.Operation as O
 use Rattle.leaf_code.specs.Running.{Step, step, LeafSteps}
+use Rattle.leaf_code.specs.Keys.{key_of, register_of}
+use Rattle.leaf_code.specs.declared.key.Key.{Key}
 
 -- the type of a pair's left part; a type that is no pair's is its own part
 abbrev pub left_type : TypeTree → TypeTree
@@ -26,9 +28,31 @@ carried_type A = A
 abbrev pub type_at : TypeTree → List Step → ℕ → TypeTree
 type_at A s k = get_or (A ∷ map (λ t. t.ty) s) k unit_ty
 
--- one step more, which sets the next register
-abbrev pub put : List Step → TypeTree → Operation → LeafSteps
-put s T o = (s ++ step T o ∷ [], suc (length s))
+-- among so many of the last steps one is looked for that gives the same: among all of a large expression's would
+-- take long
+abbrev pub recent_steps : ℕ
+recent_steps = 1000
+
+-- the last of steps, and the register that the first of these sets
+abbrev pub recent : List Step → List Step
+recent s = drop (length s - recent_steps) s
+
+abbrev pub first_recent : List Step → ℕ
+first_recent s = suc (length s - recent_steps)
+
+-- the register that has what an operation of this key gives at type T, if one of those steps sets one
+abbrev pub computed : TypeTree → List Step → Option Key → Option ℕ
+computed T s None = None
+computed T s (Some k) = register_of T k (first_recent s) (recent s)
+
+-- one step more, which sets the next register, unless one has that already
+abbrev pub or_more : List Step → Step → Option ℕ → LeafSteps
+or_more s t None = (s ++ t ∷ [], suc (length s))
+or_more s t (Some k) = (s, k)
+
+-- the same of a step of this type and operation
+unfoldable pub put : List Step → TypeTree → Operation → LeafSteps
+put s T o = or_more s (step T o) (computed T s (key_of o))
 
 -- what the event in register e carries, or zeros, beside register x
 abbrev pub beside_carried : TypeTree → ℕ → ℕ → List Step → LeafSteps

@@ -22,6 +22,7 @@ ghost use Rattle.leaf_core.specs.ExpressionView.{expression_of};
 ghost use Rattle.leaf_code.specs.CodeOf.{
   beside_carried,
   carried_type,
+  computed,
   emit,
   emit_all,
   leaf_code,
@@ -32,12 +33,17 @@ ghost use Rattle.leaf_code.specs.CodeOf.{
   type_at,
 };
 ghost use Rattle.leaf_code.specs.Operation as O;
+ghost use Rattle.leaf_code.specs.Keys.{key_of};
 ghost use Rattle.leaf_code.specs.CodeView.{AddsElements, leaf_of, literal_in, literal_type, operation_of, put_binary, steps_in};
 
+use crate::key::{is_computed, key_of};
 use crate::operation::{LeafCode, Operation, Step};
 use leaf_core::{Expr, ExprChild, Exprs, Literal};
 use sample_core::{Memory, Ty, TyChild};
 use std::alloc::Global;
+
+/// So many steps are looked at for one that gives the same: more would take long.
+const RECENT_STEPS: usize = 1_000;
 
 /// The types under which an expression stands.
 #[derive(Clone, Copy)]
@@ -76,13 +82,31 @@ pub fn compile_expr(alloc: Global, params: &[Ty], input: &Ty, e: &Expr) -> Resul
     Ok(LeafCode { steps, answer })
 }
 
-/// Adds a step; the register that it sets.
+/// Adds a step, unless one of the last gives the same; the register that has its value.
+#[tactic(auto, unfolding(crate::specs::CodeOf::put))]
 fn put(steps: &mut Vec<Step>, ty: Ty, operation: Operation) -> Result<usize, Memory>
     ensures { IfOk result (λ k. put (steps_in steps.old.items) (type_of ty) (operation_of operation)
         ≡ (steps_in steps.new.items, k)) }
 {
+    if let Some(k) = computed(steps.as_slice(), &ty, &operation) {
+        return Ok(k);
+    }
     steps.push(Step { ty, operation })?;
     Ok(steps.len())
+}
+
+/// The register that has what an operation gives, if one of the last steps sets one.
+fn computed(steps: &[Step], ty: &Ty, operation: &Operation) -> Option<usize>
+    ensures { result ≡ computed (type_of ty.now) (steps_in steps.now) (key_of (operation_of operation.now)) }
+{
+    let key = key_of(operation)?;
+    let first = steps.len().saturating_sub(RECENT_STEPS);
+    for k in first..steps.len() {
+        if is_computed(k + 1, ty, key, &steps[k]) {
+            return Some(k + 1);
+        }
+    }
+    None
 }
 
 /// Adds an operation on two registers.

@@ -11,6 +11,7 @@
 #![tactic(auto)]
 
 mod emit;
+mod key;
 mod laws;
 mod operation;
 
