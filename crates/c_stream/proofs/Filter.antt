@@ -16,7 +16,7 @@ use Rattle.c_leaf.specs.LeafCLaw.{FewElements}
 use Rattle.c_file.specs.Compared.{is_among, number_among}
 use Rattle.c_file.specs.FileLaw.{bounds}
 use Rattle.c_file.proofs.Links.{earlier, newest, link-append, link-more, link-length}
-use Rattle.c_stream.specs.Streams.{ByHand, put_pair, put_event, put_list, put_none, put_blank, put_close, put_unit, put_bool, put_int, take_pair, is_event, take_none, take_list, take_blank, take_close, is_close, end_list, read_unit, read_bool, read_int, hand_number, hand_count, Held, AreStreams, Puts, Writes, Takes, Reads, PutsByHand, TakesByHand}
+use Rattle.c_stream.specs.Streams.{ByHand, put_pair, put_event, put_list, put_none, put_blank, put_close, put_unit, put_bool, put_int, take_pair, is_event, take_none, take_list, take_blank, take_close, is_close, end_list, read_unit, read_bool, read_int, hand_number, hand_count, HoldsBy, AreStreams, Puts, Writes, Takes, Reads, PutsByHand, TakesByHand}
 use Rattle.c_stream.specs.Writing.{has_parts, writer, PartsWritten}
 use Rattle.c_stream.specs.Reading.{reader, PartsRead}
 use Rattle.c_stream.specs.Filter.{and_new, with_parts, parts_of, first_reader, writer_number, reader_number, writers, readers, filter_file, FilterLaw, ProgramFilterLaw}
@@ -299,8 +299,8 @@ module _ (one : OneValueLaw) (l : ℕ) (written unread : List ℕ → Object →
   hand-before : (gs : List Linked) → length fs ≤ length gs → (k : ByHand) → m + hand_number k < length gs
   hand-before gs b k = let c : hand_number k < 20 = hand-few k in omega (arith, b, c, count)
 
-  module _ (streams : AreStreams l (Held written)) (puts : PutsByHand (Held written) n (numbered fs) m) where
-    writes-parts : (F : ℕ → Linked) (T : TypeTree) → PartsDone n 0 (Writes (Held written) n) (writer_number m B) F T → PartsWritten (Held written) n F (writer_number m B) T
+  module _ (streams : AreStreams l (HoldsBy written)) (puts : PutsByHand (HoldsBy written) n (numbered fs) m) where
+    writes-parts : (F : ℕ → Linked) (T : TypeTree) → PartsDone n 0 (Writes (HoldsBy written) n) (writer_number m B) F T → PartsWritten (HoldsBy written) n F (writer_number m B) T
     writes-parts F unit_ty p = tt
     writes-parts F bool_ty p = tt
     writes-parts F int_ty p = tt
@@ -316,7 +316,7 @@ module _ (one : OneValueLaw) (l : ℕ) (written unread : List ℕ → Object →
     writer-at (event_ty T) e = ap (λ k. k + number_among (parts_of B) (event_ty T)) (sym count)
     writer-at (list_ty T) e = ap (λ k. k + number_among (parts_of B) (list_ty T)) (sym count)
 
-    writer-basic : (T : TypeTree) → has_parts T ≡ false → Basic n 0 (Writes (Held written) n) fs (writer_number m B) T
+    writer-basic : (T : TypeTree) → has_parts T ≡ false → Basic n 0 (Writes (HoldsBy written) n) fs (writer_number m B) T
     writer-basic unit_ty e = record { before = hand-before fs (omega arith) put_unit; does = puts.unit }
     writer-basic bool_ty e = record { before = hand-before fs (omega arith) put_bool; does = puts.bool }
     writer-basic int_ty e = record { before = hand-before fs (omega arith) put_int; does = puts.int }
@@ -324,15 +324,15 @@ module _ (one : OneValueLaw) (l : ℕ) (written unread : List ℕ → Object →
     writer-basic (event_ty T) e = no-yes e
     writer-basic (list_ty T) e = no-yes e
 
-    output-written : Writes (Held written) n B (numbered (link fs (filter_file l n most m A B)) (writer_number m B B))
+    output-written : Writes (HoldsBy written) n B (numbered (link fs (filter_file l n most m A B)) (writer_number m B B))
     output-written =
         let w = with-one n 0 B [] (room-for-none n B) closed_none in
-        all-done n 0 (writer l n m (writer_number m B)) (Writes (Held written) n) fs (parts_of B) (writer_number m B) writer-at writer-basic
+        all-done n 0 (writer l n m (writer_number m B)) (Writes (HoldsBy written) n) fs (parts_of B) (writer_number m B) writer-at writer-basic
         (λ F T s p r hp. writing_law l written n F m (writer_number m B) T streams few
-        (puts-moved m (numbered fs) F (λ k. sym (s (m + hand_number k) (hand-before fs (omega arith) k))) (Held written) n puts) (writes-parts F T p) hp)
+        (puts-moved m (numbered fs) F (λ k. sym (s (m + hand_number k) (hand-before fs (omega arith) k))) (HoldsBy written) n puts) (writes-parts F T p) hp)
         w.closed (readers l n most m A B) B w.among
 
-  module _ (streams : AreStreams l (Held unread)) (room : HasRoom n most A) (takes : TakesByHand (Held unread) n most (numbered fs) m) where
+  module _ (streams : AreStreams l (HoldsBy unread)) (room : HasRoom n most A) (takes : TakesByHand (HoldsBy unread) n most (numbered fs) m) where
     abbrev behind-writers : List Linked
     behind-writers = link fs (writers l n most m A B)
 
@@ -349,10 +349,10 @@ module _ (one : OneValueLaw) (l : ℕ) (written unread : List ℕ → Object →
     same-hand : (k : ByHand) → numbered fs (m + hand_number k) ≡ numbered behind-writers (m + hand_number k)
     same-hand k = sym (same-before fs (writers l n most m A B) (m + hand_number k) (hand-before fs (omega arith) k))
 
-    takes-behind : TakesByHand (Held unread) n most (numbered behind-writers) m
-    takes-behind = takes-moved m (numbered fs) (numbered behind-writers) same-hand (Held unread) n most takes
+    takes-behind : TakesByHand (HoldsBy unread) n most (numbered behind-writers) m
+    takes-behind = takes-moved m (numbered fs) (numbered behind-writers) same-hand (HoldsBy unread) n most takes
 
-    reads-parts : (F : ℕ → Linked) (T : TypeTree) → HasRoom n most T → PartsDone n most (Reads (Held unread) n most) (reader_number m A B) F T → PartsRead (Held unread) n most F (reader_number m A B) T
+    reads-parts : (F : ℕ → Linked) (T : TypeTree) → HasRoom n most T → PartsDone n most (Reads (HoldsBy unread) n most) (reader_number m A B) F T → PartsRead (HoldsBy unread) n most F (reader_number m A B) T
     reads-parts F unit_ty r p = tt
     reads-parts F bool_ty r p = tt
     reads-parts F int_ty r p = tt
@@ -371,7 +371,7 @@ module _ (one : OneValueLaw) (l : ℕ) (written unread : List ℕ → Object →
     reader-at (event_ty T) e = ap (λ k. k + number_among (parts_of A) (event_ty T)) first-is
     reader-at (list_ty T) e = ap (λ k. k + number_among (parts_of A) (list_ty T)) first-is
 
-    reader-basic : (T : TypeTree) → has_parts T ≡ false → Basic n most (Reads (Held unread) n most) behind-writers (reader_number m A B) T
+    reader-basic : (T : TypeTree) → has_parts T ≡ false → Basic n most (Reads (HoldsBy unread) n most) behind-writers (reader_number m A B) T
     reader-basic unit_ty e = record { before = hand-before behind-writers longer read_unit; does = takes-behind.unit }
     reader-basic bool_ty e = record { before = hand-before behind-writers longer read_bool; does = takes-behind.bool }
     reader-basic int_ty e = record { before = hand-before behind-writers longer read_int; does = takes-behind.int }
@@ -379,15 +379,15 @@ module _ (one : OneValueLaw) (l : ℕ) (written unread : List ℕ → Object →
     reader-basic (event_ty T) e = no-yes e
     reader-basic (list_ty T) e = no-yes e
 
-    input-read : Reads (Held unread) n most A (numbered (link fs (filter_file l n most m A B)) (reader_number m A B A))
+    input-read : Reads (HoldsBy unread) n most A (numbered (link fs (filter_file l n most m A B)) (reader_number m A B A))
     input-read =
         let w = with-one n most A [] room closed_none in
-        subst (Reads (Held unread) n most A)
+        subst (Reads (HoldsBy unread) n most A)
         (ap (λ (a : File). numbered (link behind-writers a) (reader_number m A B A)) (append-nil (readers l n most m A B))
         ∙ ap (λ gs. numbered gs (reader_number m A B A)) (sym (link-append fs (writers l n most m A B) (readers l n most m A B))))
-        (all-done n most (reader l n most m (reader_number m A B)) (Reads (Held unread) n most) behind-writers (parts_of A) (reader_number m A B) reader-at reader-basic
+        (all-done n most (reader l n most m (reader_number m A B)) (Reads (HoldsBy unread) n most) behind-writers (parts_of A) (reader_number m A B) reader-at reader-basic
         (λ F T s p r hp. reading_law one l unread n most F m (reader_number m A B) T streams few
-        (takes-moved m (numbered behind-writers) F (λ k. sym (s (m + hand_number k) (hand-before behind-writers longer k))) (Held unread) n most takes-behind) (reads-parts F T r p) hp)
+        (takes-moved m (numbered behind-writers) F (λ k. sym (s (m + hand_number k) (hand-before behind-writers longer k))) (HoldsBy unread) n most takes-behind) (reads-parts F T r p) hp)
         w.closed [] A w.among)
 
 pub filter_law : OneValueLaw → FilterLaw

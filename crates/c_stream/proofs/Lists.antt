@@ -15,7 +15,7 @@ use Rattle.c_leaf.specs.Representing.{two, c_type, Represents, c_list, AllRepres
 use Rattle.c_leaf.specs.LeafCLaw.{FewElements}
 use Rattle.c_leaf.proofs.Values.{has, count-range}
 use Rattle.c_forms.proofs.Lines.{halves}
-use Rattle.c_stream.specs.Streams.{take_list, take_blank, is_close, end_list, take, without_byte, without_word, Held, AreStreams, Stands, Read, read_value, read_none, Reads, TakesByHand}
+use Rattle.c_stream.specs.Streams.{take_list, take_blank, is_close, end_list, take, without_byte, without_word, HoldsBy, AreStreams, Stands, Read, read_value, read_none, Reads, TakesByHand}
 use Rattle.c_stream.specs.Writing.{has_parts}
 use Rattle.c_stream.specs.Reading.{element_body, reader_body, reader, PartsRead, ReadingLaw}
 use Rattle.c_stream.proofs.Standing.{RowStands, row-ended, row-more, no-row-last, no-row-blank, no-row-value, no-row-more, list-joined, no-list-word, no-list-row}
@@ -281,7 +281,7 @@ module _ (one : OneValueLaw) (l : ℕ) (Holds : List ℕ → Object → Type 0) 
       subst (λ x. Comes l Holds n most F m h streams (list_ty A) S (reader_body most m h (list_ty A)) (o ∷ x ∷ [])) (sym w.is) (list-read A few f.0 f.1 S o w.a w.b u w.has_a w.has_b)
 
 pub reading_law : OneValueLaw → ReadingLaw
-reading_law one l test n most F m h A streams few takes f a s o q u t = by-case (body-reads one l (Held test) n most F m h streams takes A s o q few f a u t)
+reading_law one l test n most F m h A streams few takes f a s o q u t = by-case (body-reads one l (HoldsBy test) n most F m h streams takes A s o q few f a u t)
   where
     steady-reader : (A : TypeTree) → steady (reader_body most m h A) ≡ true
     steady-reader unit_ty = refl
@@ -291,7 +291,7 @@ reading_law one l test n most F m h A streams few takes f a s o q u t = by-case 
     steady-reader (event_ty A) = refl
     steady-reader (list_ty A) = refl
 
-    by-case : Comes l (Held test) n most F m h streams A s (reader_body most m h A) (o ∷ q ∷ []) → Read (Held test) n most A s (Rattle.c_meaning.specs.Meaning.function_run F (reader l n most m h A) (o ∷ q ∷ []))
+    by-case : Comes l (HoldsBy test) n most F m h streams A s (reader_body most m h A) (o ∷ q ∷ []) → Read (HoldsBy test) n most A s (Rattle.c_meaning.specs.Meaning.function_run F (reader l n most m h A) (o ∷ q ∷ []))
     by-case (comes_value {o = x} {q = y} {us = us} st rep w runs) =
         read_value st rep (function-runs F (reader l n most m h A) (o ∷ q ∷ []) (x ∷ y ∷ us) (x ∷ y ∷ []) (truth true) (yes-and (streams s o u) (yes-and t refl)) (steady-reader A) runs refl refl) w
     by-case (comes_none {o = x} {q = y} {us = us} none ty w runs) =

@@ -14,7 +14,7 @@ use Rattle.c_meaning.proofs.Runs.{Runs, then-run, gives-back, chooses-first, cho
 use Rattle.c_leaf.specs.Representing.{two, Represents, c_pair, c_no_event, c_event, c_list, AllRepresent, c_end, c_more}
 use Rattle.c_leaf.specs.LeafCLaw.{FewElements}
 use Rattle.c_leaf.proofs.Values.{has}
-use Rattle.c_stream.specs.Streams.{stream_type, ByHand, put_pair, put_event, put_list, put_none, put_blank, put_close, hand_number, put, write_part, Held, AreStreams, Puts, Writes, PutsByHand}
+use Rattle.c_stream.specs.Streams.{stream_type, ByHand, put_pair, put_event, put_list, put_none, put_blank, put_close, hand_number, put, write_part, HoldsBy, AreStreams, Puts, Writes, PutsByHand}
 use Rattle.c_stream.specs.Writing.{has_parts, writer_body, writer, PartsWritten, WritingLaw}
 
 module _ (l : ℕ) (Holds : List ℕ → Object → Type 0) (n : Bounds) (F : ℕ → Linked) (m : ℕ) (w : TypeTree → ℕ) (streams : AreStreams l Holds) where
@@ -202,7 +202,7 @@ module _ (l : ℕ) (Holds : List ℕ → Object → Type 0) (n : Bounds) (F : �
 
 pub writing_law : WritingLaw
 writing_law l test n F m w A streams few puts f a v s o p h x =
-    let r = body-writes l (Held test) n F m w streams puts A s o p few f a h x in
+    let r = body-writes l (HoldsBy test) n F m w streams puts A s o p few f a h x in
     record {
       stream = r.stream;
       result = function-runs F (writer l n m w A) (o ∷ p ∷ []) (r.stream ∷ p ∷ r.more) (r.stream ∷ p ∷ []) C.end (yes-and (streams s o h) (yes-and (has n x) refl)) (steady-writer A) r.runs refl refl;

@@ -12,7 +12,7 @@ use Rattle.c_meaning.specs.Meaning.{Linked, numbered, link}
 use Rattle.c_leaf.specs.LeafCLaw.{FewElements}
 use Rattle.c_file.specs.Compared.{is_among, number_among}
 use Rattle.c_file.specs.FileLaw.{bounds}
-use Rattle.c_stream.specs.Streams.{put_unit, put_bool, put_int, read_unit, read_bool, read_int, hand_number, hand_count, Held, AreStreams, Writes, Reads, PutsByHand, TakesByHand}
+use Rattle.c_stream.specs.Streams.{put_unit, put_bool, put_int, read_unit, read_bool, read_int, hand_number, hand_count, HoldsBy, AreStreams, Writes, Reads, PutsByHand, TakesByHand}
 use Rattle.c_stream.specs.Writing.{writer}
 use Rattle.c_stream.specs.Reading.{reader}
 
@@ -66,12 +66,12 @@ module _ (l : ℕ) (n : TypeTree → ℕ) (most m : ℕ) (A B : TypeTree) where
 -- reader of an A reads its own
 abbrev pub Filters : ℕ → (List ℕ → Object → Bool) → (List ℕ → Object → Bool) → Bounds → ℕ → ℕ
     → TypeTree → TypeTree → List Linked → Type 0
-Filters l written unread n most m A B fs = AreStreams l (Held written)
-    → AreStreams l (Held unread) → length fs ≡ m + hand_count
-    → PutsByHand (Held written) n (numbered fs) m → TakesByHand (Held unread) n most (numbered fs) m
-    → Writes (Held written) n B
+Filters l written unread n most m A B fs = AreStreams l (HoldsBy written)
+    → AreStreams l (HoldsBy unread) → length fs ≡ m + hand_count
+    → PutsByHand (HoldsBy written) n (numbered fs) m → TakesByHand (HoldsBy unread) n most (numbered fs) m
+    → Writes (HoldsBy written) n B
     (numbered (link fs (filter_file l n most m A B)) (writer_number m B B))
-    × Reads (Held unread) n most A
+    × Reads (HoldsBy unread) n most A
     (numbered (link fs (filter_file l n most m A B)) (reader_number m A B A))
 
 -- whatever functions these are, where lists have room

@@ -9,7 +9,7 @@ use Rattle.c_leaf.specs.Representing.{c_type}
 use Rattle.c_leaf.specs.LeafC.{stop_unless}
 use Rattle.c_leaf.specs.LeafCLaw.{FewElements}
 use Rattle.c_forms.specs.Forms.{lines}
-use Rattle.c_stream.specs.Streams.{stream_type, take_pair, is_event, take_none, take_list, take_blank, take_close, is_close, end_list, take, read_part, Held, AreStreams, Reads, TakesByHand}
+use Rattle.c_stream.specs.Streams.{stream_type, take_pair, is_event, take_none, take_list, take_blank, take_close, is_close, end_list, take, read_part, HoldsBy, AreStreams, Reads, TakesByHand}
 use Rattle.c_stream.specs.Writing.{has_parts}
 
 -- what an event carries is read
@@ -88,6 +88,6 @@ PartsRead Holds n most F h A = Unit {0}
 -- such a function reads a value exactly where one is spelled, where those that it calls do
 abbrev pub ReadingLaw : Type 0
 ReadingLaw = (l : ℕ) (test : List ℕ → Object → Bool) (n : Bounds) (most : ℕ) (F : ℕ → Linked) (m : ℕ)
-    (h : TypeTree → ℕ) (A : TypeTree) → AreStreams l (Held test) → FewElements n
-    → TakesByHand (Held test) n most F m → PartsRead (Held test) n most F h A → has_parts A ≡ true
-    → Reads (Held test) n most A (function_run F (reader l n most m h A))
+    (h : TypeTree → ℕ) (A : TypeTree) → AreStreams l (HoldsBy test) → FewElements n
+    → TakesByHand (HoldsBy test) n most F m → PartsRead (HoldsBy test) n most F h A → has_parts A ≡ true
+    → Reads (HoldsBy test) n most A (function_run F (reader l n most m h A))

@@ -86,8 +86,8 @@ abbrev pub read_part : ℕ → Term → Command
 read_part k e = call truth_type k (by_pointer (local 0) ∷ by_pointer e ∷ [])
 
 -- which bytes a stream holds, those that were written or those that are unread, by a test
-abbrev pub Held : (List ℕ → Object → Bool) → List ℕ → Object → Type 0
-Held test s o = test s o ≡ true
+abbrev pub HoldsBy : (List ℕ → Object → Bool) → List ℕ → Object → Type 0
+HoldsBy test s o = test s o ≡ true
 
 -- what holds bytes is a stream
 abbrev pub AreStreams : ℕ → (List ℕ → Object → Type 0) → Type 0

@@ -8,7 +8,7 @@ use Rattle.c_meaning.specs.Meaning.{Linked, function_run}
 use Rattle.c_leaf.specs.Representing.{c_type}
 use Rattle.c_leaf.specs.LeafCLaw.{FewElements}
 use Rattle.c_forms.specs.Forms.{lines}
-use Rattle.c_stream.specs.Streams.{stream_type, put_pair, put_event, put_list, put_none, put_blank, put_close, put, write_part, Held, AreStreams, Writes, PutsByHand}
+use Rattle.c_stream.specs.Streams.{stream_type, put_pair, put_event, put_list, put_none, put_blank, put_close, put, write_part, HoldsBy, AreStreams, Writes, PutsByHand}
 
 -- whether values of the type have parts; the others are written and read by hand
 abbrev pub has_parts : TypeTree → Bool
@@ -60,6 +60,6 @@ PartsWritten Holds n F w A = Unit {0}
 -- such a function writes a value's spelling, where those that it calls do
 abbrev pub WritingLaw : Type 0
 WritingLaw = (l : ℕ) (test : List ℕ → Object → Bool) (n : Bounds) (F : ℕ → Linked) (m : ℕ)
-    (w : TypeTree → ℕ) (A : TypeTree) → AreStreams l (Held test) → FewElements n
-    → PutsByHand (Held test) n F m → PartsWritten (Held test) n F w A → has_parts A ≡ true
-    → Writes (Held test) n A (function_run F (writer l n m w A))
+    (w : TypeTree → ℕ) (A : TypeTree) → AreStreams l (HoldsBy test) → FewElements n
+    → PutsByHand (HoldsBy test) n F m → PartsWritten (HoldsBy test) n F w A → has_parts A ≡ true
+    → Writes (HoldsBy test) n A (function_run F (writer l n m w A))
