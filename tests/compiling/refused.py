@@ -27,7 +27,12 @@ FILES = {
     # Each keeps 128 times 16 bytes more than what is in it, and 8: from 65,560 bytes 8,393,736, and then 1,074,400,264.
     "many": "yampa 2 input Int " + nested(2),
     "fewer": "yampa 2 input Int " + nested(1),
+    # 31 of those delays and 48,920 bytes: 64 MiB.
+    "full": f"yampa 1 input Int (>>> (delay 3056 0) (>>> (arr {ZEROS}) " + f"(>>> (delay 4096 {ZEROS}) " * 31 + "identity" + ")" * 33,
+    "square": "yampa 1 input (List (List Int)) (iPre (list (List Int)))",
 }
+# What is kept has room, and the state has 8 bytes more: 64 MiB; 2,895 lists of 2,895 numbers, each list with 8 bytes more.
+FITTING = [(["full"], 67_108_872), (["--most", "2895", "square"], 67_071_376)]
 LINES = [
     (["absent"], 3, "network: cannot be read"),
     (["header"], 1, "network: header"),
@@ -42,6 +47,7 @@ LINES = [
     (["large"], 1, "network: state too large at (at" + " 1" * 9 + ")"),
     (["many"], 1, "network: state too large at (at 1 0)"),
     (["nested"], 1, "network: state too large at (at): give --most"),
+    (["--most", "2896", "square"], 1, "network: state too large at (at)"),
 ]
 WRONG = [[], ["good", "good"], ["--header"], ["--wrong", "good"], ["--name"], ["--most", "good"], ["--header", "--header", "good"]]
 
@@ -53,6 +59,11 @@ def tried(bench):
         told = bench.compile(*words)
         if (told.status, told.output, told.error.decode()) != (status, b"", line + "\n"):
             raise Differs(f"compile {' '.join(words)[:200]} tells {told}, not {line}")
+        bench.tally["refusals"] += 1
+    for words, size in FITTING:
+        told = bench.compile("--header", *words)
+        if f"_STATE_BYTES {size}\n".encode() not in told.output:
+            raise Differs(f"compile --header {' '.join(words)} has no {size}: {told}")
         bench.tally["refusals"] += 1
     for words in WRONG:
         told = bench.compile(*words)

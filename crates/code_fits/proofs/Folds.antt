@@ -35,7 +35,7 @@ take-some (y ∷ xs) zero x e = let q : y ≡ x = cc in ap (λ z. z ∷ []) q
 take-some (y ∷ xs) (suc i) x e = ap (λ zs. y ∷ zs) (take-some xs i x e)
 
 -- nothing is left behind the last
-gone : {X : Type 0} (xs : List X) (i : ℕ) → length xs ≤ i → drop i xs ≡ []
+pub gone : {X : Type 0} (xs : List X) (i : ℕ) → length xs ≤ i → drop i xs ≡ []
 gone [] zero l = refl
 gone [] (suc i) l = refl
 gone (x ∷ xs) zero l = absurd (omega arith)

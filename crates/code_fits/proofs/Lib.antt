@@ -8,3 +8,6 @@ pub mod RuleTests
 pub mod Folds
 pub mod Room
 pub mod Programs
+pub mod Saturation
+pub mod KeptSizes
+pub mod Refusals

@@ -7,4 +7,7 @@ pub mod CodeOfNet
 pub mod Tables
 pub mod Parts
 pub mod Room
+pub mod Sizes
+pub mod Saturated
 pub mod Programs
+pub mod Refusing

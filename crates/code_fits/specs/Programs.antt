@@ -12,10 +12,13 @@ use Rattle.net_code.specs.CodeLaw.{leaf_in}
 use Rattle.code_fits.specs.declared.types.Types.{Types}
 use Rattle.code_fits.specs.declared.layout.Layout.{Layout}
 use Rattle.code_fits.specs.declared.layout.Program.{Program}
+use Rattle.code_fits.specs.declared.program.Refused.{Refused}
+use Rattle.code_fits.specs.declared.program.Refused.TheVariants as R
 use Rattle.code_fits.specs.Standing.{stands_of}
 use Rattle.code_fits.specs.FitLaw.{SamplesFit, AlwaysWell}
 use Rattle.code_fits.specs.CodeOfNet.{IsCodeOf}
 use Rattle.code_fits.specs.Room.{HasRoom, all_at}
+use Rattle.code_fits.specs.Sizes.{kept_sizes, IsStateOf, IsFirstOver}
 use Rattle.code_fits.specs.Tables.{tree_at, layout_of, bound_of, TableHolds, LayoutsFit}
 
 -- the layout of a whole network: it has nothing in scope, and goes from the network's input to its
@@ -41,6 +44,37 @@ pub record IsProgramOf (t : TypedNetwork) (most : ℕ) (p : Program) : Type 0 wh
   pub whole : HasWhole t p.types p.functions.items p.layouts.items
   pub room : HasRoom (bound_of p.types p.bounds.items) most t.input
   pub small : AllBelow (2 ^ 32) p.bounds.items
+
+-- how many bytes each function of a program keeps
+abbrev pub sizes_of : Program → List ℕ
+sizes_of p =
+    kept_sizes (bound_of p.types p.bounds.items) p.functions.items
+    (map (layout_of p.types) p.layouts.items)
+
+-- no function keeps more than a state may have, and the state has so many bytes
+abbrev pub StateFits : Program → Type 0
+StateFits p = IsStateOf (sizes_of p) p.state_bytes
+
+-- the node of function k stands at this position
+pub record StandsAt (Ls : List Layout) (k : ℕ) (P : List ℕ) : Type 0 where
+  pub layout : Layout
+  pub there : slice_get Ls k ≡ Some layout
+  pub position : P ≡ layout.position.items
+
+-- function k is the first that keeps more than a state may have, and stands at the position
+abbrev pub IsTooLarge : List ℕ → List Layout → List ℕ → Type 0
+IsTooLarge ns Ls P = (k : ℕ) × IsFirstOver ns k × StandsAt Ls k P
+
+-- of a network's program, whose functions fit their layouts
+pub record KeepsTooMuch (t : TypedNetwork) (most : ℕ) (P : List ℕ) : Type 0 where
+  pub program : Program
+  pub fits : IsProgramOf t most program
+  pub too_large : IsTooLarge (sizes_of program) program.layouts.items P
+
+-- why a network has no program; `Untyped` and `Memory` say nothing about it
+abbrev pub HasNoProgram : TypedNetwork → ℕ → Refused → Type 0
+HasNoProgram t most (R.State P) = KeepsTooMuch t most P
+HasNoProgram t most refused = Unit {0}
 
 -- a program outputs, on any samples and from whatever is kept at the start, the network's stream,
 -- whichever types its expressions are compiled under

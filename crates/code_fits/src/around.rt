@@ -182,22 +182,30 @@ pub(crate) fn all_go(around: Around<'_>, fs: &[usize], a: usize, b: usize) -> Re
     Ok(())
 }
 
-/// Lists of a type may have so many elements: the number beside the first of some types that is it.
-pub(crate) fn may_have(known: &[Ty], bounds: &[usize], list: &Ty, many: usize) -> Result<(), Unlaid>
+/// How many elements lists of a type may have: the number beside the first of some types that is it.
+pub(crate) fn most_of(known: &[Ty], bounds: &[usize], list: &Ty) -> Result<usize, Unlaid>
     ensures { IfOk result
-        (λ _. many ≤ beside (type_of list.now) (map type_of known.now) bounds.now) }
+        (λ most. most ≡ beside (type_of list.now) (map type_of known.now) bounds.now) }
 {
     for (i, ty) in known.iter().enumerate() {
         let most = number_at(bounds, i)?;
         if same_type(ty, list) {
-            return if many <= most {
-                Ok(())
-            } else {
-                Err(Unlaid::Untyped)
-            };
+            return Ok(most);
         }
     }
     Err(Unlaid::Untyped)
+}
+
+/// Lists of a type may have so many elements.
+pub(crate) fn may_have(known: &[Ty], bounds: &[usize], list: &Ty, many: usize) -> Result<(), Unlaid>
+    ensures { IfOk result
+        (λ _. many ≤ beside (type_of list.now) (map type_of known.now) bounds.now) }
+{
+    if many <= most_of(known, bounds, list)? {
+        Ok(())
+    } else {
+        Err(Unlaid::Untyped)
+    }
 }
 
 /// The type of the function's answer is one of lists, which may have so many elements.

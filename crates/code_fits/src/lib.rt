@@ -7,7 +7,7 @@
 //! form of network, all that stands at a place while the code runs fits that place (`fit_laws`).
 //!
 //! First `src/layout.rt`, then `specs/Rules`, and `specs/Standing`, what stands at places;
-//! `src/walk.rt` finds the layouts, `src/program.rt` what is too large.
+//! `src/walk.rt` finds the layouts, `src/program.rt` what is too large by `specs/Sizes`.
 #![tactic(auto)]
 
 mod around;

@@ -17,7 +17,7 @@ use thiserror::Error;
 /// Why there are no layouts.
 #[derive(Debug, Drop, Error)]
 pub enum Unlaid {
-    /// A part has not the type that it must have: never of a typed network.
+    /// A part has not the type that it must have: of a typed network that was never seen.
     #[error("no layout")]
     Untyped,
     /// Allocation failed.

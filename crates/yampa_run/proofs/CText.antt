@@ -2,7 +2,7 @@
 use Rattle.std.proofs.Common.{◌≡◌, ℕ, Bool, List, Option, Result, Ok, Err, IfOk, codes, subst}
 use Rattle.std.specs.Result.{IfErr}
 use Rattle.net_meaning.specs.TypedNetwork.{TypedNetwork}
-use Rattle.code_fits.specs.Programs.{IsProgramOf}
+use Rattle.code_fits.specs.Programs.{IsProgramOf, KeepsTooMuch, StateFits}
 use Rattle.code_fits.specs.declared.layout.Program.{Program}
 use Rattle.code_text.specs.FileText.{IsCOf}
 use Rattle.command_line.specs.CommandLine.{DerivationNames, PrintingWords}
@@ -12,14 +12,15 @@ use Rattle.yampa_run.specs.Loading.{IsNetworkOf, RefusesWith}
 use Rattle.yampa_run.specs.Check.{IsChecked}
 use Rattle.yampa_run.specs.Compile.{HasNoC, IsNotCheckedC, IsNotCompiled, TellsC, TellsCheckedC, TellsForm, checked_without_c, state_too_large, without_c}
 use Rattle.yampa_run.specs.RefusalLines.{too_large_words}
+use Rattle.yampa_run.specs.Words.{TellsMost}
 use Rattle.yampa_run.specs.declared.compile.Form.{Form}
 use Rattle.yampa_run.specs.declared.preparation.Refusal.{Refusal}
 
 -- a program's C is that of its network
 pub prints_named : {T E : Type 0} (bytes : T → List ℕ) (t : TypedNetwork) (words : PrintingWords) (name : List ℕ) (most : ℕ) (p : Program) (r : Result T E)
-    → IsProgramOf t most p → IfOk r (λ text. IsCOf p (options_for t words name most) (bytes text)) → IfOk r (λ text. PrintsNamed t words name most (bytes text))
-prints_named bytes t words name most p (Ok text) f c = record { program = p; fits = f; is_c = c }
-prints_named bytes t words name most p (Err e) f c = tt
+    → IsProgramOf t most p → StateFits p → IfOk r (λ text. IsCOf p (options_for t words name most) (bytes text)) → IfOk r (λ text. PrintsNamed t words name most (bytes text))
+prints_named bytes t words name most p (Ok text) f s c = record { program = p; fits = f; state = s; is_c = c }
+prints_named bytes t words name most p (Err e) f s c = tt
 
 pub tells_form : (words : PrintingWords) (form : Form) → IsForm words form → TellsForm words
 tells_form words form f = record { name = form.name.now; most = form.most; name_is = f.name_is; most_is = f.most_is }
@@ -55,8 +56,8 @@ not_checked_c told names words net form (Ok text) i f h = tt
 not_checked_c told names words net form (Err e) i f h = checked_without_c net (tells_form words form f) i h
 
 -- what is too large at a position has no C
-pub too_large_is : {E : Type 0} (t : TypedNetwork) (words : PrintingWords) (P : List ℕ) (asks : Bool) (r : Result Refusal E) → asks ≡ asks_most t words
-    → IfOk r (RefusesWith 1 (too_large_words (codes "state") P asks)) → IfOk r (HasNoC t words)
-too_large_is t words P asks (Ok refusal) e h =
-    state_too_large P (subst (λ a. RefusesWith 1 (too_large_words (codes "state") P a) refusal) e h)
-too_large_is t words P asks (Err f) e h = tt
+pub too_large_is : {E : Type 0} (t : TypedNetwork) (words : PrintingWords) (most : ℕ) (P : List ℕ) (asks : Bool) (r : Result Refusal E) → TellsMost words.most most
+    → KeepsTooMuch t most P → asks ≡ asks_most t words → IfOk r (RefusesWith 1 (too_large_words (codes "state") P asks)) → IfOk r (HasNoC t words)
+too_large_is t words most P asks (Ok refusal) m k e h =
+    state_too_large m k (subst (λ a. RefusesWith 1 (too_large_words (codes "state") P a) refusal) e h)
+too_large_is t words most P asks (Err f) m k e h = tt

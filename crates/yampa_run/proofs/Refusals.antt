@@ -33,7 +33,7 @@ use Rattle.command_line.specs.CommandLine.{DerivationNames, LeadingNames, Printi
 use Rattle.yampa_run.specs.RefusalLines.{text_words, type_words}
 use Rattle.yampa_run.specs.KnownFiles.{IsTold, KnownFiles}
 use Rattle.yampa_run.specs.Loading.{HasNoNetwork, IsNetworkIn, IsNetworkOf, OneRefusalLaw, NoNetworkLaw, by_text, by_types}
-use Rattle.yampa_run.specs.Check.{HasNoDerivation, HasNoSteps, IsDerivedIn, AreStepsOf, RefusesCheck, no_source, no_target, no_steps, not_accepted}
+use Rattle.yampa_run.specs.Check.{HasNoDerivation, HasNoSteps, IsChecked, IsDerivedIn, AreStepsOf, RefusesCheck, no_source, no_target, no_steps, not_accepted}
 use Rattle.yampa_run.specs.Laws.{HasNoPlace, TellsLaws, no_place, no_network as no_such_network, not_there}
 use Rattle.yampa_run.specs.Apply.{IsApplied, IsNoNumber, IsNotApplied, IsUnapplied, TellsApplied, no_number, without_source, without_steps, not_applied}
 use Rattle.yampa_run.specs.Compile.{HasNoC, IsNoForm, IsNoMost, IsNoName, IsNotCheckedC, IsNotCompiled, TellsC, TellsCheckedC, bad_most, bad_name, checked_unformed, checked_without_c, unformed, without_c, without_derivation, without_network}
@@ -235,21 +235,22 @@ no_form_fails words name most refusal t u (bad_most h) = no_most_fails words.mos
 
 -- C that can be printed of a file is refused only where it is too large
 too_large : (known : Option (List ℕ)) (words : PrintingWords) (text : List ℕ) (refusal : Refusal) → refusal ≢ Refused.Memory → IsTold known
-    → TellsC known words text → IsNotCompiled known words refusal → (t : TypedNetwork) × HasNoC t words refusal
+    → TellsC known words text → IsNotCompiled known words refusal → (t : TypedNetwork) × IsNetworkOf known t × HasNoC t words refusal
 too_large known words text refusal m k n (unformed h) = absurd (no_form_fails words n.prints.name n.prints.most refusal n.prints.name_is n.prints.most_is h)
 too_large known words text refusal m k n (without_network f h) = absurd (no_file R.Network known n.net refusal m k n.network h)
-too_large known words text refusal m k n (without_c net f i h) = (net, h)
+too_large known words text refusal m k n (without_c net f i h) = (net, i, h)
 
 checked_too_large : (told : KnownFiles) (names : DerivationNames) (words : PrintingWords) (text : List ℕ) (refusal : Refusal) → refusal ≢ Refused.Memory
-    → AreTold told (run_checked names) → TellsCheckedC told names words text → IsNotCheckedC told names words refusal → (t : TypedNetwork) × HasNoC t words refusal
+    → AreTold told (run_checked names) → TellsCheckedC told names words text → IsNotCheckedC told names words refusal
+    → (t : TypedNetwork) × IsChecked told names t × HasNoC t words refusal
 checked_too_large told names words text refusal m k n (checked_unformed h) =
     absurd (no_form_fails words n.prints.name n.prints.most refusal n.prints.name_is n.prints.most_is h)
 checked_too_large told names words text refusal m k n (without_derivation f h) =
     absurd (no_derivation told names n.net n.is_checked.count refusal m k n.is_checked.derived h)
-checked_too_large told names words text refusal m k n (checked_without_c net f i h) = (net, h)
+checked_too_large told names words text refusal m k n (checked_without_c net f i h) = (net, i, h)
 
 not_failed : (told : KnownFiles) (what : RequestTree) (job : Job) (refusal : Refusal) → refusal ≢ Refused.Memory → AreTold told what
-    → Meets told what job → Fails told what refusal → IsTooLarge what refusal
+    → Meets told what job → Fails told what refusal → IsTooLarge told what refusal
 not_failed told (types name) (J.Print text) refusal m k n f = no_file R.Network (told name) n.net refusal m k n.network f
 not_failed told (types name) (J.Run t) refusal m k n f = n
 not_failed told (types name) (J.PrintAndRefuse text line) refusal m k n f = n

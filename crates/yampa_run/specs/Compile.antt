@@ -2,7 +2,7 @@
 use Rattle.std.specs.Prelude.{◌≡◌, ℕ, Bool, false, List, Option, Some, None, if◌then◌else◌, codes}
 use Rattle.net_meaning.specs.TypedNetwork.{TypedNetwork}
 use Rattle.net_text.specs.Printing.{file_spelling}
-use Rattle.code_fits.specs.Programs.{IsProgramOf}
+use Rattle.code_fits.specs.Programs.{IsProgramOf, KeepsTooMuch, StateFits}
 use Rattle.code_fits.specs.declared.layout.Program.{Program}
 use Rattle.code_text.specs.FileText.{IsCOf, Options}
 use Rattle.code_text.specs.Lists.{has_lists}
@@ -43,12 +43,14 @@ options_for t words name most = record {
   output = t.output;
 }
 
--- the text is a program of the network's code as C, whose functions fit their layouts and which has
--- room for lists of the input of at most so many elements, with that name
+-- the text is a program of the network's code as C, whose functions fit their layouts and keep no more
+-- than a state may have, and which has room for lists of the input of at most so many elements, with
+-- that name
 pub record PrintsNamed (t : TypedNetwork) (words : PrintingWords) (name : List ℕ) (most : ℕ)
     (text : List ℕ) : Type 0 where
   pub program : Program
   pub fits : IsProgramOf t most program
+  pub state : StateFits program
   pub is_c : IsCOf program (options_for t words name most) text
 
 -- the text is a program of the network's code as C, as the words tell
@@ -90,10 +92,11 @@ pub record TellsForm (words : PrintingWords) : Type 0 where
   pub name_is : TellsName words.name name
   pub most_is : TellsMost words.most most
 
--- why a network isn't printed as C: what it keeps, or the values that it works on, are too large at
--- a position, or it has no layout, and that is told; or memory was short
+-- why a network isn't printed as C: with room for lists as the words tell, the first function that keeps
+-- more than a state may have stands at a position; or it has no layout; and that is told, or memory was
+-- short
 pub data HasNoC (t : TypedNetwork) (words : PrintingWords) (refusal : Refusal) : Type 0 where
-  state_too_large : (P : List ℕ)
+  state_too_large : {most : ℕ} {P : List ℕ} → TellsMost words.most most → KeepsTooMuch t most P
       → RefusesWith 1 (too_large_words (codes "state") P (asks_most t words)) refusal
       → HasNoC t words refusal
   without_layout : RefusesWith 1 no_layout_words refusal → HasNoC t words refusal

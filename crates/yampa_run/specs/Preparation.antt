@@ -90,18 +90,20 @@ AreTold told (compile words name) = IsTold (told name)
 AreTold told (compile_checked words names) = IsTold (told names.source)
     × IsTold (told names.target) × IsTold (told names.certificate)
 
--- the refusal is of a network that is to be printed as C, and is too large
-abbrev pub IsTooLarge : RequestTree → Refusal → Type 0
-IsTooLarge (compile words name) refusal = (t : TypedNetwork) × HasNoC t words refusal
-IsTooLarge (compile_checked words names) refusal = (t : TypedNetwork) × HasNoC t words refusal
-IsTooLarge _ refusal = ⊥
+-- the refusal is of the network that is to be printed as C, and is too large
+abbrev pub IsTooLarge : KnownFiles → RequestTree → Refusal → Type 0
+IsTooLarge told (compile words name) refusal =
+    (t : TypedNetwork) × IsNetworkOf (told name) t × HasNoC t words refusal
+IsTooLarge told (compile_checked words names) refusal =
+    (t : TypedNetwork) × IsChecked told names t × HasNoC t words refusal
+IsTooLarge told _ refusal = ⊥
 
 -- where the files' bytes are told and some job is what is asked for, memory alone is a reason to
 -- refuse it, and of C that it is too large
 abbrev pub OnlyMemoryLaw : Type 0
 OnlyMemoryLaw = (told : KnownFiles) (words : List (List ℕ)) (what : RequestTree) (job : Job)
     (refusal : Refusal) → request_in words ≡ Some what → AreTold told what → Meets told what job
-    → IsRefusal told words refusal → (refusal ≡ Refused.Memory) ⊎ IsTooLarge what refusal
+    → IsRefusal told words refusal → (refusal ≡ Refused.Memory) ⊎ IsTooLarge told what refusal
 
 -- a refusal for a table that takes no more: its line with status 1 where it is full, or memory was
 -- short

@@ -1,12 +1,14 @@
 // The commands `compile` and `compile-checked`: networks of files as C.
 
-ghost use Rattle.std.specs.Prelude.{◌≡◌, IfErr, IfOk, string_bytes};
+ghost use Rattle.std.specs.Prelude.{◌≡◌, IfErr, IfOk, ℕ, string_bytes};
+ghost use Rattle.code_fits.specs.Programs.{HasNoProgram};
 ghost use Rattle.code_fits.specs.Tables.{TableHolds};
 ghost use Rattle.code_text.specs.FileText.{IsCOf};
 ghost use Rattle.command_line.specs.CommandLine.{derivation_view, printing_view};
 ghost use Rattle.yampa_run.specs.Compile.{HasNoC, IsForm, IsNoForm, IsNotCheckedC, IsNotCompiled, PrintsNamed, TellsC, TellsCheckedC, asks_most, options_for, printed_by};
 ghost use Rattle.yampa_run.specs.Loading.{RefusesWith};
 ghost use Rattle.yampa_run.specs.RefusalLines.{no_layout_words, too_large_words};
+ghost use Rattle.yampa_run.specs.Words.{TellsMost};
 
 use crate::check::derived;
 use crate::files::Files;
@@ -106,6 +108,7 @@ fn c_text(
     printing: Printing<'_>,
     form: Form<'_>,
 ) -> Result<String, Refusal>
+    requires { TellsMost (printing_view printing.entry).most form.entry.most }
     ensures text { IfOk result (λ text. PrintsNamed net.now (printing_view printing.entry)
         form.entry.name.now form.entry.most (string_bytes text)) }
     ensures refused { IfErr result (HasNoC net.now (printing_view printing.entry)) }
@@ -196,7 +199,9 @@ fn no_program(
     printing: Printing<'_>,
     refused: Refused,
 ) -> Result<Refusal, Memory>
-    ensures { IfOk result (HasNoC net.now (printing_view printing.entry)) }
+    ensures { (most : ℕ) → TellsMost (printing_view printing.entry).most most
+        → HasNoProgram net.now most refused
+        → IfOk result (HasNoC net.now (printing_view printing.entry)) }
 {
     match refused {
         Refused::State(at) => too_large(alloc, "state", at, asks_most(net, printing)),

@@ -1,7 +1,7 @@
 use Rattle.std.proofs.Common.{◌≡◌, drop, map}
 use Rattle.sample_core.specs.TypeView.{type_of}
 use Rattle.code_fits.specs.Tables.{beside}
-use Rattle.code_fits.proofs.around.may_have.Given as goal
+use Rattle.code_fits.proofs.around.most_of.Given as goal
 
 -- the type is not among those before
 abbrev pub invariant-loop-i : goal.invariant-loop-i
