@@ -1,5 +1,5 @@
 -- The C of a network: a file.
-use Rattle.std.specs.Prelude.{◌≡◌, ℕ, suc, ◌==◌, nat_lt, Bool, true, false, if◌then◌else◌, List, [], ◌∷◌, ◌++◌, codes, map, slice_get, Option, Some, None}
+use Rattle.std.specs.Prelude.{◌≡◌, ℕ, suc, ◌+◌, ◌==◌, nat_lt, Bool, true, false, if◌then◌else◌, List, [], ◌∷◌, ◌++◌, codes, map, slice_get, Option, Some, None}
 use Rattle.sample_core.specs.TypeTree.{TypeTree}
 use Rattle.sample_core.specs.TypeView.{type_of}
 use Rattle.code_fits.specs.declared.layout.Program.{Program}
@@ -159,13 +159,13 @@ name_at b i = if i == b.init then N.Init else if i == b.step then N.Step else N.
 
 -- the function behind `init`: the step of an input whose lists are within their arrays
 abbrev pub within_name : Built → Name
-within_name b = if nat_lt b.init b.step then name_at b (suc b.init) else N.Step
+within_name b = if nat_lt b.init b.step then name_at b (b.init + 1) else N.Step
 
 -- the step that the filter calls, which needn't test lists: its reader has
 abbrev pub within_text : List ℕ → Built → List ℕ
 within_text P b =
     pieces_text P (text (codes "\n#define ") ∷ name ∷ text (codes "_step_within ") ∷ [])
-    ++ (name_text P (within_name b) ++ codes "\n")
+    ++ (name_text P (within_name b) ++ pieces_text P (text (codes "\n") ∷ []))
 
 -- p, b: a program and its C; E: which of its structs have no member
 module _ (p : Program) (o : Options) (b : Built) (E : List Bool) where

@@ -141,6 +141,7 @@ fn push_within(text: &mut String, prefix: &str, built: &Built) -> Result<(), Mem
     ensures { IfOk result (λ _. string_bytes text.new
         ≡ string_bytes text.old ++ within_text prefix.now built.now) }
 {
+    let name = within_name(built);
     push(
         text,
         prefix,
@@ -150,9 +151,8 @@ fn push_within(text: &mut String, prefix: &str, built: &Built) -> Result<(), Mem
             Piece::Text("_step_within "),
         ],
     )?;
-    push_name(text, prefix, within_name(built))?;
-    text.push_str("\n")?;
-    Ok(())
+    push_name(text, prefix, name)?;
+    push(text, prefix, &[Piece::Text("\n")])
 }
 
 /// The name of the function behind `init`: the step of an input whose lists are within their arrays.
