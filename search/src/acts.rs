@@ -1,7 +1,7 @@
 //! What moves do that no law does alone: to expressions, to an `arr`, and to as many stages or members as there are.
 use crate::chain::{behind, last, length, seq};
 use crate::cost::{is_cell, net_cost};
-use crate::draft::{joined, Budget, Draft};
+use crate::draft::{joined, Budget, Draft, Path};
 use crate::exprs::{as_behind, as_then, input, pair, parts_in, reached, seen_as, seen_through, then, Aim};
 use crate::laws;
 use crate::read::template;
@@ -73,7 +73,11 @@ pub fn never_apart(budget: &Budget, e: Term) -> Option<Way> {
 
 /// Parts the `arr`, and the one that is then behind it, as long as that costs less.
 pub fn split(w: &mut Draft) -> Option<()> {
-    let mut way = vec![];
+    split_at(w, vec![])
+}
+
+/// The same of the `arr` at a path.
+pub fn split_at(w: &mut Draft, mut way: Path) -> Option<()> {
     while w.clearing == Aim::Cheap && pays_as_two(w.at(&way)?) {
         w.back(laws::FUSE, &way)?;
         way.push(1);

@@ -309,8 +309,7 @@ fn taken_out(budget: &Budget, e: Term) -> Way {
     }
 }
 
-/// The cheaper of what `(then f e)` is carried inwards to, and what it is where f stays before e. What is more than a few
-/// operations isn't copied.
+/// The cheaper of what `(then f e)` is carried inwards to, and what it is where f stays before e. Nothing that is computed is copied.
 fn cheaper(budget: &Budget, inner: Way, f: Term, e: Term) -> Way {
     let kept = kept_before(budget, f, e);
     let margin = if inner.to.size > kept.to.size { tuning::GROWTH_MARGIN } else { 0 };
@@ -322,10 +321,11 @@ fn cheaper(budget: &Budget, inner: Way, f: Term, e: Term) -> Way {
     }
 }
 
-/// The cheapest of `(then f e)`, what that is where e uses one part of its input alone, and where a part of f isn't put together anew.
+/// The cheapest of `(then f e)`, what that is where e uses one part of its input alone, and where parts of f aren't put together anew.
 fn kept_before(budget: &Budget, f: Term, e: Term) -> Way {
     let mut best = Way::still(then(f, e));
-    for found in [narrowed(budget, f, e), rearranged(budget, f, e, 0), rearranged(budget, f, e, 1)].into_iter().flatten() {
+    let ways = [narrowed(budget, f, e), copied_alone(budget, f, e), put_together(budget, f, e, 0), put_together(budget, f, e, 1)];
+    for found in ways.into_iter().flatten() {
         if expr_cost(found.to) < expr_cost(best.to) {
             best = found;
         }
@@ -334,15 +334,42 @@ fn kept_before(budget: &Budget, f: Term, e: Term) -> Way {
 }
 
 /// `(then (pair a b) e)`, where this part of the pair puts parts of the input together: the input in its place, of which e takes those.
-fn rearranged(budget: &Budget, f: Term, e: Term, k: usize) -> Option<Way> {
+fn put_together(budget: &Budget, f: Term, e: Term, k: usize) -> Option<Way> {
     let part = f.kid(k).filter(|&part| f.op == Op::Pair && part.op == Op::Pair && is_put_together(part) && !is_put_together(f))?;
-    let wanted = of(if k == 0 { "LEFT(g)" } else { "RIGHT(g)" }, &[('g', part)]);
-    let rest = improved(budget, Aim::Plain, wanted).to;
-    let back = as_then(budget, f, f.with_kid(k, input()), rest)?;
+    let rest = of(if k == 0 { "LEFT(g)" } else { "RIGHT(g)" }, &[('g', part)]);
+    rearranged(budget, f, e, f.with_kid(k, input()), rest)
+}
+
+/// `(then (pair a b) e)`, where e would copy some of what the pair is made of: these alone beside the input, and e of what is made of that.
+fn copied_alone(budget: &Budget, f: Term, e: Term) -> Option<Way> {
+    let parts = copied(f, e);
+    if f.op != Op::Pair || parts.is_empty() {
+        return None;
+    }
+    let first = pair(gathered(&parts), input());
+    let mut views = Views::default();
+    views.add(first.kids[0], template("(fst x)"));
+    let rest = made_of(budget, f, &views);
+    Some(rest).filter(|&rest| rest != input() && first != f).and_then(|rest| rearranged(budget, f, e, first, rest))
+}
+
+/// The pairs that f is made of, with what is seen in place of parts, and all others behind `(snd x)`.
+fn made_of(budget: &Budget, f: Term, views: &Views) -> Term {
+    match views.seen.get(&f) {
+        Some(&to) => to,
+        None if f.op == Op::Pair => pair(made_of(budget, f.kids[0], views), made_of(budget, f.kids[1], views)),
+        None => carried(budget, template("(snd x)"), f).to,
+    }
+}
+
+/// `(then f e)`, where f is `(then first rest)`: what is before e, and e behind the rest.
+fn rearranged(budget: &Budget, f: Term, e: Term, first: Term, rest: Term) -> Option<Way> {
+    let back = as_then(budget, f, first, improved(budget, Aim::Plain, rest).to)?;
     Some(Way::made(then(f, e), |walk| {
         walk.inside(0, |_| back);
         walk.forward(laws::THEN_NEST);
         walk.inside(1, |inner| pushed(budget, Aim::Cheap, inner));
+        walk.then(|now| narrowed(budget, first, now.kids[1]).unwrap_or_else(|| Way::still(now)));
     }))
 }
 
@@ -566,24 +593,42 @@ impl Uses {
 
 /// Whether f carried into e is computed more than once where it was computed once, or a part of the pair that it is.
 pub fn copies(f: Term, e: Term) -> bool {
-    copies_at(f, e, input(), 0)
+    !copied(f, e).is_empty()
 }
 
-/// The same for the part of f that e sees by the path, where so often e uses what that is in. A part of few operations may be copied
-/// once.
-fn copies_at(part: Term, e: Term, path: Term, outer: u64) -> bool {
+/// What is computed more than once then of what f is made of: what is more than a variable or a constant.
+fn copied(f: Term, e: Term) -> Vec<Term> {
+    let mut found = vec![];
+    add_copied(&mut found, f, e, input(), 0);
+    found
+}
+
+/// Adds the same of the part of f that e sees by the path, where so often e uses what that is in.
+fn add_copied(found: &mut Vec<Term>, part: Term, e: Term, path: Term, outer: u64) {
     if is_simple(part) || part.is_constant() {
-        return false;
+        return;
     }
     let uses = uses_of(e, path);
     if part.op != Op::Pair {
-        let used = uses.any.saturating_add(outer);
-        let is_small = used <= tuning::MOST_COPIES && operations(part).map_or(false, |count| count <= tuning::MOST_COPIED);
-        return used > 1 && !is_small;
+        if uses.any.saturating_add(outer) > 1 && !found.contains(&part) {
+            found.push(part);
+        }
+        return;
     }
     let whole = uses.whole.saturating_add(outer);
-    let half = |op: Op| node(op, &[path]);
-    copies_at(part.kids[0], e, half(Op::Fst), whole) || copies_at(part.kids[1], e, half(Op::Snd), whole)
+    add_copied(found, part.kids[0], e, node(Op::Fst, &[path]), whole);
+    add_copied(found, part.kids[1], e, node(Op::Snd, &[path]), whole);
+}
+
+/// Pairs of the expressions, in their order, each about as deep as the others.
+pub fn gathered(parts: &[Term]) -> Term {
+    match parts {
+        &[one] => one,
+        _ => {
+            let (left, right) = parts.split_at(parts.len() / 2);
+            pair(gathered(left), gathered(right))
+        }
+    }
 }
 
 /// How often e uses what the path leads to in its input.
@@ -604,17 +649,6 @@ fn uses_of(e: Term, path: Term) -> Uses {
             }
         },
     )
-}
-
-/// How many operations the expression is, where it is arithmetic, comparisons and looking into lists alone.
-fn operations(e: Term) -> Option<u64> {
-    match e.op {
-        _ if is_simple(e) || e.is_constant() => Some(0),
-        Op::Neg | Op::Add | Op::Sub | Op::Mul | Op::Less | Op::Equal | Op::Not | Op::And | Op::Or | Op::Nth | Op::Len => {
-            e.kids.iter().try_fold(1, |sum, kid| operations(kid).map(|more| sum + more))
-        }
-        _ => None,
-    }
 }
 
 /// Whether the path leads through what the other one leads to.

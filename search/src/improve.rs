@@ -13,6 +13,7 @@ use crate::moves::{cells_behind, window, windows, Built, Move, MOVES, WIDEST};
 use crate::optimise::optimised;
 use crate::print;
 use crate::read::MOST_BYTES;
+use crate::sharing::share_all;
 use crate::shorten::shortened;
 use crate::single::normal_form;
 use crate::term::{Op, Term};
@@ -213,7 +214,8 @@ impl Search {
         Some(())
     }
 
-    /// Takes what the search makes of the network's normal form, where less stands in that than in the network, and it costs much less.
+    /// Takes what the search makes of the network's normal form, where less stands in that than in the network, it costs much less, and what
+    /// is shared stays so.
     fn take_form(&mut self, draft: &mut Draft, next: Next) -> Option<()> {
         let net = draft.net();
         let few = Budget::new(self.forming);
@@ -225,11 +227,12 @@ impl Search {
         let mut made = Draft::new(&draft.budget, net, draft.olds, draft.clearing);
         made.room = draft.room;
         made.took(&[], formed.as_ref()?.net, &formed?.steps)?;
+        share_all(&mut made, &[])?;
         let (room, forming) = (self.room, std::mem::take(&mut self.forming));
         let done = self.improve(&mut made, next);
         (self.room, self.forming) = (room, forming);
         let cost = cost_before(net, next);
-        done.filter(|()| cost_before(made.net(), next) < cost - cost / tuning::LEAST_SAVED)?;
+        done.filter(|()| cost_before(made.net(), next) < cost - cost / tuning::LEAST_SAVED && operations(made.net()) <= operations(net))?;
         let steps = shortened(net, &made.steps);
         self.count(&steps);
         draft.end_move();
@@ -392,6 +395,13 @@ fn contents(net: Term) -> u64 {
     net.kids.iter().filter(|kid| kid.op.is_net()).fold(own, |sum, kid| sum.saturating_add(contents(kid)))
 }
 
+/// How many sums, comparisons and the like stand in a tree.
+fn operations(tree: Term) -> u64 {
+    let is_made_up = matches!(tree.op, Op::Fst | Op::Snd | Op::Pair | Op::Then | Op::If | Op::On | Op::Event | Op::List);
+    let own = u64::from(tree.op.is_expr() && !tree.kids.is_empty() && !is_made_up);
+    tree.kids.iter().fold(own, |sum, kid| sum.saturating_add(operations(kid)))
+}
+
 /// Improves the expressions of the chain's `arr`s.
 fn clear_stages(chain: &mut Draft) -> Option<()> {
     chain.flatten(&[])?;
@@ -529,12 +539,11 @@ mod tests {
         let sum = "(add (fst x) (snd x))";
         let dear = "(add (mul (add (fst x) (mul (snd x) 3)) (sub (fst x) 7)) (mul (fst x) (add (snd x) (mul (fst x) 5))))";
         for shared in [sum, dear] {
-            for two in ["(pair x (add x x))", "(pair (mul x x) (sub x 1))"] {
+            for two in ["(pair x x)", "(pair x (add x x))", "(pair (mul x x) (sub x 1))"] {
                 let net = format!("(loopPre 0 (arr (then {} {})))", shared, two);
                 is_found(&net, &format!("(loopPre 0 (>>> (arr {}) (arr {})))", shared, two));
             }
         }
-        is_found(&format!("(loopPre 0 (arr (then {} (pair x x))))", dear), &format!("(loopPre 0 (>>> (arr {}) (arr (pair x x))))", dear));
     }
 
     #[test]

@@ -1,8 +1,10 @@
 //! Loops and cells made one loop round one `arr`.
+use crate::acts::split_at;
 use crate::chain::{before_chain, behind, front, head, length, rest, stage_way};
 use crate::cost::net_cost;
 use crate::draft::{joined, Budget, Draft, Path, Step};
 use crate::exprs::Aim;
+use crate::sharing::share_all;
 use crate::single::single;
 use crate::term::{Op, Term};
 use crate::tuning;
@@ -76,10 +78,24 @@ impl Joining {
             return None;
         }
         let enough = most_cost(window)?;
-        let mut made = Draft::new(&self.draft.budget, window, self.draft.olds_at(path), Aim::Cheap);
+        let olds = self.draft.olds_at(path);
+        let ways = [Aim::Cheap, Aim::Plain].into_iter().filter_map(|aim| self.made_by(aim, window, olds, enough));
+        ways.min_by_key(|made| net_cost(made.net()))
+    }
+
+    /// One loop of the network, where it costs no more: what is carried inwards copies nothing, or what it copies is shared again.
+    fn made_by(&self, aim: Aim, window: Term, olds: usize, enough: u64) -> Option<Draft> {
+        let mut made = Draft::new(&self.draft.budget, window, olds, aim);
         single(&mut made, &[])?;
         self.draft.budget.spend(made.steps.len() as u64);
-        Some(made).filter(|made| net_cost(made.net()) <= enough)
+        let body: Path = if made.net().op == Op::LoopPre { vec![1] } else { vec![] };
+        if aim == Aim::Plain && net_cost(made.net()) <= enough {
+            made.clearing = Aim::Cheap;
+            share_all(&mut made, &[])?;
+            made.clear(&joined(&body, &[0]))?;
+        }
+        split_at(&mut made, body)?;
+        Some(made).filter(|made| made.clearing == Aim::Cheap && net_cost(made.net()) <= enough)
     }
 }
 

@@ -1,8 +1,8 @@
 //! Parts that an expression computes more than once, computed once and handed on beside its input.
 use crate::chain::head;
 use crate::cost::{expr_cost, is_path, own_parts};
-use crate::draft::{Budget, Draft};
-use crate::exprs::{as_then, carried, copies, input, pair, parts_in, seen_through, then};
+use crate::draft::{joined, Budget, Draft};
+use crate::exprs::{as_then, carried, copies, gathered, input, pair, parts_in, seen_through, then};
 use crate::laws;
 use crate::print;
 use crate::read::template;
@@ -60,17 +60,6 @@ fn has(e: Term, part: Term) -> bool {
     e.size > part.size && e.kids[..own_parts(e)].iter().any(|&kid| kid == part || has(kid, part))
 }
 
-/// Pairs of the expressions, in their order, each about as deep as the others.
-fn gathered(parts: &[Term]) -> Term {
-    match parts {
-        &[one] => one,
-        _ => {
-            let (left, right) = parts.split_at(parts.len() / 2);
-            pair(gathered(left), gathered(right))
-        }
-    }
-}
-
 /// The way from e to `(then f g)`, where f is a pair with the input, and g is e seen through it. Where e uses nothing else of f it's the
 /// way of the input.
 fn merged(budget: &Budget, e: Term, f: Term) -> Option<Way> {
@@ -106,6 +95,40 @@ fn input_beside(f: Term) -> Way {
     walk.part(0, |whole| whole.backward(laws::INPUT_BEHIND, then(f, input())));
     walk.backward(laws::INTO_PARTS, then(f, template("(snd x)")));
     walk.done()
+}
+
+/// Has each `arr` of what stands at a path compute no part more than once.
+pub fn share_all(w: &mut Draft, path: &[u32]) -> Option<()> {
+    let net = w.at(path)?;
+    if net.op == Op::Arr {
+        return w.rewrite(each_once, path);
+    }
+    net.kids.iter().zip(0u32..).filter(|(kid, _)| kid.op.is_net()).try_for_each(|(_, k)| share_all(w, &joined(path, &[k])))
+}
+
+/// The expression with each part that it computes more than once computed once, and handed on beside the input.
+fn each_once(budget: &Budget, e: Term) -> Option<Way> {
+    let again: Vec<Term> =
+        parts_in(e).into_iter().filter(|&(part, count)| count > 1 && is_again(budget, e, part)).map(|found| found.0).collect();
+    let inner: Vec<Term> = again.iter().filter(|&&part| !again.iter().any(|&other| has(part, other))).copied().collect();
+    if inner.is_empty() {
+        return Some(Way::still(e));
+    }
+    if !budget.spend(e.size) {
+        return None;
+    }
+    let way = merged(budget, e, pair(gathered(&inner), input()))?;
+    let rest = each_once(budget, *way.to.kids.get(1)?)?;
+    Some(Way::made(e, |walk| {
+        walk.follow(&way);
+        walk.inside(1, |_| rest);
+    }))
+}
+
+/// Whether the expression computes the part more than once: of two branches one is taken.
+fn is_again(budget: &Budget, e: Term, part: Term) -> bool {
+    let f = pair(part, input());
+    seen_through(budget, e, f).map_or(false, |g| copies(f, g))
 }
 
 /// Takes the `arr` before members into them, where nothing that it computes is computed by more than one of them then.

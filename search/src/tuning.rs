@@ -95,10 +95,6 @@ pub const FROZEN: u64 = 60;
 
 /// What a larger expression has to save.
 pub const GROWTH_MARGIN: u64 = 90;
-/// How many operations an expression may have that is copied, so as to carry it inwards.
-pub const MOST_COPIED: u64 = 4;
-/// How many copies of it there may be then.
-pub const MOST_COPIES: u64 = 3;
 /// What a part costs at least that is shared.
 pub const LEAST_SHARED: u64 = 60;
 /// What is left at most of the cost of an expression of which parts are handed on beside the input.
