@@ -189,17 +189,25 @@ impl Machine {
         self.put(Command::Assign(place, value))
     }
 
+    /// The command on top, in a box.
+    fn body(&mut self) -> Result<Box<Command>, Unbuilt>
+        ensures terms { IfOk result (λ _. self.new.terms ≡ self.old.terms) }
+        ensures arguments { IfOk result (λ _. self.new.arguments.items ≡ self.old.arguments.items) }
+        ensures commands { IfOk result (λ c. self.old.commands ≡ c.value ∷ self.new.commands) }
+    {
+        let command = self.commands.take()?;
+        Ok(Box::new(self.alloc, command)?)
+    }
+
     /// Makes a branch of the term and the two commands on top.
     fn branch(&mut self) -> Result<(), Unbuilt>
         ensures { IfOk result (λ _. (Ts : List ObjectType)
             → stacks_of Ts self.new.terms self.new.arguments.items self.new.commands
             ≡ step Ts S.Branch (stacks_of Ts self.old.terms self.old.arguments.items self.old.commands)) }
     {
+        let other = self.body()?;
+        let one = self.body()?;
         let test = self.terms.take()?;
-        let other = self.commands.take()?;
-        let one = self.commands.take()?;
-        let one = Box::new(self.alloc, one)?;
-        let other = Box::new(self.alloc, other)?;
         self.put(Command::Branch(test, one, other))
     }
 
@@ -209,9 +217,8 @@ impl Machine {
             → stacks_of Ts self.new.terms self.new.arguments.items self.new.commands
             ≡ step Ts (S.Loop most) (stacks_of Ts self.old.terms self.old.arguments.items self.old.commands)) }
     {
+        let body = self.body()?;
         let test = self.terms.take()?;
-        let body = self.commands.take()?;
-        let body = Box::new(self.alloc, body)?;
         self.put(Command::Loop(most, test, body))
     }
 
