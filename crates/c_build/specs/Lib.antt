@@ -14,3 +14,4 @@ pub mod Testing
 pub mod Growing
 pub mod Building
 pub mod Functions
+pub mod Timings

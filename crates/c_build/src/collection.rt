@@ -92,8 +92,7 @@ fn push_origins(
     push_running(scope, out)?;
     scope.add(out, &[number, Sym::At, Sym::Dot(0), number, Sym::Assign])?;
     push_origins(scope, out, next, others)?;
-    scope.add(out, &[Sym::Block(2)])?;
-    Ok(())
+    scope.add(out, &[Sym::Block(2)])
 }
 
 /// At the first sample the written members run.
@@ -113,11 +112,6 @@ fn push_beginning(
             Sym::Dot(0),
             Sym::Literal(Literal::Uint32(count)),
             Sym::Assign,
-        ],
-    )?;
-    scope.add(
-        out,
-        &[
             Sym::Local(0),
             Sym::Dot(1),
             Sym::Literal(Literal::Uint32(0)),
@@ -125,8 +119,7 @@ fn push_beginning(
         ],
     )?;
     push_origins(scope, out, 0, members)?;
-    scope.add(out, &[Sym::Block(3)])?;
-    Ok(())
+    scope.add(out, &[Sym::Block(3)])
 }
 
 /// The member that is named goes on, on the other side, if there is one.
@@ -134,40 +127,38 @@ fn push_name(scope: Scope<'_>, out: &mut Vec<Sym>) -> Result<(), Unbuilt>
     ensures { IfOk result (λ _. (n : Bounds) (Ps : List TypeTree) (Os : List Shape) → Counts scope.entry Ps Os
         → Adds scope.entry out.old.items out.new.items (name_lines n Ps Os)) }
 {
-    let kept = behind(scope, 0);
-    let chosen = behind(scope, 1);
-    let index = behind(scope, 2);
-    let named = [
-        Sym::Local(chosen),
-        Sym::Dot(0),
-        Sym::Dot(1),
-        Sym::Local(index),
-        Sym::At,
-    ];
+    let kept = Sym::Local(behind(scope, 0));
+    let chosen = Sym::Local(behind(scope, 1));
+    let index = Sym::Local(behind(scope, 2));
+    let names = Sym::Dot(1);
     let cast = Sym::Cast(Scalar::Uint64);
+    let one = Sym::Literal(Literal::Uint32(1));
+    let plus = Sym::Binary(Operator::Plus, Scalar::Uint32);
     let less = Sym::Binary(Operator::Less, Scalar::Uint64);
-    scope.add(out, &named)?;
-    scope.add(out, &[cast, Sym::Local(0), Sym::Dot(0), cast, less])?;
     push_spare(scope, out)?;
-    scope.add(out, &[Sym::Local(kept), Sym::At])?;
+    scope.add(out, &[kept, Sym::At])?;
     push_running(scope, out)?;
-    scope.add(out, &named)?;
-    scope.add(
-        out,
-        &[Sym::At, Sym::Assign, Sym::Local(kept), Sym::Local(kept)],
-    )?;
     scope.add(
         out,
         &[
-            Sym::Literal(Literal::Uint32(1)),
-            Sym::Binary(Operator::Plus, Scalar::Uint32),
+            chosen,
+            Sym::Dot(0),
+            names,
+            index,
+            Sym::At,
+            Sym::At,
+            Sym::Assign,
+            kept,
+            kept,
+            one,
+            plus,
             Sym::Assign,
             Sym::Block(2),
             Sym::Skip,
-            Sym::Branch,
         ],
     )?;
-    Ok(())
+    scope.add(out, &[chosen, Sym::Dot(0), names, index, Sym::At, cast])?;
+    scope.add(out, &[Sym::Local(0), Sym::Dot(0), cast, less, Sym::Branch])
 }
 
 /// A value starts a member, behind those that go on; so many are written.
@@ -175,47 +166,35 @@ fn push_value(scope: Scope<'_>, out: &mut Vec<Sym>, count: u32) -> Result<(), Un
     ensures { IfOk result (λ _. (n : Bounds) (Ps : List TypeTree) (Os : List Shape) → Counts scope.entry Ps Os
         → Adds scope.entry out.old.items out.new.items (value_lines n Ps Os count)) }
 {
-    let chosen = behind(scope, 1);
-    let all = behind(scope, 2);
-    let index = behind(scope, 3);
+    let chosen = Sym::Local(behind(scope, 1));
+    let all = Sym::Local(behind(scope, 2));
+    let index = Sym::Local(behind(scope, 3));
+    let count = Sym::Literal(Literal::Uint32(count));
+    let one = Sym::Literal(Literal::Uint32(1));
+    let plus = Sym::Binary(Operator::Plus, Scalar::Uint32);
+    push_spare(scope, out)?;
+    scope.add(out, &[all, Sym::At, Sym::Dot(0), count, Sym::Assign])?;
     push_spare(scope, out)?;
     scope.add(
         out,
         &[
-            Sym::Local(all),
+            all,
             Sym::At,
-            Sym::Dot(0),
-            Sym::Literal(Literal::Uint32(count)),
-            Sym::Assign,
-        ],
-    )?;
-    push_spare(scope, out)?;
-    scope.add(
-        out,
-        &[Sym::Local(all), Sym::At, Sym::Dot(1), Sym::Local(chosen)],
-    )?;
-    scope.add(
-        out,
-        &[
+            Sym::Dot(1),
+            chosen,
             Sym::Dot(1),
             Sym::Dot(1),
-            Sym::Local(index),
+            index,
             Sym::At,
             Sym::Assign,
-        ],
-    )?;
-    scope.add(
-        out,
-        &[
-            Sym::Local(all),
-            Sym::Local(all),
-            Sym::Literal(Literal::Uint32(1)),
-            Sym::Binary(Operator::Plus, Scalar::Uint32),
+            all,
+            all,
+            one,
+            plus,
             Sym::Assign,
             Sym::Block(3),
         ],
-    )?;
-    Ok(())
+    )
 }
 
 /// What the event's value chooses runs from now on; so many members are written.
@@ -230,65 +209,52 @@ fn push_chosen(
         → n int_ty ≡ all.named → n V ≡ all.values
         → Adds scope.entry out.old.items out.new.items (choice_lines n Ps Os V all.chooser count)) }
 {
-    let kept = behind(scope, 0);
-    let chosen = behind(scope, 1);
-    let third = behind(scope, 2);
-    let fourth = behind(scope, 3);
+    let kept = Sym::Local(behind(scope, 0));
+    let chosen = Sym::Local(behind(scope, 1));
+    let third = Sym::Local(behind(scope, 2));
+    let fourth = Sym::Local(behind(scope, 3));
     let less = Sym::Binary(Operator::Less, Scalar::Uint32);
     let most = Sym::Literal(Literal::Uint32(MOST_MEMBERS));
     let zero = Sym::Literal(Literal::Uint32(0));
     let left = Sym::Dot(0);
     let right = Sym::Dot(1);
-    push_leaf_call(
-        scope,
-        out,
-        all.chosen,
-        all.chooser,
-        &[Sym::Local(2), Sym::Dot(1), Sym::Dot(1)],
-    )?;
-    scope.add(out, &[Sym::Local(kept), zero, Sym::Assign])?;
+    let named = [
+        third,
+        chosen,
+        left,
+        left,
+        less,
+        kept,
+        most,
+        less,
+        Sym::Both,
+        Sym::Loop(all.named),
+        Sym::Declare(COUNT),
+        third,
+        kept,
+        Sym::Assign,
+    ];
+    let values = [
+        fourth,
+        chosen,
+        right,
+        left,
+        less,
+        third,
+        most,
+        less,
+        Sym::Both,
+        Sym::Loop(all.values),
+    ];
+    let event = [Sym::Local(2), right, right];
+    push_leaf_call(scope, out, all.chosen, all.chooser, &event)?;
+    scope.add(out, &[kept, zero, Sym::Assign])?;
     push_name(scope, out)?;
-    scope.add(
-        out,
-        &[Sym::Local(third), Sym::Local(chosen), left, left, less],
-    )?;
-    scope.add(
-        out,
-        &[
-            Sym::Local(kept),
-            most,
-            less,
-            Sym::Both,
-            Sym::Loop(all.named),
-        ],
-    )?;
-    scope.add(
-        out,
-        &[
-            Sym::Declare(COUNT),
-            Sym::Local(third),
-            Sym::Local(kept),
-            Sym::Assign,
-        ],
-    )?;
+    scope.add(out, &named)?;
     push_value(scope, out, count)?;
-    scope.add(
-        out,
-        &[Sym::Local(fourth), Sym::Local(chosen), right, left, less],
-    )?;
-    scope.add(
-        out,
-        &[
-            Sym::Local(third),
-            most,
-            less,
-            Sym::Both,
-            Sym::Loop(all.values),
-        ],
-    )?;
+    scope.add(out, &values)?;
     push_turned(scope, out)?;
-    scope.add(out, &[Sym::Block(8)])?;
-    Ok(())
+    scope.add(out, &[Sym::Block(8)])
 }
 
 /// From now on those on the other side run.
@@ -301,11 +267,11 @@ fn push_turned(scope: Scope<'_>, out: &mut Vec<Sym>) -> Result<(), Unbuilt>
     let third = behind(scope, 2);
     scope.add(
         out,
-        &[Sym::Local(0), Sym::Dot(0), Sym::Local(third), Sym::Assign],
-    )?;
-    scope.add(
-        out,
         &[
+            Sym::Local(0),
+            Sym::Dot(0),
+            Sym::Local(third),
+            Sym::Assign,
             Sym::Local(0),
             Sym::Dot(1),
             Sym::Literal(Literal::Uint32(1)),
@@ -314,8 +280,7 @@ fn push_turned(scope: Scope<'_>, out: &mut Vec<Sym>) -> Result<(), Unbuilt>
             Sym::Binary(Operator::Minus, Scalar::Uint32),
             Sym::Assign,
         ],
-    )?;
-    Ok(())
+    )
 }
 
 /// Begins the call of a member's function: on part k of the member, at its moment, on the input.
@@ -327,11 +292,11 @@ fn push_turn(scope: Scope<'_>, out: &mut Vec<Sym>, k: usize) -> Result<(), Unbui
 {
     let third = behind(scope, 2);
     let fourth = behind(scope, 3);
-    scope.add(out, &[Sym::Open])?;
     push_running(scope, out)?;
     scope.add(
         out,
         &[
+            Sym::Open,
             Sym::Local(third),
             Sym::At,
             Sym::Dot(k),
@@ -342,8 +307,7 @@ fn push_turn(scope: Scope<'_>, out: &mut Vec<Sym>, k: usize) -> Result<(), Unbui
             Sym::Dot(0),
             Sym::Const,
         ],
-    )?;
-    Ok(())
+    )
 }
 
 /// Ends the call of a member's function: its answer is an element of the answers.
@@ -375,8 +339,7 @@ fn push_turn_end(
             Sym::Assign,
             Sym::Block(2),
         ],
-    )?;
-    Ok(())
+    )
 }
 
 /// Written member i, which function j steps.
@@ -394,8 +357,7 @@ fn push_written(
 {
     push_turn(scope, out, 3 + i as usize)?;
     scope.push_scope(out)?;
-    push_turn_end(scope, out, answer, j)?;
-    Ok(())
+    push_turn_end(scope, out, answer, j)
 }
 
 /// A member that a value started, which function k steps.
@@ -416,8 +378,7 @@ fn push_started(
     push_running(scope, out)?;
     scope.add(out, &[Sym::Local(third), Sym::At, Sym::Dot(1), Sym::Const])?;
     scope.push_olds(out)?;
-    push_turn_end(scope, out, answer, k)?;
-    Ok(())
+    push_turn_end(scope, out, answer, k)
 }
 
 /// The member's function runs: of a written one, from number i on, one of these; else function k.
@@ -440,6 +401,8 @@ fn push_cases(
         return Err(Unbuilt::Missing);
     };
     let third = behind(scope, 2);
+    push_written(scope, out, answer, i, *j)?;
+    push_cases(scope, out, answer, next, others, k)?;
     push_running(scope, out)?;
     scope.add(
         out,
@@ -449,12 +412,9 @@ fn push_cases(
             Sym::Dot(0),
             Sym::Literal(Literal::Uint32(i)),
             Sym::Binary(Operator::Equals, Scalar::Uint32),
+            Sym::Branch,
         ],
-    )?;
-    push_written(scope, out, answer, i, *j)?;
-    push_cases(scope, out, answer, next, others, k)?;
-    scope.add(out, &[Sym::Branch])?;
-    Ok(())
+    )
 }
 
 /// The turn of a member.
@@ -483,8 +443,7 @@ fn push_turn_lines(
         ],
     )?;
     push_cases(scope, out, all.answer, 0, members, all.taker)?;
-    scope.add(out, &[Sym::Block(2)])?;
-    Ok(())
+    scope.add(out, &[Sym::Block(2)])
 }
 
 /// What a collection does.
@@ -508,8 +467,6 @@ pub(crate) fn push_collection(
     let kept = behind(scope, 0);
     let second = behind(scope, 1);
     let third = behind(scope, 2);
-    let left = Sym::Dot(0);
-    let right = Sym::Dot(1);
     push_beginning(scope, out, count, members)?;
     scope.add(
         out,
@@ -519,11 +476,6 @@ pub(crate) fn push_collection(
             Sym::Literal(Literal::Int64(0)),
             Sym::Binary(Operator::Equals, Scalar::Int64),
             Sym::Branch,
-        ],
-    )?;
-    scope.add(
-        out,
-        &[
             Sym::Declare(COUNT),
             Sym::Local(kept),
             Sym::Local(0),
@@ -532,10 +484,14 @@ pub(crate) fn push_collection(
         ],
     )?;
     push_chosen(scope, out, all, count)?;
-    scope.add(out, &[Sym::Skip, Sym::Local(2), right, left, Sym::Branch])?;
     scope.add(
         out,
         &[
+            Sym::Skip,
+            Sym::Local(2),
+            Sym::Dot(1),
+            Sym::Dot(0),
+            Sym::Branch,
             Sym::Declare(all.answers),
             Sym::Local(second),
             Sym::Dot(0),
@@ -555,8 +511,7 @@ pub(crate) fn push_collection(
             Sym::Loop(MOST_MEMBERS),
             Sym::Local(second),
             Sym::Answer,
+            Sym::Block(8),
         ],
-    )?;
-    scope.add(out, &[Sym::Block(8)])?;
-    Ok(())
+    )
 }

@@ -1,6 +1,6 @@
 // What the functions of switches that freeze, and of frozen networks, do.
 
-ghost use Rattle.std.specs.Prelude.{◌≡◌, ◌++◌, ℕ, List, IfOk, length, true, false};
+ghost use Rattle.std.specs.Prelude.{◌≡◌, [], ◌∷◌, ◌++◌, List, IfOk, length, true, false};
 ghost use Rattle.sample_core.specs.TypeTree.{TypeTree, pair_ty, event_ty};
 ghost use Rattle.leaf_code.specs.Fitting.{Bounds};
 ghost use Rattle.c_meaning.specs.Syntax.{Term, assign, boolean, dot, local};
@@ -15,7 +15,7 @@ ghost use Rattle.c_build.specs.Frozen.{frozen_as};
 
 use crate::lines::{behind, push_part_call};
 use crate::scope::Scope;
-use crate::switches::push_untaken;
+use crate::switches::{push_untaken, push_value_scope};
 use crate::sym::Sym;
 use crate::table::INTEGER;
 use crate::unbuilt::Unbuilt;
@@ -82,17 +82,17 @@ fn push_frozen(scope: Scope<'_>, out: &mut Vec<Sym>, members: Option<usize>) -> 
     }
 }
 
-/// The call of what has taken over, with what is frozen: symbols make the step.
+/// The call of what has taken over, with what is frozen: a symbol makes the step.
 fn push_resumer_call(
     scope: Scope<'_>,
     out: &mut Vec<Sym>,
     answer: CType,
     k: usize,
     members: Option<usize>,
-    step: &[Sym],
+    step: Sym,
 ) -> Result<(), Unbuilt>
     ensures { IfOk result (λ _. (n : Bounds) (Ps : List TypeTree) (Os : List Shape) (B : TypeTree) (e : Term)
-        → Counts scope.entry Ps Os → IsType scope.entry n answer B → Makes scope.entry step.now e
+        → Counts scope.entry Ps Os → IsType scope.entry n answer B → Makes scope.entry (step ∷ []) e
         → Adds scope.entry out.old.items out.new.items (resumer_call n Ps Os (frozen_as members) B k e)) }
 {
     scope.add(
@@ -103,16 +103,15 @@ fn push_resumer_call(
             Sym::Dot(3),
             Sym::Dot(2),
             Sym::Pointer,
+            step,
+            Sym::Value,
+            Sym::Local(2),
+            Sym::Const,
         ],
     )?;
-    scope.add(out, step)?;
-    scope.add(out, &[Sym::Value, Sym::Local(2), Sym::Const])?;
-    scope.push_params(out)?;
-    scope.add(out, &[Sym::Local(0), Sym::Dot(1), Sym::Const])?;
-    scope.push_olds(out)?;
+    push_value_scope(scope, out)?;
     push_frozen(scope, out, members)?;
-    scope.add(out, &[Sym::Call(answer, k)])?;
-    Ok(())
+    scope.add(out, &[Sym::Call(answer, k)])
 }
 
 /// What has taken over runs, where something has.
@@ -124,28 +123,21 @@ fn push_gone(scope: Scope<'_>, out: &mut Vec<Sym>, switch: Freezing) -> Result<(
         (resumer_call n Ps Os (frozen_as switch.members) B switch.taker (local 1)) (register n Ps Os 0))
         (and_command (at_first (assign taken_of (boolean false))) (made scope.entry out.old.items))) }
 {
-    let first = behind(scope, 0);
+    let (answer, taker) = (switch.answer, switch.taker);
     push_untaken(scope, out)?;
-    scope.add(out, &[Sym::Local(0), Sym::Dot(0)])?;
-    push_resumer_call(
-        scope,
-        out,
-        switch.answer,
-        switch.taker,
-        switch.members,
-        &[Sym::Local(1)],
-    )?;
+    push_resumer_call(scope, out, answer, taker, switch.members, Sym::Local(1))?;
     scope.add(
         out,
         &[
-            Sym::Local(first),
+            Sym::Local(behind(scope, 0)),
             Sym::Answer,
             Sym::Block(2),
             Sym::Skip,
+            Sym::Local(0),
+            Sym::Dot(0),
             Sym::Branch,
         ],
-    )?;
-    Ok(())
+    )
 }
 
 /// What a switch that freezes does.
@@ -174,11 +166,6 @@ pub(crate) fn push_freezing(
             Sym::Dot(0),
             Sym::Local(1),
             Sym::Assign,
-        ],
-    )?;
-    scope.add(
-        out,
-        &[
             Sym::Local(0),
             Sym::Dot(3),
             Sym::Dot(1),
@@ -215,8 +202,7 @@ pub(crate) fn push_freezing(
     )?;
     push_over(scope, out, switch)?;
     let fourth = behind(scope, 3);
-    scope.add(out, &[Sym::Local(fourth), Sym::Answer, Sym::Block(12)])?;
-    Ok(())
+    scope.add(out, &[Sym::Local(fourth), Sym::Answer, Sym::Block(12)])
 }
 
 /// What takes over starts at the watcher's event.
@@ -232,6 +218,8 @@ fn push_over(scope: Scope<'_>, out: &mut Vec<Sym>, switch: Freezing) -> Result<(
 {
     let first = behind(scope, 0);
     let third = behind(scope, 2);
+    let zero = Sym::Literal(Literal::Int64(0));
+    let (answer, taker) = (switch.answer, switch.taker);
     scope.add(
         out,
         &[
@@ -241,20 +229,10 @@ fn push_over(scope: Scope<'_>, out: &mut Vec<Sym>, switch: Freezing) -> Result<(
             Sym::Local(first),
             Sym::Answer,
             Sym::Branch,
-        ],
-    )?;
-    scope.add(
-        out,
-        &[
             Sym::Local(0),
             Sym::Dot(0),
             Sym::Literal(Literal::Bool(true)),
             Sym::Assign,
-        ],
-    )?;
-    scope.add(
-        out,
-        &[
             Sym::Local(0),
             Sym::Dot(1),
             Sym::Local(third),
@@ -262,15 +240,7 @@ fn push_over(scope: Scope<'_>, out: &mut Vec<Sym>, switch: Freezing) -> Result<(
             Sym::Assign,
         ],
     )?;
-    push_resumer_call(
-        scope,
-        out,
-        switch.answer,
-        switch.taker,
-        switch.members,
-        &[Sym::Literal(Literal::Int64(0))],
-    )?;
-    Ok(())
+    push_resumer_call(scope, out, answer, taker, switch.members, zero)
 }
 
 /// A frozen network that goes on: its number, its function, and how many parameters and frozen networks that
@@ -307,53 +277,38 @@ pub(crate) fn push_old(
     let given = behind(scope, 1);
     let zero = Sym::Literal(Literal::Int64(0));
     let equals = Sym::Binary(Operator::Equals, Scalar::Int64);
-    scope.add(
-        out,
-        &[
-            Sym::Local(1),
-            zero,
-            equals,
-            Sym::Local(moment),
-            Sym::Local(1),
-            Sym::Choice,
-            Sym::Define(INTEGER),
-        ],
-    )?;
-    scope.add(
-        out,
-        &[
-            Sym::Local(1),
-            zero,
-            equals,
-            Sym::Local(0),
-            Sym::Local(network),
-            Sym::Assign,
-            Sym::Skip,
-            Sym::Branch,
-        ],
-    )?;
-    scope.add(
-        out,
-        &[
-            Sym::Open,
-            Sym::Local(0),
-            Sym::Pointer,
-            Sym::Local(dt),
-            Sym::Value,
-            Sym::Local(2),
-            Sym::Const,
-        ],
-    )?;
+    let begin = [
+        Sym::Local(1),
+        zero,
+        equals,
+        Sym::Local(moment),
+        Sym::Local(1),
+        Sym::Choice,
+        Sym::Define(INTEGER),
+        Sym::Local(1),
+        zero,
+        equals,
+        Sym::Local(0),
+        Sym::Local(network),
+        Sym::Assign,
+        Sym::Skip,
+        Sym::Branch,
+        Sym::Open,
+        Sym::Local(0),
+        Sym::Pointer,
+        Sym::Local(dt),
+        Sym::Value,
+        Sym::Local(2),
+        Sym::Const,
+    ];
+    let end = [
+        Sym::Call(answer, from.function),
+        Sym::Local(given),
+        Sym::Answer,
+        Sym::Block(4),
+    ];
+    scope.add(out, &begin)?;
     scope.push_locals(out, 3, from.params)?;
     scope.push_pairs(out, behind_params, from.olds)?;
-    scope.add(
-        out,
-        &[
-            Sym::Call(answer, from.function),
-            Sym::Local(given),
-            Sym::Answer,
-        ],
-    )?;
-    scope.add(out, &[Sym::Block(4)])?;
-    Ok(())
+    scope.add(out, &end)
 }

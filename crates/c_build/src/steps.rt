@@ -25,9 +25,9 @@ use crate::leaf_function::push_consts;
 use crate::machine::assemble;
 use crate::members::push_par;
 use crate::switch_steps::{
-    collection_step, d_switch_step, dr_switch_step, k_switch_step, old_step, p_switch_step,
-    r_switch_step, switch_step,
+    collection_step, k_switch_step, old_step, p_switch_step, r_switch_step, switch_step,
 };
+use crate::switches::Timing;
 use crate::sym::Sym;
 use crate::table::INTEGER;
 use crate::unbuilt::Unbuilt;
@@ -48,10 +48,10 @@ pub(crate) fn step_of(frame: Frame<'_>, first: usize, f: &Coded) -> Result<Funct
         Coded::Cell(form, _) => cell_step(frame, first, *form),
         Coded::Clock(form) => clock_step(frame, *form),
         Coded::Accum(..) => accum_step(frame, first),
-        Coded::Switch(f, t) => switch_step(frame, *f, *t),
-        Coded::DSwitch(f, t) => d_switch_step(frame, *f, *t),
-        Coded::RSwitch(f, t) => r_switch_step(frame, *f, *t),
-        Coded::DrSwitch(f, t) => dr_switch_step(frame, *f, *t),
+        Coded::Switch(f, t) => switch_step(frame, Timing::AtOnce, *f, *t),
+        Coded::DSwitch(f, t) => switch_step(frame, Timing::Delayed, *f, *t),
+        Coded::RSwitch(f, t) => r_switch_step(frame, Timing::AtOnce, *f, *t),
+        Coded::DrSwitch(f, t) => r_switch_step(frame, Timing::Delayed, *f, *t),
         Coded::KSwitch(f, e, t) => k_switch_step(frame, *f, *e, *t),
         Coded::PSwitch(_, fs, e, t) => p_switch_step(frame, first, fs.as_slice(), *e, *t),
         Coded::Old(i, f, a, b) => old_step(frame, *i, *f, *a, *b),

@@ -6,16 +6,17 @@ ghost use Rattle.leaf_code.specs.CodeOf.{carried_type, left_type, right_type};
 ghost use Rattle.code_fits.specs.Layouts.{kept_type};
 ghost use Rattle.c_forms.specs.Freezing.{p_switch_function};
 ghost use Rattle.c_forms.specs.Collection.{collection_function};
-ghost use Rattle.c_file.specs.FunctionC.{Callee, element_type, number_at, olds, shape_at};
+ghost use Rattle.c_file.specs.FunctionC.{Callee, element_type, number_at, olds, r_switch_c, shape_at, switch_c};
 ghost use Rattle.c_build.specs.Frames.{Stands, bounds_in, layout_in};
 ghost use Rattle.c_build.specs.Functions.{IsFreezing, IsGathered, IsSwitched, function_in, step_in};
+ghost use Rattle.c_build.specs.Timings.{timing_of};
 
 use crate::collection::{Gathering, push_collection};
 use crate::frame::Frame;
 use crate::freezing::{Freezing, Resumed, push_freezing, push_old};
 use crate::keeping::{kept_collection, kept_frozen, kept_mode, kept_parallel, kept_same};
 use crate::steps::stepping;
-use crate::switches::{Switched, push_d_switch, push_dr_switch, push_r_switch, push_switch};
+use crate::switches::{Switched, Timing, push_r_switch, push_switch};
 use crate::unbuilt::Unbuilt;
 use c_text::{CType, Function};
 
@@ -29,42 +30,39 @@ fn switched(frame: Frame<'_>) -> Result<Switched, Unbuilt>
     Ok(Switched { beside, answer })
 }
 
-/// The step of `switch`.
-pub(crate) fn switch_step(frame: Frame<'_>, f: usize, t: usize) -> Result<Function, Unbuilt>
-    ensures { IfOk result (λ r. (cs : List Callee) (k : ℕ) → Stands frame.entry cs
-        → function_in frame.entry r ≡ step_in frame.entry cs k (F.Switch f t)) }
+/// The step of `switch` and `dSwitch`.
+pub(crate) fn switch_step(
+    frame: Frame<'_>,
+    timing: Timing,
+    f: usize,
+    t: usize,
+) -> Result<Function, Unbuilt>
+    ensures { IfOk result (λ r. (cs : List Callee) → Stands frame.entry cs
+        → function_in frame.entry r
+        ≡ switch_c cs (layout_in frame.entry) (bounds_in frame.entry) (timing_of timing) f t) }
 {
     let kept = kept_mode(frame, f, t)?;
     let front = frame.callee(f)?;
     let taker = frame.callee(t)?;
     let input = frame.input()?;
     let types = switched(frame)?;
+    let (j, k) = (front.number, taker.number);
     let mut lines = Vec::new(frame.scope.alloc);
-    push_switch(frame.scope, &mut lines, types, front.number, taker.number)?;
+    push_switch(frame.scope, &mut lines, timing, types, j, k)?;
     let step = stepping(frame, kept, input, types.answer, lines)?;
     Ok(step)
 }
 
-/// The step of `dSwitch`.
-pub(crate) fn d_switch_step(frame: Frame<'_>, f: usize, t: usize) -> Result<Function, Unbuilt>
-    ensures { IfOk result (λ r. (cs : List Callee) (k : ℕ) → Stands frame.entry cs
-        → function_in frame.entry r ≡ step_in frame.entry cs k (F.DSwitch f t)) }
-{
-    let kept = kept_mode(frame, f, t)?;
-    let front = frame.callee(f)?;
-    let taker = frame.callee(t)?;
-    let input = frame.input()?;
-    let types = switched(frame)?;
-    let mut lines = Vec::new(frame.scope.alloc);
-    push_d_switch(frame.scope, &mut lines, types, front.number, taker.number)?;
-    let step = stepping(frame, kept, input, types.answer, lines)?;
-    Ok(step)
-}
-
-/// The step of `rSwitch`.
-pub(crate) fn r_switch_step(frame: Frame<'_>, f: usize, t: usize) -> Result<Function, Unbuilt>
-    ensures { IfOk result (λ r. (cs : List Callee) (k : ℕ) → Stands frame.entry cs
-        → function_in frame.entry r ≡ step_in frame.entry cs k (F.RSwitch f t)) }
+/// The step of `rSwitch` and `drSwitch`.
+pub(crate) fn r_switch_step(
+    frame: Frame<'_>,
+    timing: Timing,
+    f: usize,
+    t: usize,
+) -> Result<Function, Unbuilt>
+    ensures { IfOk result (λ r. (cs : List Callee) → Stands frame.entry cs
+        → function_in frame.entry r
+        ≡ r_switch_c cs (layout_in frame.entry) (bounds_in frame.entry) (timing_of timing) f t) }
 {
     let kept = kept_mode(frame, f, t)?;
     let front = frame.callee(f)?;
@@ -72,25 +70,9 @@ pub(crate) fn r_switch_step(frame: Frame<'_>, f: usize, t: usize) -> Result<Func
     let types = frame.restarted()?;
     let event = frame.kept_event()?;
     let input = frame.pair(types.left, event)?;
+    let (j, k) = (front.number, taker.number);
     let mut lines = Vec::new(frame.scope.alloc);
-    push_r_switch(frame.scope, &mut lines, types, front.number, taker.number)?;
-    let step = stepping(frame, kept, input, types.answer, lines)?;
-    Ok(step)
-}
-
-/// The step of `drSwitch`.
-pub(crate) fn dr_switch_step(frame: Frame<'_>, f: usize, t: usize) -> Result<Function, Unbuilt>
-    ensures { IfOk result (λ r. (cs : List Callee) (k : ℕ) → Stands frame.entry cs
-        → function_in frame.entry r ≡ step_in frame.entry cs k (F.DrSwitch f t)) }
-{
-    let kept = kept_mode(frame, f, t)?;
-    let front = frame.callee(f)?;
-    let taker = frame.callee(t)?;
-    let types = frame.restarted()?;
-    let event = frame.kept_event()?;
-    let input = frame.pair(types.left, event)?;
-    let mut lines = Vec::new(frame.scope.alloc);
-    push_dr_switch(frame.scope, &mut lines, types, front.number, taker.number)?;
+    push_r_switch(frame.scope, &mut lines, timing, types, j, k)?;
     let step = stepping(frame, kept, input, types.answer, lines)?;
     Ok(step)
 }

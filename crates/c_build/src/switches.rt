@@ -1,17 +1,18 @@
 // What the functions of switches do.
 
-ghost use Rattle.std.specs.Prelude.{◌≡◌, ℕ, List, IfOk, true, false};
+ghost use Rattle.std.specs.Prelude.{◌≡◌, [], ◌∷◌, List, IfOk, true, false};
 ghost use Rattle.sample_core.specs.TypeTree.{TypeTree, pair_ty, event_ty};
 ghost use Rattle.leaf_code.specs.Fitting.{Bounds};
-ghost use Rattle.net_tree.specs.Network.{Timing, at_once, delayed};
-ghost use Rattle.c_meaning.specs.Syntax.{Term, Command, local, dot, boolean, assign};
+ghost use Rattle.net_tree.specs.Network.{at_once, delayed};
+ghost use Rattle.c_meaning.specs.Syntax.{Term, local, dot, boolean, assign};
 ghost use Rattle.c_leaf.specs.LeafC.{part_command, is_struct as struct_of};
 ghost use Rattle.c_forms.specs.Keeping.{Shape};
-ghost use Rattle.c_forms.specs.Cells.{at_first};
-ghost use Rattle.c_forms.specs.Switches.{taken_of, by_of, leave_if, leave_unless, register, event_beside_of, value_beside, taker_call, heard_term, switch_function, restart_lines, late_lines, r_switch_function};
+ghost use Rattle.c_forms.specs.Cells.{at_first, number_term};
+ghost use Rattle.c_forms.specs.Switches.{taken_of, by_of, leave_if, value_args, value_beside, taker_call, heard_term, switch_function, late_lines, r_switch_lines, r_switch_function};
 ghost use Rattle.c_build.specs.Scopes.{Counts, IsType, made};
-ghost use Rattle.c_build.specs.Symbols.{and_command};
-ghost use Rattle.c_build.specs.Making.{Makes, MakesLine, Adds};
+ghost use Rattle.c_build.specs.Symbols.{and_arguments, and_command, and_term};
+ghost use Rattle.c_build.specs.Making.{Makes, Adds};
+ghost use Rattle.c_build.specs.Timings.{timing_of};
 
 use crate::lines::{behind, push_part_call};
 use crate::scope::Scope;
@@ -34,30 +35,53 @@ pub(crate) struct Restarted {
     pub(crate) answer: CType,
 }
 
-/// `const T r = t(&s->taker, e, &x, .., &s->by, ..);`: symbols make the step e, and x.
-pub(crate) fn push_taker_call(
+/// When what takes over is heard.
+#[derive(Clone, Copy)]
+pub(crate) enum Timing {
+    /// At the event's sample: `switch`, `rSwitch`.
+    AtOnce,
+    /// A sample later: `dSwitch`, `drSwitch`.
+    Delayed,
+}
+
+/// Passes what is in scope, with the value by which something has taken over.
+pub(crate) fn push_value_scope(scope: Scope<'_>, out: &mut Vec<Sym>) -> Result<(), Unbuilt>
+    ensures { IfOk result (λ _. (n : Bounds) (Ps : List TypeTree) (Os : List Shape) → Counts scope.entry Ps Os
+        → made scope.entry out.new.items ≡ and_arguments (value_args n Ps Os) (made scope.entry out.old.items)) }
+{
+    scope.push_params(out)?;
+    scope.add(out, &[Sym::Local(0), Sym::Dot(1), Sym::Const])?;
+    scope.push_olds(out)
+}
+
+/// `const T r = t(&s->taker, e, &x, .., &s->by, ..);`: a symbol makes the step e, and x is a local.
+fn push_taker_call(
     scope: Scope<'_>,
     out: &mut Vec<Sym>,
     answer: CType,
     k: usize,
-    step: &[Sym],
-    x: &[Sym],
+    step: Sym,
+    x: usize,
 ) -> Result<(), Unbuilt>
-    ensures { IfOk result (λ _. (n : Bounds) (Ps : List TypeTree) (Os : List Shape) (B : TypeTree) (d e : Term)
-        → Counts scope.entry Ps Os → IsType scope.entry n answer B
-        → Makes scope.entry step.now d → Makes scope.entry x.now e
-        → Adds scope.entry out.old.items out.new.items (taker_call n Ps Os B k d e)) }
+    ensures { IfOk result (λ _. (n : Bounds) (Ps : List TypeTree) (Os : List Shape) (B : TypeTree) (e : Term)
+        → Counts scope.entry Ps Os → IsType scope.entry n answer B → Makes scope.entry (step ∷ []) e
+        → Adds scope.entry out.old.items out.new.items (taker_call n Ps Os B k e (local x))) }
 {
-    scope.add(out, &[Sym::Open, Sym::Local(0), Sym::Dot(3), Sym::Pointer])?;
-    scope.add(out, step)?;
-    scope.add(out, &[Sym::Value])?;
-    scope.add(out, x)?;
-    scope.add(out, &[Sym::Const])?;
-    scope.push_params(out)?;
-    scope.add(out, &[Sym::Local(0), Sym::Dot(1), Sym::Const])?;
-    scope.push_olds(out)?;
-    scope.add(out, &[Sym::Call(answer, k)])?;
-    Ok(())
+    scope.add(
+        out,
+        &[
+            Sym::Open,
+            Sym::Local(0),
+            Sym::Dot(3),
+            Sym::Pointer,
+            step,
+            Sym::Value,
+            Sym::Local(x),
+            Sym::Const,
+        ],
+    )?;
+    push_value_scope(scope, out)?;
+    scope.add(out, &[Sym::Call(answer, k)])
 }
 
 /// `if (dt == 0) { s->taken = false; }`.
@@ -78,27 +102,25 @@ pub(crate) fn push_untaken(scope: Scope<'_>, out: &mut Vec<Sym>) -> Result<(), U
             Sym::Skip,
             Sym::Branch,
         ],
-    )?;
-    Ok(())
+    )
 }
 
-/// `if (s->taken) { const T r = t(..); return r; }`: symbols make what function k is called on, and r is local
+/// `if (s->taken) { const T r = t(..); return r; }`: function k is called on local x, and r is local
 /// `answered`.
-pub(crate) fn push_taken(
+fn push_taken(
     scope: Scope<'_>,
     out: &mut Vec<Sym>,
     answer: CType,
     k: usize,
-    x: &[Sym],
+    x: usize,
     answered: usize,
 ) -> Result<(), Unbuilt>
-    ensures { IfOk result (λ _. (n : Bounds) (Ps : List TypeTree) (Os : List Shape) (B : TypeTree) (e : Term)
-        → Counts scope.entry Ps Os → IsType scope.entry n answer B → Makes scope.entry x.now e
+    ensures { IfOk result (λ _. (n : Bounds) (Ps : List TypeTree) (Os : List Shape) (B : TypeTree)
+        → Counts scope.entry Ps Os → IsType scope.entry n answer B
         → Adds scope.entry out.old.items out.new.items
-        (leave_if taken_of (taker_call n Ps Os B k (local 1) e) (local answered))) }
+        (leave_if taken_of (taker_call n Ps Os B k (local 1) (local x)) (local answered))) }
 {
-    scope.add(out, &[Sym::Local(0), Sym::Dot(0)])?;
-    push_taker_call(scope, out, answer, k, &[Sym::Local(1)], x)?;
+    push_taker_call(scope, out, answer, k, Sym::Local(1), x)?;
     scope.add(
         out,
         &[
@@ -106,137 +128,28 @@ pub(crate) fn push_taken(
             Sym::Answer,
             Sym::Block(2),
             Sym::Skip,
-            Sym::Branch,
-        ],
-    )?;
-    Ok(())
-}
-
-/// What a switch does: function j runs, until by its event function k takes over; symbols make what is
-/// heard then.
-fn push_switch_hearing(
-    scope: Scope<'_>,
-    out: &mut Vec<Sym>,
-    types: Switched,
-    j: usize,
-    k: usize,
-    heard: &[Sym],
-) -> Result<(), Unbuilt>
-    ensures { IfOk result (λ _. (n : Bounds) (Ps : List TypeTree) (Os : List Shape) (tm : Timing) (S T : Shape)
-        (A B V : TypeTree) → Counts scope.entry Ps Os
-        → IsType scope.entry n types.beside (pair_ty B (event_ty V)) → IsType scope.entry n types.answer B
-        → Makes scope.entry heard.now (heard_term n Ps Os tm)
-        → Adds scope.entry out.old.items out.new.items (switch_function n Ps Os tm S T A B V j k).body) }
-{
-    push_untaken(scope, out)?;
-    push_taken(
-        scope,
-        out,
-        types.answer,
-        k,
-        &[Sym::Local(2)],
-        behind(scope, 0),
-    )?;
-    let front = [Sym::Local(0), Sym::Dot(2)];
-    push_part_call(scope, out, types.beside, j, &front, &[Sym::Local(2)])?;
-    push_take(scope, out)?;
-    push_taker_call(
-        scope,
-        out,
-        types.answer,
-        k,
-        &[Sym::Literal(Literal::Int64(0))],
-        &[Sym::Local(2)],
-    )?;
-    scope.add(out, heard)?;
-    scope.add(out, &[Sym::Answer, Sym::Block(8)])?;
-    Ok(())
-}
-
-/// Without an event beside register 0 it is the answer; else the event's value takes over.
-fn push_take(scope: Scope<'_>, out: &mut Vec<Sym>) -> Result<(), Unbuilt>
-    ensures { IfOk result (λ _. (n : Bounds) (Ps : List TypeTree) (Os : List Shape) → Counts scope.entry Ps Os
-        → made scope.entry out.new.items
-        ≡ and_command (assign by_of (value_beside n Ps Os (register n Ps Os 0)))
-        (and_command (assign taken_of (boolean true))
-        (and_command
-        (leave_unless (event_beside_of n Ps Os (register n Ps Os 0)) (dot (register n Ps Os 0) 0))
-        (made scope.entry out.old.items)))) }
-{
-    scope.add(
-        out,
-        &[
-            Sym::Local(behind(scope, 0)),
-            Sym::Dot(1),
-            Sym::Dot(0),
-            Sym::Skip,
-            Sym::Local(behind(scope, 0)),
-            Sym::Dot(0),
-            Sym::Answer,
-            Sym::Branch,
             Sym::Local(0),
             Sym::Dot(0),
-            Sym::Literal(Literal::Bool(true)),
-            Sym::Assign,
-            Sym::Local(0),
-            Sym::Dot(1),
-            Sym::Local(behind(scope, 0)),
-            Sym::Dot(1),
-            Sym::Dot(1),
-            Sym::Assign,
+            Sym::Branch,
         ],
-    )?;
-    Ok(())
+    )
 }
 
-/// What `switch` does: function j runs, until by its event function k takes over.
-pub(crate) fn push_switch(
-    scope: Scope<'_>,
-    out: &mut Vec<Sym>,
-    types: Switched,
-    j: usize,
-    k: usize,
-) -> Result<(), Unbuilt>
-    ensures { IfOk result (λ _. (n : Bounds) (Ps : List TypeTree) (Os : List Shape) (S T : Shape)
-        (A B V : TypeTree) → Counts scope.entry Ps Os
-        → IsType scope.entry n types.beside (pair_ty B (event_ty V)) → IsType scope.entry n types.answer B
-        → Adds scope.entry out.old.items out.new.items (switch_function n Ps Os at_once S T A B V j k).body) }
-{
-    let heard = [Sym::Local(behind(scope, 1))];
-    push_switch_hearing(scope, out, types, j, k, &heard)?;
-    Ok(())
-}
-
-/// What `dSwitch` does: the same, heard a sample later.
-pub(crate) fn push_d_switch(
-    scope: Scope<'_>,
-    out: &mut Vec<Sym>,
-    types: Switched,
-    j: usize,
-    k: usize,
-) -> Result<(), Unbuilt>
-    ensures { IfOk result (λ _. (n : Bounds) (Ps : List TypeTree) (Os : List Shape) (S T : Shape)
-        (A B V : TypeTree) → Counts scope.entry Ps Os
-        → IsType scope.entry n types.beside (pair_ty B (event_ty V)) → IsType scope.entry n types.answer B
-        → Adds scope.entry out.old.items out.new.items (switch_function n Ps Os delayed S T A B V j k).body) }
-{
-    let heard = [Sym::Local(behind(scope, 0)), Sym::Dot(0)];
-    push_switch_hearing(scope, out, types, j, k, &heard)?;
-    Ok(())
-}
-
-/// The event's value beside the input takes over, and function k starts on register 0; symbols make what is
-/// done then.
-fn push_restart(
+/// The value of the event beside a local takes over, and function k starts on local x.
+fn push_start(
     scope: Scope<'_>,
     out: &mut Vec<Sym>,
     answer: CType,
     k: usize,
-    after: &[Sym],
+    beside: usize,
+    x: usize,
 ) -> Result<(), Unbuilt>
-    ensures { IfOk result (λ _. (n : Bounds) (Ps : List TypeTree) (Os : List Shape) (B : TypeTree) (c : Command)
-        → Counts scope.entry Ps Os → IsType scope.entry n answer B → MakesLine scope.entry after.now c
-        → Adds scope.entry out.old.items out.new.items (restart_lines n Ps Os B k c)) }
+    ensures { IfOk result (λ _. (n : Bounds) (Ps : List TypeTree) (Os : List Shape) (B : TypeTree)
+        → Counts scope.entry Ps Os → IsType scope.entry n answer B
+        → made scope.entry out.new.items
+        ≡ and_command (taker_call n Ps Os B k (number_term 0) (local x))
+        (and_command (assign by_of (value_beside n Ps Os (local beside)))
+        (and_command (assign taken_of (boolean true)) (made scope.entry out.old.items)))) }
 {
     scope.add(
         out,
@@ -247,18 +160,61 @@ fn push_restart(
             Sym::Assign,
             Sym::Local(0),
             Sym::Dot(1),
-            Sym::Local(2),
+            Sym::Local(beside),
             Sym::Dot(1),
             Sym::Dot(1),
             Sym::Assign,
         ],
     )?;
-    let input = [Sym::Local(behind(scope, 0))];
-    let step = [Sym::Literal(Literal::Int64(0))];
-    push_taker_call(scope, out, answer, k, &step, &input)?;
-    scope.add(out, after)?;
-    scope.add(out, &[Sym::Block(4)])?;
-    Ok(())
+    push_taker_call(scope, out, answer, k, Sym::Literal(Literal::Int64(0)), x)
+}
+
+/// What is heard of a switch at the event's sample.
+fn push_heard(scope: Scope<'_>, out: &mut Vec<Sym>, timing: Timing) -> Result<(), Unbuilt>
+    ensures { IfOk result (λ _. (n : Bounds) (Ps : List TypeTree) (Os : List Shape) → Counts scope.entry Ps Os
+        → made scope.entry out.new.items
+        ≡ and_term (heard_term n Ps Os (timing_of timing)) (made scope.entry out.old.items)) }
+{
+    match timing {
+        Timing::AtOnce => scope.add(out, &[Sym::Local(behind(scope, 1))]),
+        Timing::Delayed => scope.add(out, &[Sym::Local(behind(scope, 0)), Sym::Dot(0)]),
+    }
+}
+
+/// What `switch` and `dSwitch` do: function j runs, until by its event function k takes over.
+pub(crate) fn push_switch(
+    scope: Scope<'_>,
+    out: &mut Vec<Sym>,
+    timing: Timing,
+    types: Switched,
+    j: usize,
+    k: usize,
+) -> Result<(), Unbuilt>
+    ensures { IfOk result (λ _. (n : Bounds) (Ps : List TypeTree) (Os : List Shape) (S T : Shape)
+        (A B V : TypeTree) → Counts scope.entry Ps Os
+        → IsType scope.entry n types.beside (pair_ty B (event_ty V)) → IsType scope.entry n types.answer B
+        → Adds scope.entry out.old.items out.new.items
+        (switch_function n Ps Os (timing_of timing) S T A B V j k).body) }
+{
+    let first = behind(scope, 0);
+    let front = [Sym::Local(0), Sym::Dot(2)];
+    let leave = [
+        Sym::Local(first),
+        Sym::Dot(1),
+        Sym::Dot(0),
+        Sym::Skip,
+        Sym::Local(first),
+        Sym::Dot(0),
+        Sym::Answer,
+        Sym::Branch,
+    ];
+    push_untaken(scope, out)?;
+    push_taken(scope, out, types.answer, k, 2, first)?;
+    push_part_call(scope, out, types.beside, j, &front, &[Sym::Local(2)])?;
+    scope.add(out, &leave)?;
+    push_start(scope, out, types.answer, k, first, 2)?;
+    push_heard(scope, out, timing)?;
+    scope.add(out, &[Sym::Answer, Sym::Block(8)])
 }
 
 /// At an event function k starts anew, but register 1 is the answer.
@@ -267,19 +223,22 @@ fn push_late(scope: Scope<'_>, out: &mut Vec<Sym>, answer: CType, k: usize) -> R
         → Counts scope.entry Ps Os → IsType scope.entry n answer B
         → Adds scope.entry out.old.items out.new.items (late_lines n Ps Os B k)) }
 {
-    scope.add(out, &[Sym::Local(2), Sym::Dot(1), Sym::Dot(0)])?;
-    push_restart(scope, out, answer, k, &[Sym::Skip])?;
+    push_start(scope, out, answer, k, 2, behind(scope, 0))?;
     scope.add(
         out,
         &[
             Sym::Skip,
+            Sym::Block(4),
+            Sym::Skip,
+            Sym::Local(2),
+            Sym::Dot(1),
+            Sym::Dot(0),
             Sym::Branch,
             Sym::Local(behind(scope, 1)),
             Sym::Answer,
             Sym::Block(2),
         ],
-    )?;
-    Ok(())
+    )
 }
 
 /// The input's left part, as register 0.
@@ -293,17 +252,98 @@ fn push_left(
         → Adds scope.entry out.old.items out.new.items (part_command n A (dot (local 2) 0))) }
 {
     if is_struct {
-        scope.add(out, &[Sym::Local(2), Sym::Dot(0), Sym::Refer(left)])?;
-        return Ok(());
+        scope.add(out, &[Sym::Local(2), Sym::Dot(0), Sym::Refer(left)])
+    } else {
+        scope.add(out, &[Sym::Local(2), Sym::Dot(0), Sym::Define(left)])
     }
-    scope.add(out, &[Sym::Local(2), Sym::Dot(0), Sym::Define(left)])?;
-    Ok(())
 }
 
-/// What `rSwitch` does: function j runs on the left part, or function k by the value that has taken over.
+/// What `rSwitch` does with its input's left part, register 0: at an event function k starts anew, and is heard.
+fn push_anew(
+    scope: Scope<'_>,
+    out: &mut Vec<Sym>,
+    answer: CType,
+    j: usize,
+    k: usize,
+) -> Result<(), Unbuilt>
+    ensures { IfOk result (λ _. (n : Bounds) (Ps : List TypeTree) (Os : List Shape) (B : TypeTree)
+        → Counts scope.entry Ps Os → IsType scope.entry n answer B
+        → Adds scope.entry out.old.items out.new.items (r_switch_lines n Ps Os at_once B j k)) }
+{
+    let input = behind(scope, 0);
+    let answered = behind(scope, 1);
+    let front = [Sym::Local(0), Sym::Dot(2)];
+    let end = [
+        Sym::Local(answered),
+        Sym::Answer,
+        Sym::Block(4),
+        Sym::Skip,
+        Sym::Local(2),
+        Sym::Dot(1),
+        Sym::Dot(0),
+        Sym::Branch,
+    ];
+    push_start(scope, out, answer, k, 2, input)?;
+    scope.add(out, &end)?;
+    push_taken(scope, out, answer, k, input, answered)?;
+    push_part_call(scope, out, answer, j, &front, &[Sym::Local(input)])?;
+    scope.add(out, &[Sym::Local(answered), Sym::Answer, Sym::Block(4)])
+}
+
+/// What `drSwitch` does with it: the same, but what ran before is heard at the event's sample.
+fn push_anew_later(
+    scope: Scope<'_>,
+    out: &mut Vec<Sym>,
+    answer: CType,
+    j: usize,
+    k: usize,
+) -> Result<(), Unbuilt>
+    ensures { IfOk result (λ _. (n : Bounds) (Ps : List TypeTree) (Os : List Shape) (B : TypeTree)
+        → Counts scope.entry Ps Os → IsType scope.entry n answer B
+        → Adds scope.entry out.old.items out.new.items (r_switch_lines n Ps Os delayed B j k)) }
+{
+    let input = behind(scope, 0);
+    let front = [Sym::Local(0), Sym::Dot(2)];
+    let end = [
+        Sym::Block(2),
+        Sym::Skip,
+        Sym::Local(0),
+        Sym::Dot(0),
+        Sym::Branch,
+    ];
+    push_taker_call(scope, out, answer, k, Sym::Local(1), input)?;
+    push_late(scope, out, answer, k)?;
+    scope.add(out, &end)?;
+    push_part_call(scope, out, answer, j, &front, &[Sym::Local(input)])?;
+    push_late(scope, out, answer, k)?;
+    scope.add(out, &[Sym::Block(3)])
+}
+
+/// One of both, by the timing.
+fn push_anew_at(
+    scope: Scope<'_>,
+    out: &mut Vec<Sym>,
+    timing: Timing,
+    answer: CType,
+    j: usize,
+    k: usize,
+) -> Result<(), Unbuilt>
+    ensures { IfOk result (λ _. (n : Bounds) (Ps : List TypeTree) (Os : List Shape) (B : TypeTree)
+        → Counts scope.entry Ps Os → IsType scope.entry n answer B
+        → Adds scope.entry out.old.items out.new.items (r_switch_lines n Ps Os (timing_of timing) B j k)) }
+{
+    match timing {
+        Timing::AtOnce => push_anew(scope, out, answer, j, k),
+        Timing::Delayed => push_anew_later(scope, out, answer, j, k),
+    }
+}
+
+/// What `rSwitch` and `drSwitch` do: function j runs on the left part, or function k by the value that has
+/// taken over.
 pub(crate) fn push_r_switch(
     scope: Scope<'_>,
     out: &mut Vec<Sym>,
+    timing: Timing,
     types: Restarted,
     j: usize,
     k: usize,
@@ -311,46 +351,11 @@ pub(crate) fn push_r_switch(
     ensures { IfOk result (λ _. (n : Bounds) (Ps : List TypeTree) (Os : List Shape) (S T : Shape)
         (A B V : TypeTree) → Counts scope.entry Ps Os → IsType scope.entry n types.left A
         → types.is_struct ≡ struct_of A → IsType scope.entry n types.answer B
-        → Adds scope.entry out.old.items out.new.items (r_switch_function n Ps Os at_once S T A B V j k).body) }
+        → Adds scope.entry out.old.items out.new.items
+        (r_switch_function n Ps Os (timing_of timing) S T A B V j k).body) }
 {
-    let input = [Sym::Local(behind(scope, 0))];
-    let answered = behind(scope, 1);
     push_untaken(scope, out)?;
     push_left(scope, out, types.left, types.is_struct)?;
-    scope.add(out, &[Sym::Local(2), Sym::Dot(1), Sym::Dot(0)])?;
-    let after = [Sym::Local(answered), Sym::Answer];
-    push_restart(scope, out, types.answer, k, &after)?;
-    scope.add(out, &[Sym::Skip, Sym::Branch])?;
-    push_taken(scope, out, types.answer, k, &input, answered)?;
-    let front = [Sym::Local(0), Sym::Dot(2)];
-    push_part_call(scope, out, types.answer, j, &front, &input)?;
-    scope.add(out, &[Sym::Local(answered), Sym::Answer, Sym::Block(6)])?;
-    Ok(())
-}
-
-/// What `drSwitch` does: the same, where what ran before is heard at the event's sample.
-pub(crate) fn push_dr_switch(
-    scope: Scope<'_>,
-    out: &mut Vec<Sym>,
-    types: Restarted,
-    j: usize,
-    k: usize,
-) -> Result<(), Unbuilt>
-    ensures { IfOk result (λ _. (n : Bounds) (Ps : List TypeTree) (Os : List Shape) (S T : Shape)
-        (A B V : TypeTree) → Counts scope.entry Ps Os → IsType scope.entry n types.left A
-        → types.is_struct ≡ struct_of A → IsType scope.entry n types.answer B
-        → Adds scope.entry out.old.items out.new.items (r_switch_function n Ps Os delayed S T A B V j k).body) }
-{
-    let input = [Sym::Local(behind(scope, 0))];
-    push_untaken(scope, out)?;
-    push_left(scope, out, types.left, types.is_struct)?;
-    scope.add(out, &[Sym::Local(0), Sym::Dot(0)])?;
-    push_taker_call(scope, out, types.answer, k, &[Sym::Local(1)], &input)?;
-    push_late(scope, out, types.answer, k)?;
-    scope.add(out, &[Sym::Block(2), Sym::Skip, Sym::Branch])?;
-    let front = [Sym::Local(0), Sym::Dot(2)];
-    push_part_call(scope, out, types.answer, j, &front, &input)?;
-    push_late(scope, out, types.answer, k)?;
-    scope.add(out, &[Sym::Block(5)])?;
-    Ok(())
+    push_anew_at(scope, out, timing, types.answer, j, k)?;
+    scope.add(out, &[Sym::Block(3)])
 }

@@ -1,9 +1,8 @@
+use Rattle.std.proofs.Common.{◌∙◌}
+use Rattle.std.proofs.lemmas.Result.{IfOk-weaker}
 use Rattle.c_build.proofs.collection.push_beginning.Goals as goal
 
 pub returns : goal.returns
-returns c = λ count.
-    let e1 = c.in_ok-add.ensures in
-    let e2 = c.in_ok-add-2.ensures in
-    let e3 = c.in_ok-push_origins.ensures in
-    let e4 = c.in_ok-add-3.ensures in
-    rw (e4, e3, e2, e1, count)
+returns c =
+    IfOk-weaker c.add-2.result _ _ (λ _ e3. λ count.
+    e3 ∙ rw (c.in_ok-push_origins.ensures, c.in_ok-add.ensures, count)) c.add-2.ensures

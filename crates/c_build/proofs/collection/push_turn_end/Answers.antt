@@ -1,5 +1,8 @@
+use Rattle.std.proofs.Common.{◌∙◌}
+use Rattle.std.proofs.lemmas.Result.{IfOk-weaker}
 use Rattle.c_build.proofs.collection.push_turn_end.Goals as goal
 
 pub returns : goal.returns
-returns c = λ n Ps Os counts.
-    rw (c.in_ok-add.ensures, c.behind-second.ensures, c.behind-third.ensures, c.behind-fifth.ensures, counts.params, counts.olds)
+returns c =
+    IfOk-weaker c.add.result _ _ (λ _ e. λ n Ps Os counts.
+    e ∙ rw (c.behind-second.ensures, c.behind-third.ensures, c.behind-fifth.ensures, counts.params, counts.olds)) c.add.ensures

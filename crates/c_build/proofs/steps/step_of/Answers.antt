@@ -31,19 +31,19 @@ returns-in-Accum c =
 
 pub returns-in-Switch : goal.returns-in-Switch
 returns-in-Switch c =
-    IfOk-weaker c.switch_step.result _ _ (λ r p. λ cs h. rw c.in-Switch.is (p cs c.args.first h)) c.switch_step.ensures
+    IfOk-weaker c.switch_step.result _ _ (λ r p. λ cs h. rw c.in-Switch.is (p cs h)) c.switch_step.ensures
 
 pub returns-in-DSwitch : goal.returns-in-DSwitch
 returns-in-DSwitch c =
-    IfOk-weaker c.d_switch_step.result _ _ (λ r p. λ cs h. rw c.in-DSwitch.is (p cs c.args.first h)) c.d_switch_step.ensures
+    IfOk-weaker c.switch_step-in-DSwitch.result _ _ (λ r p. λ cs h. rw c.in-DSwitch.is (p cs h)) c.switch_step-in-DSwitch.ensures
 
 pub returns-in-RSwitch : goal.returns-in-RSwitch
 returns-in-RSwitch c =
-    IfOk-weaker c.r_switch_step.result _ _ (λ r p. λ cs h. rw c.in-RSwitch.is (p cs c.args.first h)) c.r_switch_step.ensures
+    IfOk-weaker c.r_switch_step.result _ _ (λ r p. λ cs h. rw c.in-RSwitch.is (p cs h)) c.r_switch_step.ensures
 
 pub returns-in-DrSwitch : goal.returns-in-DrSwitch
 returns-in-DrSwitch c =
-    IfOk-weaker c.dr_switch_step.result _ _ (λ r p. λ cs h. rw c.in-DrSwitch.is (p cs c.args.first h)) c.dr_switch_step.ensures
+    IfOk-weaker c.r_switch_step-in-DrSwitch.result _ _ (λ r p. λ cs h. rw c.in-DrSwitch.is (p cs h)) c.r_switch_step-in-DrSwitch.ensures
 
 pub returns-in-KSwitch : goal.returns-in-KSwitch
 returns-in-KSwitch c =

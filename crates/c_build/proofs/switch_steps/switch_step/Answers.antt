@@ -5,7 +5,7 @@ use Rattle.c_build.specs.Frames.{bounds_in, layout_in}
 use Rattle.c_build.proofs.switch_steps.switch_step.Goals as goal
 
 pub returns : goal.returns
-returns c = λ cs k h.
+returns c = λ cs h.
     let L = layout_in c.args.frame in
     let n = bounds_in c.args.frame in
     let Os = olds cs L in

@@ -1,10 +1,9 @@
-use Rattle.std.proofs.Common.{refl}
-use Rattle.c_meaning.specs.Syntax.{skip}
+use Rattle.std.proofs.lemmas.Result.{IfOk-weaker}
 use Rattle.c_build.proofs.switches.push_late.Goals as goal
 
 pub returns : goal.returns
-returns c = λ n Ps Os B counts is_answer.
-    let e1 = c.in_ok-add.ensures in
-    let e2 = c.in_ok-push_restart.ensures n Ps Os B skip counts is_answer (λ t. refl) in
-    let e3 = c.in_ok-add-2.ensures in
-    rw (e3, e2, e1, c.behind.ensures, counts.params, counts.olds)
+returns c =
+    IfOk-weaker c.add.result _ _ (λ _ e2. λ n Ps Os B counts is_answer.
+    let e1 = c.in_ok-push_start.ensures n Ps Os B counts is_answer in
+    let h2 = rw e1 at e2 in
+    rw (h2, c.behind.ensures, c.behind-2.ensures, counts.params, counts.olds)) c.add.ensures

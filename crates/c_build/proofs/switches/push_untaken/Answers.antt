@@ -1,4 +1,4 @@
 use Rattle.c_build.proofs.switches.push_untaken.Goals as goal
 
 pub returns : goal.returns
-returns c = c.in_ok-add.ensures
+returns c = c.add.ensures
