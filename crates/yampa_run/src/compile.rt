@@ -108,7 +108,7 @@ fn c_text(
     printing: Printing<'_>,
     form: Form<'_>,
 ) -> Result<String, Refusal>
-    requires { TellsMost (printing_view printing.entry).most form.entry.most }
+    requires { TellsMost (printing_view printing).most form.most }
     ensures text { IfOk result (λ text. PrintsNamed net.now (printing_view printing.entry)
         form.entry.name.now form.entry.most (string_bytes text)) }
     ensures refused { IfErr result (HasNoC net.now (printing_view printing.entry)) }
