@@ -266,7 +266,11 @@ fn settled(budget: &Budget, aim: Aim, e: Term) -> Way {
         return opened(e);
     }
     let is_certain = e.op == Op::On && e.kids[0].op == Op::Event;
+    let same = Some(e).filter(|e| e.op == Op::On).and_then(|e| back_to_then(budget, e.kids[2], template("(fst x)"), e.kids[1]));
     Way::made(e, |walk| {
+        if let Some(back) = same {
+            walk.inside(2, |_| back);
+        }
         sums::clear(aim, walk);
         if is_certain && walk.now.op == Op::Then {
             walk.then(|now| pushed(budget, aim, now));

@@ -526,6 +526,7 @@ mod tests {
         is_found(&format!("(loopPre (pair 0 0) (arr (pair (add (fst x) (fst (snd x))) (pair (fst x) {}))))", longest), sum);
         is_found("(loopPre 5 (arr (pair (add (fst x) (snd x)) 5)))", "(arr (add x 5))");
         is_found("(>>> integral (>>> (arr (pair x x)) (>>> (first (delay 9 0)) (arr (snd x)))))", "integral");
+        is_found("(arr (on (if (less x 3) (event x) (none Int)) (add x 1) (add (fst x) 1)))", "(arr (add x 1))");
     }
 
     #[test]

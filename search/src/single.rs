@@ -78,7 +78,10 @@ fn accumulator(d: &mut Draft, path: &[u32]) -> Option<()> {
     let (g, start) = (d.at(path)?.kids[0], d.at(path)?.kids[1]);
     let carried = match told_type(start) {
         Some(carried) => carried,
-        None => return boxed(d, path),
+        None => {
+            (0..2).try_for_each(|k| d.clear(&joined(path, &[k])))?;
+            return boxed(d, path);
+        }
     };
     d.backward(laws::LOOP_ACCUM, path, of("(loopPre z (arr ACCUM(g)))", &[('g', g), ('z', start), ('T', carried)]))?;
     single(d, path)
