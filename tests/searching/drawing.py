@@ -3,14 +3,14 @@
 Of each example so many walks by the laws of versions 1 and 2, and so many by all laws, by a seed that is its name and the walk's number:
 from its network 30 steps forward, or fewer where no more are possible, drawn evenly from all those that `laws` prints of the network that
 the ones before lead to: one, or of many one in five, none of them below another. Equal walks are kept once, so an example with few steps
-has few walks.
+has few walks. Of so many steps as are asked for, walks by all laws are drawn that aren't kept.
 """
 import random
 import tempfile
 from pathlib import Path
 
 from searching.calls import Caller
-from searching.walks import EXAMPLES, WALKED, certificate_of, is_older
+from searching.walks import EXAMPLES, WALKED, certificate_of, ends_found, is_older
 
 WALKS = 10
 STEPS = 30
@@ -40,16 +40,24 @@ def beneath(one, other):
     return all(first == second for first, second in zip(one, other))
 
 
-def walk_of(caller, source, draws, by_all):
-    """A walk from a network."""
-    steps, net = [], source
-    while len(steps) < STEPS and (choices := possible(caller, net, by_all)):
-        steps += (taken := drawn(choices, draws, STEPS - len(steps)))
+def walk_of(caller, source, draws, by_all, most=STEPS):
+    """A walk from a network, and the text of where it ends."""
+    steps, net, output = [], source, ""
+    while len(steps) < most and (choices := possible(caller, net, by_all)):
+        steps += (taken := drawn(choices, draws, most - len(steps)))
         status, output, error = caller.call("apply", net, caller.file(certificate_of(taken)))
         if status:
             raise ValueError(f"apply {taken}: status {status}, {error!r}")
         net = caller.file(output)
-    return steps
+    return steps, output
+
+
+def drawn_found(caller, name, count, walks):
+    """What is wrong with what `certify` prints from an example to the ends of walks of so many steps, what it finds, and how much of it."""
+    source = str(EXAMPLES / name / "net")
+    taken = [walk_of(caller, source, random.Random(f"{name} {count} {number}"), True, count) for number in range(walks)]
+    ends = {"; ".join(steps): (f"walk {number}", f"walks of {count} steps", end, count) for number, (steps, end) in enumerate(taken) if len(steps) == count}
+    return ends_found(caller, source, list(ends.values()))
 
 
 def walks_of(job):
@@ -59,14 +67,18 @@ def walks_of(job):
     with tempfile.TemporaryDirectory(prefix="walks-") as folder:
         caller = Caller(program, folder)
         for number in range(2 * WALKS):
-            steps = walk_of(caller, str(EXAMPLES / name / "net"), random.Random(f"{name} {number}"), by_all=number >= WALKS)
+            steps, _ = walk_of(caller, str(EXAMPLES / name / "net"), random.Random(f"{name} {number}"), by_all=number >= WALKS)
             lines += [f"{name}: {'; '.join(steps)}"] if steps else []
     return list(dict.fromkeys(lines))
 
 
+def drawn_from():
+    """The names of the examples that walks are drawn from."""
+    return sorted(net.parent.name for net in Path(EXAMPLES).glob("*/net"))
+
+
 def draw(pool, program):
     """Writes the walks of all examples anew."""
-    names = sorted(net.parent.name for net in Path(EXAMPLES).glob("*/net"))
-    found = pool.map(walks_of, [(program, name) for name in names], chunksize=1)
+    found = pool.map(walks_of, [(program, name) for name in drawn_from()], chunksize=1)
     WALKED.write_text("\n".join([HEAD, *(line for lines in found for line in lines), ""]))
     return sum(map(len, found))

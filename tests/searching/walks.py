@@ -41,7 +41,7 @@ def certificate_of(steps):
 
 
 def kind_of(steps):
-    """Walks by the laws of versions 1 and 2, or by all laws."""
+    """Walks by the laws of versions 1 and 2, or by all laws that there were when they were drawn: those of version 3."""
     return "walks" if all(map(is_older, steps)) else "walks by all laws"
 
 
@@ -56,15 +56,20 @@ def ends_of(caller, source, taken):
 def example_found(caller, name, taken):
     """What is wrong with what `certify` prints of an example, what it finds, and how much of it: of rewritings, and of walks of both kinds."""
     source = str(EXAMPLES / name / "net")
-    faults, said, counts = [], [], {kind: [0, 0, 0] for kind in ("rewritings", "walks", "walks by all laws")}
     ends = list(ends_of(caller, source, taken))
-    if name in LARGEST and ends[0][2] == ends[1][2]:
-        faults.append("improve does no more than optimise")
+    same = name in LARGEST and ends[0][2] == ends[1][2]
+    faults, said, counts = ends_found(caller, source, ends)
+    return ["improve does no more than optimise"] * same + faults, said, counts
+
+
+def ends_found(caller, source, ends):
+    """What is wrong with what `certify` prints from a network to others, what it finds, and how much of it, by the kind of these."""
+    faults, said, counts = [], [], {kind: [0, 0, 0] for _, kind, _, _ in ends}
     for what, kind, target, known in ends:
         found, fault = caller.certified(source, caller.file(target)) if target else (None, "nothing is printed")
         faults += [f"{what}: {fault}"] if fault else []
         said += [f"{what} {told_of(found)} of {known}"] if kind == "rewritings" else []
         for place, more in enumerate((True, isinstance(found, int), found_within(found, known))):
             counts[kind][place] += more
-    told = [f"{kind} {found} of {walked}, {few} short" for kind, (walked, found, few) in counts.items() if walked and kind != "rewritings"]
+    told = [f"{kind} {found} of {walked}, {few} short" for kind, (walked, found, few) in counts.items() if kind != "rewritings"]
     return faults, ", ".join(said + told), counts
